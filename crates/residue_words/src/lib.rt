@@ -1,0 +1,9 @@
+//! Arithmetic modulo a number below 2^48, and decimal digits folded modulo it.
+//!
+//! The modulus is prime where the user says so: nothing here tests it. No call takes memory.
+#![tactic(auto)]
+
+mod modulus;
+pub mod plain;
+
+pub use modulus::Modulus;

@@ -1,0 +1,6 @@
+pub mod Echelon
+pub mod Example
+pub mod Factors
+pub mod Kernel
+pub mod Laws
+pub mod Solution
