@@ -1,5 +1,5 @@
 -- Primes, and finite sums of whole numbers.
-use Rattle.std.specs.Prelude.{◌≡◌, ◌≢◌, ◌<◌, ◌≤◌, ◌+◌, ◌%◌, ℕ, zero, suc}
+use Rattle.std.specs.Prelude.{◌≡◌, ◌≢◌, ◌<◌, ◌≤◌, ◌+◌, ◌*◌, ◌%◌, ◌==◌, if◌then◌else◌, ℕ, zero, suc}
 
 -- p is prime: it is 2 or more, and no d with 2 ≤ d < p divides it (textbook)
 pub record IsPrime (p : ℕ) : Type 0 where
@@ -10,3 +10,12 @@ pub record IsPrime (p : ℕ) : Type 0 where
 unfoldable pub sum_below : ℕ → (ℕ → ℕ) → ℕ
 sum_below zero f = 0
 sum_below (suc n) f = sum_below n f + f n
+
+-- the residue x with a x = 1 modulo p, looked for below n; 0 where there is none
+unfoldable pub inverse_below : ℕ → ℕ → ℕ → ℕ
+inverse_below p a zero = 0
+inverse_below p a (suc n) = if (a * n) % p == 1 then n else inverse_below p a n
+
+-- the inverse of a modulo p; 0 where there is none
+abbrev pub inverse : ℕ → ℕ → ℕ
+inverse p a = inverse_below p a p

@@ -1,0 +1,119 @@
+-- Texts: which lines are due, what a line says, and which line of an input is the first with a fault (this project's profile of the SMS format).
+use Rattle.std.specs.Prelude.{◌≡◌, ◌≢◌, ◌<◌, ◌+◌, ◌-◌, ◌%◌, ◌==◌, ◌||◌, ◌&&◌, nat_lt, Bool, true, false, not, if◌then◌else◌, ℕ, List, [], ◌∷◌, ◌++◌, Option, None, Some, Result, Ok, Err, map}
+use Rattle.std.specs.List.{range_with_len}
+use Rattle.residue_words.specs.Matrix.{Matrix, list_of}
+use Rattle.sms_text.specs.declared.kind.Kind.{Kind}
+use Rattle.sms_text.specs.declared.kind.Kind.TheVariants as kind
+use Rattle.sms_text.specs.Lines.{Line, lines, size, content, words, is_void}
+use Rattle.sms_text.specs.Numbers.{is_number, is_letter, value, is_value, is_zero, divides_by_zero, value_modulo}
+
+-- which line is due: a header, or an entry or the closing line of a text of this height and width
+pub data Due : Type 0 where
+  Header : Due
+  Body : ℕ → ℕ → Due
+
+-- what a line says: the sizes m and n; the value v at row i and column j, from 0; the end of a text
+pub data Item : Type 0 where
+  Sizes : ℕ → ℕ → Item
+  Value : ℕ → ℕ → ℕ → Item
+  Closing : Item
+
+-- what a line says, and which lines it makes due
+pub record Judged : Type 0 where
+  pub item : Item
+  pub due : List Due
+
+-- three words are of a header: two numbers and a letter; of an entry: two numbers and a value
+abbrev pub is_one_letter : List ℕ → Bool
+is_one_letter [] = false
+is_one_letter (b ∷ []) = is_letter b
+is_one_letter (b ∷ c ∷ bs) = false
+
+abbrev pub largest_size : ℕ
+largest_size = 2147483647
+
+-- the kinds of fault in their order: Words, Number, Size
+abbrev pub header_of : List (List ℕ) → Result Judged Kind
+header_of (m ∷ n ∷ letter ∷ []) =
+    if not (is_one_letter letter) then Err kind.Words else
+    if not (is_number m && is_number n) then Err kind.Number else
+    if nat_lt largest_size (value m) || nat_lt largest_size (value n) then Err kind.Size else
+    Ok (record { item = Sizes (value m) (value n); due = Body (value m) (value n) ∷ [] })
+header_of _ = Err kind.Words
+
+abbrev pub is_outside : ℕ → ℕ → Bool
+is_outside size i = i == 0 || nat_lt size i
+
+-- Words, Number, Row, Column, Divisor
+abbrev pub body_of : ℕ → ℕ → ℕ → List (List ℕ) → Result Judged Kind
+body_of p m n (i ∷ j ∷ v ∷ []) =
+    if not (is_number i && is_number j && is_value v) then Err kind.Number else
+    if value i == 0 && value j == 0 && is_zero v then Ok (record { item = Closing; due = [] }) else
+    if is_outside m (value i) then Err kind.Row else
+    if is_outside n (value j) then Err kind.Column else
+    if divides_by_zero p v then Err kind.Divisor else
+    Ok (record { item = Value (value i - 1) (value j - 1) (value_modulo p v); due = Body m n ∷ [] })
+body_of p m n _ = Err kind.Words
+
+abbrev pub judge : ℕ → Due → List (List ℕ) → Result Judged Kind
+judge p Header ws = header_of ws
+judge p (Body m n) ws = body_of p m n ws
+
+-- the fault of an input that ends where this line is due
+abbrev pub end_kind : Due → Kind
+end_kind Header = kind.NoHeader
+end_kind (Body m n) = kind.NoEnd
+
+-- what an input turns out to be: these items and the lines behind them; a fault of this kind at this line; or too short to tell
+pub data Reading : Type 0 where
+  Got : List Item → List Line → Reading
+  Fault : ℕ → Kind → Reading
+  Short : Reading
+
+abbrev pub with_item : Item → Reading → Reading
+with_item item (Got items rest) = Got (item ∷ items) rest
+with_item item (Fault number k) = Fault number k
+with_item item Short = Short
+
+-- The lines that are due, read from these lines. `room` is how many bytes lines may still take, `number` the number of the next line,
+-- and `ended` says that no more will come. A line is judged once it is complete: its byte 10 or the end has come, or one byte more than there is room for.
+abbrev pub read : ℕ → Bool → ℕ → ℕ → List Due → List Line → Reading
+read p ended room number [] ls = Got [] ls
+read p ended room number (due ∷ dues) [] = if ended then Fault number (end_kind due) else Short
+read p ended room number (due ∷ dues) (l ∷ ls) =
+    if nat_lt room (size l) then Fault number kind.Long else
+    if not (l.closed || ended) then Short else
+    if is_void (words (content l.bytes)) then read p ended (room - size l) (number + 1) (due ∷ dues) ls else
+    elim (judge p due (words (content l.bytes))) [
+      | Ok j ↦ with_item j.item (read p ended (room - size l) (number + 1) (j.due ++ dues) ls)
+      | Err k ↦ Fault number k
+    ]
+
+-- the bytes begin with the wanted parts, which say these items; the lines behind them are the rest
+abbrev pub Reads : List ℕ → Bool → ℕ → List Due → ℕ → List Item → List Line → Type 0
+Reads bytes ended limit wanted p items rest = read p ended limit 1 wanted (lines bytes) ≡ Got items rest
+
+-- the first fault of the bytes stands at this line and is of this kind
+abbrev pub FirstFault : List ℕ → Bool → ℕ → List Due → ℕ → ℕ → Kind → Type 0
+FirstFault bytes ended limit wanted p line k = read p ended limit 1 wanted (lines bytes) ≡ Fault line k
+
+-- the sum of the values given for row i and column j, up to the end of the text
+abbrev pub value_at : ℕ → ℕ → List Item → ℕ
+value_at i j [] = 0
+value_at i j (Sizes m n ∷ items) = value_at i j items
+value_at i j (Value a b v ∷ items) = (if a == i && b == j then v else 0) + value_at i j items
+value_at i j (Closing ∷ items) = 0
+
+abbrev pub matrix_of : ℕ → ℕ → ℕ → List Item → Matrix
+matrix_of p m n items = record {
+  height = m;
+  width = n;
+  rows = map (λ i. list_of n (λ j. value_at i j items % p)) (range_with_len 0 m);
+}
+
+-- the matrices of the texts that these items are
+abbrev pub matrices : ℕ → List Item → List Matrix
+matrices p [] = []
+matrices p (Sizes m n ∷ items) = matrix_of p m n items ∷ matrices p items
+matrices p (Value i j v ∷ items) = matrices p items
+matrices p (Closing ∷ items) = matrices p items
