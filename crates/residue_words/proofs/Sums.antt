@@ -1,9 +1,10 @@
 -- Finite sums of whole numbers, and the same modulo p.
-use Rattle.std.proofs.Common.{ℕ, zero, suc, ◌≡◌, ◌≢◌, ◌+◌, ◌*◌, ◌%◌, ◌<◌, ◌≤◌, ◌⊎◌, inl, inr, sym, refl, ap, ◌∙◌, arith, add-one}
+use Rattle.std.proofs.Common.{ℕ, zero, suc, ◌≡◌, ◌≢◌, ◌+◌, ◌*◌, ◌%◌, ◌<◌, ◌≤◌, ◌⊎◌, inl, inr, sym, refl, ap, ap₂, ◌∙◌, arith, add-one}
 use native.Mathlib.Nat.{zero-mod}
 use Rattle.std.proofs.lemmas.Bool.{cases_lt, cases_eq}
 use Rattle.residue_words.specs.Residues.{sum_below}
-use Rattle.residue_words.proofs.Residues.{add_same}
+use Rattle.residue_words.proofs.Residues.{add_same, mul_same}
+use Rattle.std.proofs.lemmas.Nat.{mul-mod_first, mul-mod_second}
 
 -- the empty sum
 pub sum_none : (f : ℕ → ℕ) → sum_below 0 f ≡ 0
@@ -130,3 +131,30 @@ pub sum_bound : (n b : ℕ) (f : ℕ → ℕ) → ((i : ℕ) → i < n → f i �
 unfolding sum_below
 sum_bound zero b f h = omega arith
 sum_bound (suc n) b f h = omega (arith, sum_bound n b f (λ i l. h i (omega arith)), h n (omega arith))
+
+-- the coefficients of a sum may be replaced by their residues
+pub sum_reduce : (p n : ℕ) (f g : ℕ → ℕ) → sum_below n (λ k. f k % p * g k) % p ≡ sum_below n (λ k. f k * g k) % p
+sum_reduce p n f g = sum_same p n (λ k. f k % p * g k) (λ k. f k * g k) (λ k l. mul-mod_first (f k) (g k) p)
+
+-- the other factors too
+pub sum_reduce_right : (p n : ℕ) (f g : ℕ → ℕ) → sum_below n (λ k. f k * (g k % p)) % p ≡ sum_below n (λ k. f k * g k) % p
+sum_reduce_right p n f g = sum_same p n (λ k. f k * (g k % p)) (λ k. f k * g k) (λ k l. mul-mod_second (f k) (g k) p)
+
+-- a combination of values that are themselves combinations of `e 0`, .., `e (r - 1)`
+pub sum_through : (p m r : ℕ) (y a : ℕ → ℕ) (q : ℕ → ℕ → ℕ) (e : ℕ → ℕ) → ((i : ℕ) → i < m → a i % p ≡ sum_below r (λ k. q i k * e k) % p) →
+    sum_below m (λ i. y i * a i) % p ≡ sum_below r (λ k. sum_below m (λ i. y i * q i k) * e k) % p
+sum_through p m r y a q e h =
+    sum_same p m (λ i. y i * a i) (λ i. y i * sum_below r (λ k. q i k * e k)) (λ i l. mul_same p (y i) (y i) (a i) (sum_below r (λ k. q i k * e k)) refl (h i l))
+    ∙ ap (λ x. x % p) (sum_pair m r y q e)
+
+-- a sum is linear in its coefficients
+pub sum_linear : (p n c d : ℕ) (f g a : ℕ → ℕ) →
+    sum_below n (λ i. (c * f i + d * g i) % p * a i) % p ≡ (c * (sum_below n (λ i. f i * a i) % p) + d * (sum_below n (λ i. g i * a i) % p)) % p
+sum_linear p n c d f g a =
+    let parts : sum_below n (λ i. (c * f i + d * g i) * a i) ≡ c * sum_below n (λ i. f i * a i) + d * sum_below n (λ i. g i * a i) =
+    sum_equal n (λ i. (c * f i + d * g i) * a i) (λ i. c * (f i * a i) + d * (g i * a i)) (λ i l. omega arith)
+    ∙ sum_add n (λ i. c * (f i * a i)) (λ i. d * (g i * a i))
+    ∙ ap₂ (λ x y. x + y) (sum_scale n c (λ i. f i * a i)) (sum_scale n d (λ i. g i * a i)) in
+    sum_reduce p n (λ i. c * f i + d * g i) a ∙ ap (λ x. x % p) parts
+    ∙ sym (add_same p (c * (sum_below n (λ i. f i * a i) % p)) (c * sum_below n (λ i. f i * a i)) (d * (sum_below n (λ i. g i * a i) % p)) (d * sum_below n (λ i. g i * a i))
+    (mul-mod_second c (sum_below n (λ i. f i * a i)) p) (mul-mod_second d (sum_below n (λ i. g i * a i)) p))
