@@ -1,3 +1,4 @@
 pub mod Ends
+pub mod Solvable
 pub mod Spans
 pub mod Unique
