@@ -1,4 +1,5 @@
 pub mod Ends
+pub mod Exists
 pub mod Solvable
 pub mod Spans
 pub mod Unique
