@@ -6,7 +6,7 @@ use Rattle.residue_words.specs.Residues.{IsPrime, sum_below}
 use Rattle.residue_words.specs.Matrix.{Matrix, IsMatrix, IsVector, IsCombination, row, entry, list_of, combine}
 use Rattle.residue_words.proofs.Residues.{add_same, mul_same, left_zero, right_zero, minus_one, product_zero_right}
 use Rattle.residue_words.proofs.Sums.{sum_none, sum_more, sum_equal, sum_same, sum_zero, sum_add, sum_scale, sum_pair, sum_reduce, sum_through}
-use Rattle.residue_words.proofs.Vectors.{at_combine, at_list_of, vector_of, list_equal, length_list_of, matrix_of, is_matrix_of, entry_matrix_of}
+use Rattle.residue_words.proofs.Vectors.{at_list_of, combination_of, length_list_of, matrix_of, is_matrix_of, entry_matrix_of}
 use Rattle.row_space.specs.Echelon.{HasPlaces, IsRref}
 use Rattle.row_space.specs.Laws.{RrefExists}
 use Rattle.row_space.proofs.Solvable.{Solves, Refutes, solvable_or_refuted, extended, extended_below, extended_last}
@@ -266,20 +266,6 @@ reduced p m (suc n) a prime =
         is = taller_reduced p m n a h.r h.e h.place h.to h.from prime h.is q next y.0 y.1;
       }
     ]
-
--- a vector that is a sum of rows of B is in its row space
-pub combination_of : (p : ℕ) (B : Matrix) (v : List ℕ) (c : ℕ → ℕ) → 0 < p → IsVector p B.width v →
-    ((j : ℕ) → j < B.width → slice_index v j % p ≡ sum_below B.height (λ k. c k * entry B k j) % p) → IsCombination p B v
-combination_of p B v c pos vector same =
-    let y : List ℕ = list_of B.height (λ k. c k % p) in (
-      y,
-      vector_of p B.height (λ k. c k % p) (λ k l. mod-lt (c k) pos),
-      list_equal B.width v (combine p y B) vector.len (length_list_of B.width _) (λ j l.
-          sym (mod-eq_of_lt (vector.residues j l)) ∙ same j l
-          ∙ sym (sum_reduce p B.height c (λ k. entry B k j))
-          ∙ ap (λ x. x % p) (sum_equal B.height (λ k. c k % p * entry B k j) (λ k. slice_index y k * entry B k j) (λ k b. ap (λ x. x * entry B k j) (sym (at_list_of B.height (λ k. c k % p) k b))))
-          ∙ sym (at_combine p y B j l)),
-    )
 
 pub rref_of_each : RrefExists
 rref_of_each p A prime m =
