@@ -2,5 +2,7 @@ pub mod Counting
 pub mod Ends
 pub mod Exists
 pub mod Solvable
+pub mod ReadOff
+pub mod Refuting
 pub mod Spans
 pub mod Unique
