@@ -1,5 +1,6 @@
 pub mod Counting
 pub mod Ends
+pub mod Example
 pub mod Exists
 pub mod Solvable
 pub mod ReadOff
