@@ -1,9 +1,9 @@
 -- Lists of n residues are the numbers below p ^ n, so independent rows are no more than those that span them.
-use Rattle.std.proofs.Common.{ℕ, zero, suc, ◌≡◌, ◌≢◌, ◌+◌, ◌*◌, ◌-◌, ◌/◌, ◌%◌, ◌^◌, ◌<◌, ◌≤◌, ◌⊎◌, inl, inr, cond, eqb, List, [], ◌∷◌, length, slice_index, sym, refl, ap, ap₂, ◌∙◌, arith, mod-lt, eq-eqb, ne_eqb, pow-suc, mul-le-mul_left, suc-le-suc, le_antisymm}
+use Rattle.std.proofs.Common.{ℕ, zero, suc, ◌≡◌, ◌≢◌, ◌+◌, ◌*◌, ◌-◌, ◌/◌, ◌%◌, ◌^◌, ◌<◌, ◌≤◌, inl, inr, cond, eqb, List, [], ◌∷◌, slice_index, sym, refl, ap, ap₂, ◌∙◌, arith, mod-lt, eq-eqb, ne_eqb, pow-suc, mul-le-mul_left, suc-le-suc, le_antisymm}
 use native.Mathlib.Nat.{one-le-pow, pow-le-pow_right, div-add-mod', pow-zero}
 use Rattle.std.proofs.lemmas.Bool.{cases_eq, cases_lt, cond-true, cond-false}
 use Rattle.std.proofs.lemmas.Nat.{same_from_place, mul-add-lt, div_below}
-use Rattle.residue_words.specs.Matrix.{Matrix, IsVector, IsMatrix, IsCombination, combine, zeros}
+use Rattle.residue_words.specs.Matrix.{Matrix, IsVector, IsCombination, combine, zeros}
 use Rattle.residue_words.proofs.Vectors.{mix, at_mix, at_zeros, mix_vector, combine_linear, vector_equal}
 use Rattle.row_space.specs.Echelon.{IsIndependent}
 use Rattle.row_space.specs.Laws.{SpanFixesHeight}

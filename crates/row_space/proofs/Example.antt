@@ -1,9 +1,9 @@
 -- The example of 3 x 3 modulo 7 worked.
-use Rattle.std.proofs.Common.{ℕ, zero, suc, ◌≡◌, ◌≢◌, ◌+◌, ◌*◌, ◌%◌, ◌<◌, ◌≤◌, List, [], ◌∷◌, length, slice_index, sym, refl, ap, ◌∙◌, arith, lit<}
+use Rattle.std.proofs.Common.{ℕ, zero, suc, ◌≡◌, ◌≢◌, ◌+◌, ◌*◌, ◌%◌, ◌<◌, List, [], ◌∷◌, slice_index, refl, ap, arith, lit<}
 use Rattle.residue_words.specs.Residues.{sum_below}
-use Rattle.residue_words.specs.Matrix.{Matrix, IsMatrix, IsVector, IsCombination, row, entry, combine, apply, zeros}
+use Rattle.residue_words.specs.Matrix.{IsMatrix, IsVector, IsCombination, row, entry, combine}
 use Rattle.residue_words.proofs.Vectors.{list_equal}
-use Rattle.row_space.specs.Echelon.{HasLeads, HasPlaces, HasRank, IsRref}
+use Rattle.row_space.specs.Echelon.{HasLeads, IsRref}
 use Rattle.row_space.specs.Kernel.{EndsAt, HasEnds, IsKernel, IsNull}
 use Rattle.row_space.specs.Solution.{Annuls, IsReducedSolution, IsRefutingCombination}
 use Rattle.row_space.specs.Example.{IsWorked, example, example_kernel, example_rref}

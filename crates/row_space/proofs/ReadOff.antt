@@ -1,15 +1,15 @@
 -- The solution of A x = b is read off the echelon form of [A | b].
-use Rattle.std.proofs.Common.{ℕ, zero, suc, ◌≡◌, ◌≢◌, ◌+◌, ◌*◌, ◌%◌, ◌<◌, ◌≤◌, ◌⊎◌, inl, inr, List, [], ◌∷◌, ◌++◌, length, slice_index, sym, refl, ap, ap₂, subst, ◌∙◌, arith, mod-eq_of_lt, mul-zero, zero-mul, one-mul}
-use native.Mathlib.Nat.{mod-mod, zero-mod}
+use Rattle.std.proofs.Common.{ℕ, ◌≡◌, ◌+◌, ◌*◌, ◌%◌, ◌<◌, ◌≤◌, ◌⊎◌, inl, inr, List, [], ◌∷◌, ◌++◌, length, slice_index, sym, refl, ap, ap₂, subst, ◌∙◌, arith, mod-eq_of_lt, mul-zero, zero-mul, one-mul}
+use native.Mathlib.Nat.{mod-mod}
 use Rattle.std.proofs.lemmas.Bool.{cases_eq, cases_lt}
 use Rattle.std.proofs.lemmas.List.{get_or_append_left, get_or_push, length_push}
 use Rattle.std.proofs.lemmas.List.FromFn.{get_or-map-range_with_len, length-map-range_with_len}
 use Rattle.residue_words.specs.Residues.{sum_below}
-use Rattle.residue_words.specs.Matrix.{Matrix, IsMatrix, IsVector, IsCombination, row, entry, list_of, apply, combine, dot, zeros}
+use Rattle.residue_words.specs.Matrix.{Matrix, IsMatrix, IsVector, IsCombination, row, entry, apply, dot}
 use Rattle.residue_words.proofs.Residues.{mul_same, product_zero_right}
 use Rattle.residue_words.proofs.Sums.{sum_equal, sum_same, sum_single, sum_pair, sum_zero_same}
 use Rattle.residue_words.proofs.Vectors.{at_apply, at_combine, at_zeros, list_equal, list_of_equal, length_list_of, row_combination}
-use Rattle.row_space.specs.Echelon.{HasLeads, HasPlaces, IsRref}
+use Rattle.row_space.specs.Echelon.{HasLeads, IsRref}
 use Rattle.row_space.specs.Kernel.{EndsAt, IsNull}
 use Rattle.row_space.specs.Solution.{Annuls, IsSolution, beside}
 use Rattle.row_space.specs.Laws.{LastLeadRefutes, RrefSolves}

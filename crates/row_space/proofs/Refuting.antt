@@ -1,10 +1,10 @@
 -- The refuting system is the system for a combination y with y A = 0 and y . b = 1.
-use Rattle.std.proofs.Common.{ℕ, zero, suc, ◌≡◌, ◌+◌, ◌*◌, ◌%◌, ◌<◌, ◌≤◌, ◌↔◌, List, [], ◌∷◌, ◌++◌, length, map, slice_index, sym, refl, ap, ap₂, ◌∙◌, arith, mul_comm}
+use Rattle.std.proofs.Common.{ℕ, ◌≡◌, ◌+◌, ◌*◌, ◌%◌, ◌<◌, ◌↔◌, List, [], ◌∷◌, ◌++◌, map, slice_index, sym, ap, ap₂, ◌∙◌, arith, mul_comm}
 use Rattle.std.specs.List.{range_with_len}
 use Rattle.std.proofs.lemmas.List.{get_or_append_left, get_or_push, same_from_push}
 use Rattle.std.proofs.lemmas.List.FromFn.{fill_by_all, get_or-map-range_with_len, length-map-range_with_len, map-range_with_len_more}
 use Rattle.residue_words.specs.Residues.{sum_below}
-use Rattle.residue_words.specs.Matrix.{Matrix, IsMatrix, IsVector, row, entry, list_of, apply, combine, dot, zeros}
+use Rattle.residue_words.specs.Matrix.{Matrix, row, entry, list_of, apply, combine, dot, zeros}
 use Rattle.residue_words.proofs.Sums.{sum_equal}
 use Rattle.residue_words.proofs.Vectors.{at_list_of, at_zeros, length_list_of, list_of_equal, list_of_more}
 use Rattle.row_space.specs.Kernel.{IsNull}

@@ -1,5 +1,5 @@
 -- The solution of A x = b that is told, and the row combination that refutes an unsolvable system.
-use Rattle.std.specs.Prelude.{◌≡◌, ◌<◌, ◌+◌, ◌++◌, ℕ, List, [], ◌∷◌, map, slice_index}
+use Rattle.std.specs.Prelude.{◌≡◌, ◌+◌, ◌++◌, ℕ, List, [], ◌∷◌, map, slice_index}
 use Rattle.std.specs.List.{range_with_len}
 use Rattle.residue_words.specs.Matrix.{Matrix, IsVector, apply, combine, dot, entry, list_of, row, zeros}
 use Rattle.row_space.specs.Kernel.{IsNull, EndsAt}
