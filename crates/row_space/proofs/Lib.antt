@@ -1,0 +1,9 @@
+pub mod Counting
+pub mod Ends
+pub mod Example
+pub mod Exists
+pub mod Solvable
+pub mod ReadOff
+pub mod Refuting
+pub mod Spans
+pub mod Unique
