@@ -2,6 +2,7 @@ pub mod Counting
 pub mod Ends
 pub mod Example
 pub mod Exists
+pub mod FactorLaws
 pub mod Solvable
 pub mod ReadOff
 pub mod Refuting
