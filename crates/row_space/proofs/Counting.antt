@@ -21,6 +21,20 @@ moved_off : (m v t : ℕ) → t ≢ m → moved m v t ≡ t
 unfolding moved
 moved_off m v t d = cond-false (eqb t m) v t (ne_eqb t m d)
 
+-- it is one to one away from v
+moved_apart : (m v a b : ℕ) → a ≢ v → b ≢ v → moved m v a ≡ moved m v b → a ≡ b
+moved_apart m v a b na nb same =
+    elim (cases_eq a m) [
+      | inl e ↦ elim (cases_eq b m) [
+        | inl g ↦ e ∙ sym g
+        | inr d ↦ absurd (nb (sym (moved_off m v b d) ∙ sym same ∙ moved_at m v a e))
+      ]
+      | inr c ↦ elim (cases_eq b m) [
+        | inl g ↦ absurd (na (sym (moved_off m v a c) ∙ same ∙ moved_at m v b g))
+        | inr d ↦ sym (moved_off m v a c) ∙ same ∙ moved_off m v b d
+      ]
+    ]
+
 -- no map of n numbers to fewer is one to one
 pub pigeonhole : (n m : ℕ) (f : ℕ → ℕ) → ((x : ℕ) → x < n → f x < m) → ((x y : ℕ) → x < n → y < n → f x ≡ f y → x ≡ y) → n ≤ m
 pigeonhole zero m f small one = omega arith
@@ -34,16 +48,7 @@ pigeonhole (suc n) (suc m) f small one =
       | inl e ↦ omega (arith, moved_at m v (f x) e, apart x l)
       | inr d ↦ omega (arith, moved_off m v (f x) d, small x (omega arith))
     ])
-    (λ x y lx ly same. one x y (omega arith) (omega arith) (elim (cases_eq (f x) m) [
-      | inl e ↦ elim (cases_eq (f y) m) [
-        | inl g ↦ e ∙ sym g
-        | inr d ↦ absurd (apart y ly (sym (moved_off m v (f y) d) ∙ sym same ∙ moved_at m v (f x) e))
-      ]
-      | inr c ↦ elim (cases_eq (f y) m) [
-        | inl g ↦ absurd (apart x lx (sym (moved_off m v (f x) c) ∙ same ∙ moved_at m v (f y) g))
-        | inr d ↦ sym (moved_off m v (f x) c) ∙ same ∙ moved_off m v (f y) d
-      ]
-    ])))
+    (λ x y lx ly same. one x y (omega arith) (omega arith) (moved_apart m v (f x) (f y) (apart x lx) (apart y ly) same)))
 
 -- the digits of x to the base p, and the number of a list of digits
 abbrev digits : ℕ → ℕ → ℕ → List ℕ
@@ -141,16 +146,7 @@ onto n (suc m) f le small one k l =
             | inl e ↦ omega (arith, moved_at m k (f x) e, none x o)
             | inr d ↦ omega (arith, moved_off m k (f x) d, small x o)
           ])
-          (λ x y lx ly same. one x y lx ly (elim (cases_eq (f x) m) [
-            | inl e ↦ elim (cases_eq (f y) m) [
-              | inl g ↦ e ∙ sym g
-              | inr d ↦ absurd (none y ly (sym (moved_off m k (f y) d) ∙ sym same ∙ moved_at m k (f x) e))
-            ]
-            | inr c ↦ elim (cases_eq (f y) m) [
-              | inl g ↦ absurd (none x lx (sym (moved_off m k (f x) c) ∙ same ∙ moved_at m k (f y) g))
-              | inr d ↦ sym (moved_off m k (f x) c) ∙ same ∙ moved_off m k (f y) d
-            ]
-          ])) in
+          (λ x y lx ly same. one x y lx ly (moved_apart m k (f x) (f y) (none x lx) (none y ly) same)) in
           absurd (omega arith)
     ]
 

@@ -1,12 +1,11 @@
 -- Null vectors in the reduced form, as many as the width exceeds the rank, are the kernel basis.
-use Rattle.std.proofs.Common.{ℕ, ◌≡◌, ◌≢◌, ◌+◌, ◌*◌, ◌-◌, ◌%◌, ◌<◌, ◌≤◌, inl, inr, cond, ltb, List, slice_index, sym, ap, ap₂, subst, ◌∙◌, arith, mod-eq_of_lt, mul-one, mul-zero, zero-mul, one-mul, mul_comm, lt-ltb, le-ltb}
-use native.Mathlib.Nat.{zero-mod, mod-mod}
-use Rattle.std.proofs.lemmas.Bool.{cases_lt, cases_eq, cond-true, cond-false}
+use Rattle.std.proofs.Common.{ℕ, ◌≡◌, ◌+◌, ◌*◌, ◌-◌, ◌%◌, ◌<◌, ◌≤◌, inl, inr, cond, ltb, List, slice_index, sym, ap, ap₂, ◌∙◌, arith, mod-eq_of_lt, mul-one, mul-zero, zero-mul, mul_comm, lt-ltb, le-ltb}
+use native.Mathlib.Nat.{zero-mod}
+use Rattle.std.proofs.lemmas.Bool.{cases_lt, cond-true, cond-false}
 use Rattle.residue_words.specs.Residues.{sum_below}
-use Rattle.residue_words.specs.Matrix.{Matrix, IsMatrix, IsVector, IsCombination, row, entry, list_of, dot, combine, apply, zeros}
-use Rattle.residue_words.proofs.Residues.{right_zero}
+use Rattle.residue_words.specs.Matrix.{Matrix, IsVector, IsCombination, row, entry, list_of, dot, combine, apply, zeros}
 use Rattle.residue_words.proofs.Sums.{sum_equal, sum_zero, sum_single, sum_split}
-use Rattle.residue_words.proofs.Vectors.{at_list_of, list_of_equal, vector_of, vector_equal, at_zeros, zeros_vector, at_combine, at_apply, combination_of, combination_vector, row_combination, matrix_of, entry_matrix_of, entry_residue, delta, delta_same, delta_other, sum_delta, dot_combine}
+use Rattle.residue_words.proofs.Vectors.{at_list_of, list_of_equal, vector_of, vector_equal, at_zeros, zeros_vector, at_apply, combination_of, combination_vector, row_combination, matrix_of, entry_matrix_of, delta, delta_same, delta_other, sum_delta, dot_combine}
 use Rattle.row_space.specs.Echelon.{HasLeads, IsIndependent, IsRref}
 use Rattle.row_space.specs.Kernel.{IsNull}
 use Rattle.row_space.specs.Laws.{RankGivesKernel}
@@ -46,7 +45,7 @@ stacked_second : (h : ℕ) (f g : ℕ → ℕ → ℕ) (t j : ℕ) → stacked h
 unfolding stacked
 stacked_second h f g t j = cond-false (ltb (h + t) h) (f (h + t) j) (g (h + t - h) j) (le-ltb (h + t) h (omega arith)) ∙ ap (λ i. g i j) (omega arith)
 
-module _ (p : ℕ) (A F K : Matrix) (leads : List ℕ) (two : 2 ≤ p) (form : IsRref p A F) (has : HasLeads F leads) 
+module _ (p : ℕ) (A F K : Matrix) (leads : List ℕ) (two : 2 ≤ p) (form : IsRref p A F) (has : HasLeads F leads)
     (width : K.width ≡ A.width) (height : K.height + F.height ≡ A.width) (null : (k : ℕ) → k < K.height → IsNull p A (row K k)) (free : IsIndependent p K) where
   -- the null vectors K, and below them the unit vectors at the leads: as many rows as columns
   unit_row : ℕ → ℕ → ℕ
@@ -98,13 +97,13 @@ module _ (p : ℕ) (A F K : Matrix) (leads : List ℕ) (two : 2 ≤ p) (form : I
   first_part : (y : List ℕ) → ((t : ℕ) → t < F.height → slice_index y (K.height + t) ≡ 0) → combine p y square ≡ combine p (list_of K.height (slice_index y)) K
   first_part y none =
       list_of_equal A.width _ _ (λ j l. ap (λ x. x % p) (
-        sum_split K.height F.height (λ i. slice_index y i * entry square i j)
-        ∙ ap₂ (λ a b. a + b)
-        (sum_equal K.height (λ i. slice_index y i * entry square i j) (λ i. slice_index (list_of K.height (slice_index y)) i * entry K i j)
-        (λ i o. ap₂ (λ a b. a * b) (sym (at_list_of K.height (slice_index y) i o)) (square_first i j o l)))
-        (sum_zero F.height (λ t. slice_index y (K.height + t) * entry square (K.height + t) j)
-        (λ t o. ap (λ x. x * entry square (K.height + t) j) (none t o) ∙ zero-mul (entry square (K.height + t) j)))
-        ∙ omega arith
+      sum_split K.height F.height (λ i. slice_index y i * entry square i j)
+      ∙ ap₂ (λ a b. a + b)
+      (sum_equal K.height (λ i. slice_index y i * entry square i j) (λ i. slice_index (list_of K.height (slice_index y)) i * entry K i j)
+      (λ i o. ap₂ (λ a b. a * b) (sym (at_list_of K.height (slice_index y) i o)) (square_first i j o l)))
+      (sum_zero F.height (λ t. slice_index y (K.height + t) * entry square (K.height + t) j)
+      (λ t o. ap (λ x. x * entry square (K.height + t) j) (none t o) ∙ zero-mul (entry square (K.height + t) j)))
+      ∙ omega arith
       ))
       ∙ ap (λ n. list_of n (λ j. sum_below K.height (λ i. slice_index (list_of K.height (slice_index y)) i * entry K i j) % p)) (sym width)
 
