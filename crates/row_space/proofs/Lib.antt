@@ -1,0 +1,3 @@
+pub mod Ends
+pub mod Spans
+pub mod Unique
