@@ -1,6 +1,6 @@
 -- Matrices as lists of rows: one row more, rows reduced by others, and rows that stand in steps.
 use Rattle.std.proofs.Common.{ℕ, zero, suc, ◌≡◌, ◌≢◌, ◌+◌, ◌*◌, ◌-◌, ◌%◌, ◌<◌, ◌≤◌, ◌⊎◌, inl, inr, List, [], ◌∷◌, ◌++◌, length, slice_index, sym, refl, ap, ap₂, subst, ◌∙◌, arith, mod-eq_of_lt, mul-one, mul-zero, zero-mul, length-append}
-use native.Mathlib.Nat.{mod-mod}
+use native.Mathlib.Nat.{mod-mod, zero-mod}
 use Rattle.std.proofs.Math.ListN.{get_or-append}
 use Rattle.std.proofs.Math.Seq.{get_or-append_seam}
 use Rattle.std.proofs.lemmas.Nat.{mul-mod_second}
@@ -8,7 +8,7 @@ use Rattle.std.proofs.lemmas.Bool.{cases_lt, cases_eq}
 use Rattle.residue_words.specs.Residues.{IsPrime, sum_below}
 use Rattle.residue_words.specs.Matrix.{Matrix, IsVector, IsMatrix, IsCombination, row, entry, combine, zeros}
 use Rattle.residue_words.proofs.Residues.{add_same, mul_same, right_zero, minus_one}
-use Rattle.residue_words.proofs.Sums.{sum_single}
+use Rattle.residue_words.proofs.Sums.{sum_single, sum_zero}
 use Rattle.residue_words.proofs.Vectors.{mix, at_mix, length_list_of, list_equal, vector_equal, at_combine, at_zeros, zeros_vector, combination_mix, combination_through, combination_vector, row_combination}
 use Rattle.row_space.specs.Echelon.{HasRank, IsIndependent, SameSpan}
 use Rattle.row_space.specs.Rows.{DiffersBy, HasSteps, of_rows}
@@ -75,6 +75,19 @@ span_with_new p n rows kept v x two mr mk vector other same to from =
     (λ i l. combination_more p n kept x _ two mk other ((same _).0 (row_combination p (of_rows n rows) i two mr l))) to)
     (each_with_row (IsCombination p (with_row n rows v)) n kept x
     (λ k l. combination_more p n rows v _ two mr vector ((same _).1 (row_combination p (of_rows n kept) k two mk l))) from)
+
+-- a row is itself and the zero combination
+pub differs_by_none : (p : ℕ) (A : Matrix) (v : List ℕ) → 2 ≤ p → IsVector p A.width v → DiffersBy p A v v
+differs_by_none p A v two vector = record {
+  part = combine p (zeros A.height) A;
+  combination = (zeros A.height, zeros_vector p A.height (omega arith), refl);
+  sum = λ j l.
+      let none : slice_index (combine p (zeros A.height) A) j % p ≡ 0 =
+      ap (λ t. t % p) (at_combine p (zeros A.height) A j l) ∙ mod-mod _ p
+      ∙ ap (λ t. t % p) (sum_zero A.height (λ i. slice_index (zeros A.height) i * entry A i j) (λ i li. ap (λ t. t * entry A i j) (at_zeros A.height i li) ∙ zero-mul (entry A i j)))
+      ∙ zero-mod p in
+      sym (right_zero p (slice_index v j) (slice_index (combine p (zeros A.height) A) j) none ∙ mod-eq_of_lt (vector.residues j l));
+}
 
 -- a w-entry less a multiple of a row's, and the part with this multiple, have the same sum
 differ_more : (p v w x u a k : ℕ) → v ≡ (w + u) % p → w ≡ (x + a * k) % p → v ≡ (x + (1 * u + a * k) % p) % p
