@@ -24,9 +24,9 @@ pub written_vector : (p n : ℕ) (v : List ℕ) (j x : ℕ) → IsVector p n v �
 written_vector p n v j x h l low = record {
   len = length-set v j x ∙ h.len;
   residues = λ k lk. elim (cases_eq k j) [
-      | inl e ↦ let inside : j < length v = omega (arith, h.len) in subst (λ t. get_or (set v j x) t 0 < p) (sym e) (rw get_or-set_same low)
-      | inr d ↦ rw get_or-set_other (h.residues k lk)
-    ];
+    | inl e ↦ let inside : j < length v = omega (arith, h.len) in subst (λ t. get_or (set v j x) t 0 < p) (sym e) (rw get_or-set_same low)
+    | inr d ↦ rw get_or-set_other (h.residues k lk)
+  ];
 }
 
 -- the list of a row that is read
@@ -100,9 +100,9 @@ kept_more p n kept leads x j h vector inside = record {
   matrix = matrix_with_row p n kept x h.matrix vector;
   len = omega (arith, length-append leads (j ∷ []), length-append kept (x ∷ []), h.len);
   inside = λ k l. elim (cases_eq k (length leads)) [
-      | inl e ↦ subst (λ t. t < n) (sym (ap (slice_index (leads ++ j ∷ [])) e ∙ get_or-append_seam leads j [] 0)) inside
-      | inr d ↦ let less : k < length leads = omega (arith, length-append leads (j ∷ [])) in subst (λ t. t < n) (sym (get_or-append leads (j ∷ []) 0 k less)) (h.inside k less)
-    ];
+    | inl e ↦ subst (λ t. t < n) (sym (ap (slice_index (leads ++ j ∷ [])) e ∙ get_or-append_seam leads j [] 0)) inside
+    | inr d ↦ let less : k < length leads = omega (arith, length-append leads (j ∷ [])) in subst (λ t. t < n) (sym (get_or-append leads (j ∷ []) 0 k less)) (h.inside k less)
+  ];
 }
 
 -- where something is left of v, which x is when scaled, x is kept

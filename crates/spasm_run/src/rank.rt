@@ -6,9 +6,8 @@ ghost use Rattle.row_space.specs.Echelon.{HasRank};
 ghost use Rattle.row_space.specs.Rows.{DiffersBy, HasSteps};
 ghost use Rattle.spasm_run.specs.Plain.{AreKept, Reduces, StartsAt, lists, plain_matrix};
 
-use std::alloc::{AllocError, Global};
-
 use residue_words::Modulus;
+use std::alloc::{AllocError, Global};
 
 // The place of the first entry that isn't 0.
 fn first_nonzero(row: &[u64]) -> Option<usize>
@@ -66,7 +65,12 @@ fn reduce(p: &Modulus, row: &mut [u64], kept: &[Vec<u64>], leads: &[usize])
 }
 
 // Reduces the row by the kept rows. Where something is left, scales it so that its first nonzero entry is 1, and says where this stands.
-fn reduce_and_scale(p: &Modulus, row: &mut [u64], kept: &[Vec<u64>], leads: &[usize]) -> Option<usize>
+fn reduce_and_scale(
+    p: &Modulus,
+    row: &mut [u64],
+    kept: &[Vec<u64>],
+    leads: &[usize],
+) -> Option<usize>
     requires row { IsVector p.now (length row.old) row.old }
     requires kept { AreKept p.now (length row.old) (lists kept.now) leads.now }
     ensures vector { IsVector p.now (length row.old) row.new }
@@ -130,20 +134,56 @@ pub fn rank_of(
 #[cfg(test)]
 mod tests {
     use super::rank_of;
-
     use residue_words::Modulus;
+    use std::alloc::{AllocError, Global};
     use std::test::Fail;
+
+    // A row of this width: the residues of these numbers, and zeros behind them.
+    fn row_of(alloc: Global, p: u64, width: usize, numbers: &[u64]) -> Result<Vec<u64>, AllocError>
+        requires { 0 < p }
+        ensures { IfOk result (λ v. IsVector p width v.items) }
+    {
+        let mut row = Vec::new(alloc);
+        for j in 0..width {
+            let residue = if j < numbers.len() { numbers[j] % p } else { 0 };
+            row.push(residue)?;
+        }
+        Ok(row)
+    }
+
+    fn rows_of(
+        alloc: Global,
+        p: u64,
+        width: usize,
+        rows: &[[u64; 3]],
+    ) -> Result<Vec<Vec<u64>>, AllocError>
+        requires { 0 < p }
+        ensures { IfOk result (λ v. IsMatrix p (plain_matrix width v.items)) }
+    {
+        let mut all = Vec::new(alloc);
+        for i in 0..rows.len() {
+            let row = row_of(alloc, p, width, &rows[i])?;
+            all.push(row)?;
+        }
+        Ok(all)
+    }
 
     #[test]
     fn finds_known_ranks(rt: HostRuntime) -> Result<(), Fail> {
         let alloc = rt.alloc();
-        let cases = [
-            (7, 3, vec![in alloc; 2, 4, 1, 1, 2, 0, 3, 6, 1]?, 2),
-            (7, 3, vec![in alloc; 1, 0, 0, 1, 1, 1, 1, 1, 2]?, 3),
-            (3, 3, vec![in alloc; 0, 1, 2, 0, 2, 1, 1, 0, 0]?, 2),
-            (2, 2, vec![in alloc; 1, 1, 1, 1]?, 1),
-            (7, 5, vec![in alloc; ]?, 0),
+        let cases: [(u64, usize, usize, [[u64; 3]; 3], usize); 6] = [
+            (7, 3, 3, [[2, 4, 1], [1, 2, 0], [3, 6, 1]], 2),
+            (7, 3, 3, [[1, 0, 0], [1, 1, 1], [1, 1, 2]], 3),
+            (3, 3, 3, [[0, 1, 2], [0, 2, 1], [1, 0, 0]], 2),
+            (2, 2, 2, [[1, 1, 0], [1, 1, 0], [0, 0, 0]], 1),
+            (7, 0, 3, [[0, 0, 0], [0, 0, 0], [0, 0, 0]], 0),
+            (7, 3, 0, [[0, 0, 0], [0, 0, 0], [0, 0, 0]], 0),
         ];
+        for (p, height, width, rows, want) in cases {
+            assert!(rt; 2 <= p && p < 8 && height <= 3);
+            let rows = rows_of(alloc, p, width, &rows[..height])?;
+            assert_eq!(rt; rank_of(alloc, &Modulus::new(p), width, rows)?, want);
+        }
         Ok(())
     }
 }
