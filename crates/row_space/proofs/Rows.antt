@@ -1,5 +1,5 @@
 -- Matrices as lists of rows: one row more, rows reduced by others, and rows that stand in steps.
-use Rattle.std.proofs.Common.{ℕ, zero, suc, ◌≡◌, ◌≢◌, ◌+◌, ◌*◌, ◌-◌, ◌%◌, ◌<◌, ◌≤◌, ◌⊎◌, inl, inr, List, [], ◌∷◌, ◌++◌, length, slice_index, sym, refl, ap, ap₂, subst, ◌∙◌, arith, mod-eq_of_lt, mul-one, mul-zero, zero-mul, length-append}
+use Rattle.std.proofs.Common.{ℕ, zero, suc, ◌≡◌, ◌+◌, ◌*◌, ◌-◌, ◌%◌, ◌<◌, ◌≤◌, inl, inr, List, [], ◌∷◌, ◌++◌, length, slice_index, sym, refl, ap, subst, ◌∙◌, arith, mod-eq_of_lt, mul-one, mul-zero, zero-mul, length-append}
 use native.Mathlib.Nat.{mod-mod, zero-mod}
 use Rattle.std.proofs.Math.ListN.{get_or-append}
 use Rattle.std.proofs.Math.Seq.{get_or-append_seam}
@@ -184,14 +184,14 @@ pub steps_more : (n : ℕ) (rows : List (List ℕ)) (v : List ℕ) (place at : �
     HasSteps (with_row n rows v).height n (entry (with_row n rows v)) at
 steps_more n rows v place at h same inside one clear = record {
   inside = λ k l. elim (cases_eq k (length rows)) [
-      | inl e ↦ subst (λ t. at t < n) (sym e) inside
-      | inr d ↦ let less : k < length rows = omega (arith, high) in subst (λ t. t < n) (sym (same k less)) (h.inside k less)
-    ];
+    | inl e ↦ subst (λ t. at t < n) (sym e) inside
+    | inr d ↦ let less : k < length rows = omega (arith, high) in subst (λ t. t < n) (sym (same k less)) (h.inside k less)
+  ];
   one = λ k l. elim (cases_eq k (length rows)) [
-      | inl e ↦ subst (λ t. entry (with_row n rows v) t (at t) ≡ 1) (sym e) (ap (λ u. slice_index u (at (length rows))) (row_last n rows v) ∙ one)
-      | inr d ↦ let less : k < length rows = omega (arith, high) in
-          ap (λ u. slice_index u (at k)) (row_before n rows v k less) ∙ ap (entry (of_rows n rows) k) (same k less) ∙ h.one k less
-    ];
+    | inl e ↦ subst (λ t. entry (with_row n rows v) t (at t) ≡ 1) (sym e) (ap (λ u. slice_index u (at (length rows))) (row_last n rows v) ∙ one)
+    | inr d ↦ let less : k < length rows = omega (arith, high) in
+        ap (λ u. slice_index u (at k)) (row_before n rows v k less) ∙ ap (entry (of_rows n rows) k) (same k less) ∙ h.one k less
+  ];
   later = λ k t a b. let below : k < length rows = omega (arith, high) in
       elim (cases_eq t (length rows)) [
         | inl e ↦ ap (λ i. entry (with_row n rows v) i (at k)) e ∙ ap (λ u. slice_index u (at k)) (row_last n rows v) ∙ ap (slice_index v) (same k below) ∙ clear k below
@@ -209,7 +209,10 @@ pub rank_of_independent : RrefExists → SpanFixesHeight → (p : ℕ) (A K : Ma
 rank_of_independent exists fixes p A K prime ma mk width free same =
     let two : 2 ≤ p = prime.two_or_more in
     let form = exists p A prime ma in
-    let E : Matrix = form.0 in
-    (E, form.1, fixes p E K two form.1.matrix mk (form.1.width ∙ width)
-        (places_independent p (λ j lead. j < lead) E (slice_index form.1.form.0) (omega arith) form.1.form.1.1) free
-        (same_span_chained p E A K (same_span_turned p A E form.1.span) same))
+    let E : Matrix = form.0 in (
+      E,
+      form.1,
+      fixes p E K two form.1.matrix mk (form.1.width ∙ width)
+          (places_independent p (λ j lead. j < lead) E (slice_index form.1.form.0) (omega arith) form.1.form.1.1) free
+          (same_span_chained p E A K (same_span_turned p A E form.1.span) same),
+    )

@@ -1,15 +1,15 @@
 -- What the steps of the plain elimination do, over lists.
-use Rattle.std.proofs.Common.{ℕ, ◌≡◌, ◌≢◌, ◌+◌, ◌*◌, ◌-◌, ◌%◌, ◌<◌, ◌≤◌, ◌⊎◌, inl, inr, List, [], ◌∷◌, ◌++◌, length, get_or, set, slice_index, slice_index_or, Vec, Global, ap, sym, refl, subst, ◌∙◌, arith, mod-eq_of_lt, mod-lt, mul-zero, mul-one, below_more, get_or-set_same, get_or-set_other, length-append}
+use Rattle.std.proofs.Common.{ℕ, ◌≡◌, ◌+◌, ◌*◌, ◌-◌, ◌%◌, ◌<◌, ◌≤◌, inl, inr, List, [], ◌∷◌, ◌++◌, length, get_or, set, slice_index, slice_index_or, Vec, Global, ap, sym, refl, subst, ◌∙◌, arith, mod-eq_of_lt, mul-zero, below_more, get_or-set_same, get_or-set_other, length-append}
 use native.Mathlib.Nat.{mod-mod, mod_self}
 use Rattle.std.proofs.lemmas.Bool.{cases_eq}
-use Rattle.std.proofs.lemmas.List.{get_or-map, length-map, length-set, map-append, get_or-append_right}
+use Rattle.std.proofs.lemmas.List.{get_or-map, length-map, length-set, map-append}
 use Rattle.std.proofs.Math.ListN.{get_or-append}
 use Rattle.std.proofs.Math.Seq.{get_or-append_seam}
 use Rattle.residue_words.specs.Residues.{IsPrime}
-use Rattle.residue_words.specs.Matrix.{IsVector, IsMatrix, entry, row}
+use Rattle.residue_words.specs.Matrix.{IsVector, IsMatrix, entry}
 use Rattle.residue_words.proofs.Residues.{add_same, add_cancel, right_zero, residue_equal}
 use Rattle.row_space.specs.Rows.{DiffersBy, HasSteps, of_rows}
-use Rattle.row_space.proofs.Rows.{differs_by_none, differs_by_zero, differs_more, matrix_with_row, span_with_old, span_with_scaled, steps_more, with_row}
+use Rattle.row_space.proofs.Rows.{differs_by_none, differs_by_zero, differs_more, matrix_with_row, span_with_old, span_with_scaled, steps_more}
 use Rattle.spasm_run.specs.Plain.{AreKept, AreReduced, lists, plain_matrix}
 
 -- a difference and what was taken make the whole

@@ -1,7 +1,7 @@
-use Rattle.std.proofs.Common.{ℕ, ◌≡◌, ◌<◌, ◌+◌, ◌*◌, ◌%◌, List, [], ◌∷◌, ◌++◌, length, slice_index, ap, subst, sym, ◌∙◌, arith}
+use Rattle.std.proofs.Common.{length, subst, arith}
 use Rattle.residue_words.specs.Matrix.{IsVector}
-use Rattle.spasm_run.specs.Plain.{Reduces, lists}
-use Rattle.spasm_run.proofs.Elimination.{lists_length, reduced_more, reduced_same}
+use Rattle.spasm_run.specs.Plain.{lists}
+use Rattle.spasm_run.proofs.Elimination.{reduced_more, reduced_same}
 use Rattle.spasm_run.proofs.rank.reduce_and_scale.Goals as goal
 
 pub returns-in_err-lead-clause-reduced : goal.returns-in_err-lead-clause-reduced

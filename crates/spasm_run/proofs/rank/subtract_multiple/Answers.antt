@@ -1,4 +1,4 @@
-use Rattle.std.proofs.Common.{ℕ, ◌≡◌, ◌≢◌, ◌+◌, ◌*◌, ◌%◌, ◌<◌, length, slice_index, set, sym, ap, ◌∙◌, arith, below_more, get_or-set_same, get_or-set_other}
+use Rattle.std.proofs.Common.{◌≢◌, ◌<◌, length, sym, ◌∙◌, arith, below_more, get_or-set_same, get_or-set_other}
 use Rattle.spasm_run.proofs.Elimination.{taken_back, written_vector}
 use Rattle.spasm_run.proofs.rank.subtract_multiple.Goals as goal
 
