@@ -109,8 +109,8 @@ fn keep(
 /// The rank of the matrix with these rows of `width` residues, by elimination: each row is reduced by the rows kept so far, and kept
 /// where something is left, scaled so that its first nonzero entry is 1.
 ///
-/// Takes memory for a list of the rows that are kept, at most as many as there are rows or columns, and fails where it isn't given.
-/// O(rows * rank * width).
+/// The rows are changed in place and let go at the end. Takes memory for the list of those that are kept, and fails where it isn't given.
+/// For a modulus that isn't prime the answer means nothing. O(rows * rank * width).
 pub fn rank_of(
     alloc: Global,
     p: &Modulus,
