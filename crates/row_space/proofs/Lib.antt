@@ -4,9 +4,10 @@ pub mod Example
 pub mod Exists
 pub mod FactorLaws
 pub mod KernelLaws
-pub mod Solvable
 pub mod ReadOff
 pub mod Refuting
+pub mod Rows
+pub mod Solvable
 pub mod Spans
 pub mod Triangular
 pub mod Unique
