@@ -2,7 +2,11 @@
 #![tactic(auto)]
 
 mod kind;
+mod memory;
 mod outside;
+mod write;
 
 pub use kind::{Kind, TextError};
+pub use memory::{MemorySink, MemorySource, SteadySink, SteadySource};
 pub use outside::{Pulled, Put, Sink, Source};
+pub use write::{WriteFault, write_end, write_entry, write_head, write_number, write_text};
