@@ -1,6 +1,7 @@
 // Sources and sinks in memory, for tests and for texts that are at hand.
-ghost use Rattle.std.specs.Prelude.{◌≡◌, ℕ, ◌-◌, ◌<◌, ◌≤◌, [], Some, None, length, take, drop, min, IfOk};
+ghost use Rattle.std.specs.Prelude.{◌≡◌, ◌+◌, ◌<◌, ◌≤◌, [], Some, None, length, take, drop, vec_len, vec_capacity, IfOk};
 ghost use Rattle.sms_text.specs.Memory.{SourceState, SteadyState, SinkState, answer, after_pull, share, got, put_answer, after_put};
+ghost use Rattle.sms_text.specs.Outside.{PullDid, PutDid};
 
 use crate::outside::{Pulled, Put, Sink, Source};
 use std::alloc::{AllocError, Global};
@@ -71,6 +72,9 @@ impl Source for MemorySource {
     ghost faults = { λ s. s.faults };
 
     fn pull(&mut self, buffer: &mut [u8]) -> Pulled
+        requires { 0 < length buffer.old }
+        ensures did { PullDid result buffer.new (Some self.old.left) (Some self.new.left) self.old.faults self.new.faults }
+        ensures count { self.old.faults ≤ self.new.faults }
         ensures exact { result ≡ answer self.old (length buffer.old) }
         ensures after { self.new ≡ after_pull self.old (length buffer.old) }
     {
@@ -131,6 +135,8 @@ impl Source for SteadySource {
     ghost faults = { λ s. 0 };
 
     fn pull(&mut self, buffer: &mut [u8]) -> Pulled
+        requires { 0 < length buffer.old }
+        ensures did { PullDid result buffer.new (Some self.old.left) (Some self.new.left) 0 0 }
         ensures exact { result ≡ got (share self.old.piece (length buffer.old) self.old.left) }
         ensures after { self.new ≡ record {
             left = drop (share self.old.piece (length buffer.old) self.old.left) self.old.left;
@@ -151,8 +157,8 @@ impl Source for SteadySource {
 /// so do those where no room is left; they are counted.
 #[derive(Drop)]
 pub struct MemorySink {
-    bytes: Vec<u8>,
-    len: usize,
+    held: Vec<u8>,
+    room: usize,
     piece: usize,
     fails: Vec<u64>,
     calls: u64,
@@ -163,15 +169,15 @@ impl Model for MemorySink {
     ghost Value = { SinkState };
 
     ghost view = { λ s. record {
-        held = take s.len s.bytes.items;
-        room = length s.bytes.items - s.len;
+        held = s.held.items;
+        room = s.room;
         piece = s.piece;
         fails = s.fails.items;
         calls = s.calls;
         faults = s.faults;
     } };
 
-    ghost invariant = { λ s. (s.len ≤ length s.bytes.items) × (0 < s.piece) };
+    ghost invariant = { λ s. (vec_len s.held + s.room ≤ vec_capacity s.held) × (0 < s.piece) };
 }
 
 impl MemorySink {
@@ -188,10 +194,10 @@ impl MemorySink {
             faults = 0;
         }) }
     {
-        let bytes = vec![in alloc; 0; room]?;
+        let held = Vec::with_capacity(alloc, room)?;
         Ok(MemorySink {
-            bytes,
-            len: 0,
+            held,
+            room,
             piece,
             fails,
             calls: 0,
@@ -203,7 +209,7 @@ impl MemorySink {
     pub fn content(&self) -> &[u8]
         ensures { result.now ≡ self.now.held }
     {
-        &self.bytes[..self.len]
+        &self.held
     }
 }
 
@@ -213,6 +219,9 @@ impl Sink for MemorySink {
     ghost faults = { λ s. s.faults };
 
     fn put(&mut self, piece: &[u8]) -> Put
+        requires { 0 < length piece.now }
+        ensures did { PutDid result piece.now (Some self.old.held) (Some self.new.held) self.old.faults self.new.faults }
+        ensures count { self.old.faults ≤ self.new.faults }
         ensures exact { result ≡ put_answer self.old piece.now }
         ensures after { self.new ≡ after_put self.old piece.now }
     {
@@ -221,13 +230,14 @@ impl Sink for MemorySink {
             self.faults = self.faults.saturating_add(1);
             return Put::Failed;
         }
-        let start = self.len;
-        let count = give(piece, 0, self.piece, &mut self.bytes[start..]);
+        let count = self.piece.min(piece.len()).min(self.room);
         if count == 0 {
             self.faults = self.faults.saturating_add(1);
             return Put::Failed;
         }
-        self.len += count;
+        let (taken, _) = piece.split_at(count);
+        self.held.extend_from_slice(taken).unwrap();
+        self.room -= count;
         Put::Took(count)
     }
 }
@@ -249,7 +259,8 @@ impl Sink for SteadySink {
     ghost faults = { λ s. 0 };
 
     fn put(&mut self, piece: &[u8]) -> Put
-        ensures exact { result ≡ Put.Took (length piece.now) }
+        requires { 0 < length piece.now }
+        ensures { result ≡ Put.Took (length piece.now) }
     {
         Put::Took(piece.len())
     }

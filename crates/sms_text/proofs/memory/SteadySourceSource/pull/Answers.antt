@@ -1,0 +1,10 @@
+use Rattle.std.proofs.Common.{arith}
+use Rattle.sms_text.proofs.Pulls.{gave_nothing, gave_first}
+use Rattle.sms_text.proofs.memory.SteadySourceSource.pull.Goals.{then-count-eq0, else-count-eq0}
+use Rattle.sms_text.proofs.memory.SteadySourceSource.pull.Goals as goal
+
+pub returns-clause-did : goal.returns-clause-did
+returns-clause-did c = elim c.if-count-eq0.branch [
+  | then-count-eq0 w ↦ rw (w.result-is, ← c.self.view_is) (gave_nothing _ _ _ _ _ c.self.invariant.1 c.requires c.give-count.ensures.count w.if-count-eq0.true)
+  | else-count-eq0 w ↦ rw (w.result-is, ← c.self.view_is) (gave_first _ _ _ _ _ _ c.give-count.ensures.count (omega arith) ? c.give-count.ensures.given)
+]
