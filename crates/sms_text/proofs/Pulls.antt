@@ -14,7 +14,7 @@ pub gave_first : (bytes buffer : List ℕ) (at piece room n : ℕ) → n ≡ sha
     → take n buffer ≡ take n (drop at bytes)
     → (0 < n) × (n ≤ length buffer) × (Some (drop at bytes) ≡ Some (take n buffer ++ drop (at + n) bytes))
 gave_first bytes buffer at piece room n e some same given = (
-    some,
-    omega arith,
-    ap Some (sym (take-append-drop n (drop at bytes)) ∙ ap (λ front. front ++ drop n (drop at bytes)) (sym given) ∙ ap (λ rest. take n buffer ++ rest) (drop-drop n at bytes))
+  some,
+  omega arith,
+  ap Some (sym (take-append-drop n (drop at bytes)) ∙ ap (λ front. front ++ drop n (drop at bytes)) (sym given) ∙ ap (λ rest. take n buffer ++ rest) (drop-drop n at bytes)),
 )
