@@ -5,6 +5,8 @@ mod kind;
 mod memory;
 mod outside;
 mod write;
+#[cfg(test)]
+mod write_tests;
 
 pub use kind::{Kind, TextError};
 pub use memory::{MemorySink, MemorySource, SteadySink, SteadySource};
