@@ -1,6 +1,8 @@
 //! Matrices as texts in the SMS format: sources and sinks of bytes, a reader that names the first faulty line, and writers.
 #![tactic(auto)]
 
+mod blocks;
+mod gathered;
 mod kind;
 mod memory;
 mod outside;
@@ -8,6 +10,7 @@ mod write;
 #[cfg(test)]
 mod write_tests;
 
+pub use blocks::Blocks;
 pub use kind::{Kind, TextError};
 pub use memory::{MemorySink, MemorySource, SteadySink, SteadySource};
 pub use outside::{Pulled, Put, Sink, Source};
