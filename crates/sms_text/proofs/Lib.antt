@@ -1,2 +1,3 @@
 pub mod Pulls
 pub mod Puts
+pub mod WrittenLines
