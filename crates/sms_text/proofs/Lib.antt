@@ -1,3 +1,5 @@
 pub mod Pulls
 pub mod Puts
+pub mod RoundTrip
 pub mod WrittenLines
+pub mod WrittenNumbers
