@@ -3,3 +3,4 @@ pub mod Puts
 pub mod RoundTrip
 pub mod WrittenLines
 pub mod WrittenNumbers
+pub mod WrittenValues

@@ -1,10 +1,10 @@
 -- A line of three words, as it is written, is read as these words.
 use Rattle.std.proofs.Common.{◌≡◌, ℕ, zero, suc, ◌+◌, ◌-◌, ◌<◌, ◌≤◌, Bool, true, false, List, [], ◌∷◌, ◌++◌, length, refl, sym, ap, ◌∙◌, append_assoc, arith, length-append}
-use Rattle.std.specs.Prelude.{◌==◌, ◌||◌, not, if◌then◌else◌, nat_lt, Ok}
+use Rattle.std.specs.Prelude.{◌==◌, Ok}
 use Rattle.std.proofs.lemmas.Bool.Decides.{nat_tests}
 use Rattle.std.proofs.lemmas.Bool.{le-ltb}
-use Rattle.std.specs.List.{filter, flat_map, range_with_len}
-use Rattle.sms_text.specs.Lines.{Line, lines, with_first, size, content, is_gap, pieces, with_lead, is_filled, words, begins_with_mark, is_void}
+use Rattle.std.specs.List.{flat_map, range_with_len}
+use Rattle.sms_text.specs.Lines.{Line, lines, content, is_gap, pieces, is_filled, words, begins_with_mark, is_void}
 use Rattle.sms_text.specs.Text.{Due, Item, Judged, Reading, judge, read, with_item}
 use Rattle.sms_text.specs.Laws.{with_items}
 use Rattle.sms_text.specs.Written.{three_words}
@@ -77,7 +77,7 @@ words_of_spaced a b c h g k x y z =
 read_line : (p room number : ℕ) (ended : Bool) (due : Due) (dues : List Due) (t : List ℕ) (ls : List Line) (ws : List (List ℕ)) (j : Judged)
     → length t + 1 ≤ room → words (content t) ≡ ws → is_void ws ≡ false → judge p due ws ≡ Ok j
     → read p ended room number (due ∷ dues) (record { bytes = t; closed = true } ∷ ls)
-        ≡ with_item j.item (read p ended (room - (length t + 1)) (number + 1) (j.due ++ dues) ls)
+    ≡ with_item j.item (read p ended (room - (length t + 1)) (number + 1) (j.due ++ dues) ls)
 read_line p room number ended due dues t ls ws j fits are filled says = rw (le-ltb room (length t + 1) fits, are, filled, says)
 
 -- where these lines are due, a text says these items, and then other lines are due
@@ -96,14 +96,14 @@ pub carries_line : (p : ℕ) (ended : Bool) (due : Due) (dues : List Due) (a b c
     → Carries p ended (due ∷ dues) (j.due ++ dues) (three_words a b c) (j.item ∷ [])
 carries_line p ended due dues a b c j u v w unmarked says = record {
   step = λ room number rest fits.
-    let bytes = spaced_above a b c u.above v.above w.above in
-    let are : words (content (spaced a b c)) ≡ a ∷ b ∷ c ∷ [] =
-        ap words (whole_content (spaced a b c) bytes) ∙ words_of_spaced a b c u.above v.above w.above u.filled v.filled w.filled in
-    let same = three_words_length a b c in
-    ap (λ t. read p ended room number (due ∷ dues) (lines t)) (spaced_line a b c rest)
-    ∙ ap (read p ended room number (due ∷ dues)) (first_line (spaced a b c) rest bytes)
-    ∙ read_line p room number ended due dues (spaced a b c) (lines rest) _ j (omega arith) are unmarked says
-    ∙ ap (λ k. with_item j.item (read p ended (room - k) (number + 1) (j.due ++ dues) (lines rest))) (sym same);
+      let bytes = spaced_above a b c u.above v.above w.above in
+      let are : words (content (spaced a b c)) ≡ a ∷ b ∷ c ∷ [] =
+      ap words (whole_content (spaced a b c) bytes) ∙ words_of_spaced a b c u.above v.above w.above u.filled v.filled w.filled in
+      let same = three_words_length a b c in
+      ap (λ t. read p ended room number (due ∷ dues) (lines t)) (spaced_line a b c rest)
+      ∙ ap (read p ended room number (due ∷ dues)) (first_line (spaced a b c) rest bytes)
+      ∙ read_line p room number ended due dues (spaced a b c) (lines rest) _ j (omega arith) are unmarked says
+      ∙ ap (λ k. with_item j.item (read p ended (room - k) (number + 1) (j.due ++ dues) (lines rest))) (sym same);
 }
 
 with_items_append : (xs ys : List Item) (r : Reading) → with_items (xs ++ ys) r ≡ with_items xs (with_items ys r)
@@ -115,21 +115,21 @@ pub carries_append : (p : ℕ) (ended : Bool) (d e f : List Due) (t u : List ℕ
     → Carries p ended d e t xs → Carries p ended e f u ys → Carries p ended d f (t ++ u) (xs ++ ys)
 carries_append p ended d e f t u xs ys first second = record {
   step = λ room number rest fits.
-    let long = length-append t u in
-    let count = length-append xs ys in
-    ap (λ s. read p ended room number d (lines s)) (append_assoc t u rest)
-    ∙ first.step room number (u ++ rest) (omega arith)
-    ∙ ap (with_items xs) (second.step (room - length t) (number + length xs) rest (omega arith))
-    ∙ sym (with_items_append xs ys _)
-    ∙ ap (λ k. with_items (xs ++ ys) (read p ended k (number + length xs + length ys) f (lines rest))) (omega arith)
-    ∙ ap (λ k. with_items (xs ++ ys) (read p ended (room - length (t ++ u)) k f (lines rest))) (omega arith);
+      let long = length-append t u in
+      let count = length-append xs ys in
+      ap (λ s. read p ended room number d (lines s)) (append_assoc t u rest)
+      ∙ first.step room number (u ++ rest) (omega arith)
+      ∙ ap (with_items xs) (second.step (room - length t) (number + length xs) rest (omega arith))
+      ∙ sym (with_items_append xs ys _)
+      ∙ ap (λ k. with_items (xs ++ ys) (read p ended k (number + length xs + length ys) f (lines rest))) (omega arith)
+      ∙ ap (λ k. with_items (xs ++ ys) (read p ended (room - length (t ++ u)) k f (lines rest))) (omega arith);
 }
 
 -- nothing says nothing
 pub carries_nothing : (p : ℕ) (ended : Bool) (d : List Due) → Carries p ended d d [] []
 carries_nothing p ended d = record {
   step = λ room number rest fits.
-    ap (λ k. read p ended k number d (lines rest)) (omega arith) ∙ ap (λ k. read p ended (room - 0) k d (lines rest)) (omega arith);
+      ap (λ k. read p ended k number d (lines rest)) (omega arith) ∙ ap (λ k. read p ended (room - 0) k d (lines rest)) (omega arith);
 }
 
 -- the texts of several places

@@ -1,6 +1,6 @@
 -- A decimal number, as it is written, is read as this number.
-use Rattle.std.proofs.Common.{◌≡◌, ℕ, zero, suc, ◌+◌, ◌-◌, ◌*◌, ◌%◌, ◌^◌, ◌<◌, ◌≤◌, Bool, true, false, List, [], ◌∷◌, ◌++◌, length, refl, sym, ap, ◌∙◌, arith, mod-eq_of_lt}
-use Rattle.std.specs.Prelude.{◌==◌, ◌&&◌, ◌||◌, not, if◌then◌else◌, nat_lt, nat_le, Ok, codes}
+use Rattle.std.proofs.Common.{◌≡◌, ℕ, ◌+◌, ◌-◌, ◌*◌, ◌^◌, ◌<◌, ◌≤◌, true, false, List, [], ◌∷◌, length, refl, ap, ◌∙◌, arith, mod-eq_of_lt}
+use Rattle.std.specs.Prelude.{◌==◌, ◌||◌, Ok, codes}
 use Rattle.std.specs.Fmt.{decimal}
 use Rattle.std.specs.Str.Parse.{AllDigits, digits_value_after}
 use Rattle.std.specs.Char.{digit_value}
@@ -9,9 +9,9 @@ use Rattle.std.proofs.lemmas.Bool.{le-ltb}
 use Rattle.std.proofs.lemmas.Str.Parse.{digit_from_value}
 use Rattle.std.proofs.lemmas.Str.{digit_value_digit}
 use Rattle.std.proofs.lemmas.Fmt.{decimal_is_IsNumeral}
-use Rattle.sms_text.specs.Lines.{is_filled, is_mark, begins_with_mark}
-use Rattle.sms_text.specs.Numbers.{is_digit, are_digits, is_number, value_from, value, is_minus, unsigned, has_slash, numerator, is_value, residue, value_modulo}
-use Rattle.sms_text.specs.Text.{Due, Header, Body, Item, Sizes, Value, Closing, Judged, judge, largest_size, is_outside}
+use Rattle.sms_text.specs.Lines.{is_mark, begins_with_mark}
+use Rattle.sms_text.specs.Numbers.{is_digit, are_digits, is_number, value_from, value, is_minus, unsigned, has_slash, numerator, is_value, value_modulo}
+use Rattle.sms_text.specs.Text.{Header, Body, Sizes, Value, judge, largest_size, is_outside}
 use Rattle.sms_text.proofs.WrittenLines.{AreAbove, IsWord}
 
 -- each byte is a digit

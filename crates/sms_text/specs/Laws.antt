@@ -22,7 +22,7 @@ items_of A = Sizes A.height A.width
 -- The written text of a matrix reads as this matrix, whatever stands behind it and whichever lines are due behind it; the lines
 -- behind it are read next, with the room that it leaves, and from the number of the line behind it on.
 abbrev pub WrittenReadsBack : Type 0
-WrittenReadsBack = (p : ℕ) (A : Matrix) → 2 ≤ p → p < 2 ^ 64 → IsMatrix p A → A.height ≤ largest_size → A.width ≤ largest_size →
+WrittenReadsBack = (p : ℕ) (A : Matrix) → p < 2 ^ 64 → IsMatrix p A → A.height ≤ largest_size → A.width ≤ largest_size →
     (matrices p (items_of A) ≡ A ∷ []) × ((ended : Bool) (room number : ℕ) (dues : List Due) (rest : List ℕ) → length (text_of A) ≤ room →
     read p ended room number (Header ∷ dues) (lines (text_of A ++ rest))
-        ≡ with_items (items_of A) (read p ended (room - length (text_of A)) (number + length (items_of A)) dues (lines rest)))
+    ≡ with_items (items_of A) (read p ended (room - length (text_of A)) (number + length (items_of A)) dues (lines rest)))

@@ -4,6 +4,7 @@
 mod blocks;
 mod gathered;
 mod kind;
+mod laws;
 mod memory;
 mod outside;
 mod write;
@@ -12,6 +13,7 @@ mod write_tests;
 
 pub use blocks::Blocks;
 pub use kind::{Kind, TextError};
+pub use laws::written_text_reads_back;
 pub use memory::{MemorySink, MemorySource, SteadySink, SteadySource};
 pub use outside::{Pulled, Put, Sink, Source};
 pub use write::{WriteFault, write_end, write_entry, write_head, write_number, write_text};
