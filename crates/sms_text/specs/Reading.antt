@@ -1,12 +1,12 @@
 -- What the calls of a reader do: one line that is due, read from the bytes kept and those taken from the source.
-use Rattle.std.specs.Prelude.{◌≡◌, ◌+◌, ◌-◌, ◌||◌, nat_lt, Bool, true, false, not, if◌then◌else◌, ℕ, List, [], ◌∷◌, ◌++◌, Option, None, Some, Result, Ok, Err}
+use Rattle.std.specs.Prelude.{◌≡◌, ◌≢◌, ◌<◌, ◌≤◌, ◌+◌, ◌-◌, ◌||◌, nat_lt, Bool, true, false, not, if◌then◌else◌, ℕ, List, [], ◌∷◌, ◌++◌, Option, None, Some, Result, Ok, Err}
 use Rattle.sms_text.specs.declared.kind.Kind.{Kind}
 use Rattle.sms_text.specs.declared.kind.Kind.TheVariants as kind
 use Rattle.sms_text.specs.declared.kind.TextError.{TextError}
 use Rattle.sms_text.specs.declared.kind.TextError.TheVariants as error
 use Rattle.sms_text.specs.Lines.{Line, lines, size, content, words, is_void}
 use Rattle.sms_text.specs.Outside.{before, IsSpent, Rose}
-use Rattle.sms_text.specs.Text.{Due, Judged, judge, end_kind}
+use Rattle.sms_text.specs.Text.{Due, Item, Judged, judge, end_kind}
 
 -- the bytes taken and not used, how many bytes lines may still take, the number of the next line, whether the end came,
 -- the error that is answered from now on, and the sizes of the text that is open
