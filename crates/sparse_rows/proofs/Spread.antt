@@ -21,9 +21,9 @@ AreValues p [] = Unit {0}
 AreValues p (v ∷ vs) = (0 < v) × (v < p) × AreValues p vs
 
 -- equal functions give equal lists over a range
-map_range_equal : (f g : ℕ → ℕ) (k m : ℕ) → ((j : ℕ) → k ≤ j → f j ≡ g j) → map f (range_with_len k m) ≡ map g (range_with_len k m)
+pub map_range_equal : {X : Type 0} (f g : ℕ → X) (k m : ℕ) → ((j : ℕ) → k ≤ j → j < k + m → f j ≡ g j) → map f (range_with_len k m) ≡ map g (range_with_len k m)
 map_range_equal f g k zero h = refl
-map_range_equal f g k (suc m) h = ap₂ ◌∷◌ (h k (omega arith)) (map_range_equal f g (k + 1) m (λ j l. h j (omega arith)))
+map_range_equal f g k (suc m) h = ap₂ ◌∷◌ (h k (omega arith) (omega arith)) (map_range_equal f g (k + 1) m (λ j l b. h j (omega arith) (omega arith)))
 
 -- at a stored column stands its value
 entry_head : (c : ℕ) (cs : List ℕ) (v : ℕ) (vs : List ℕ) → entry_at (c ∷ cs) (v ∷ vs) c ≡ v
@@ -68,7 +68,7 @@ support_of p k (suc m) (c ∷ cs) (v ∷ vs) e a b =
       | inl same ↦
           let head : f k ≡ v = ap f (sym same) ∙ entry_head c cs v vs in
           let tail : rest ≡ map (entry_at cs vs) (range_with_len (k + 1) m) =
-          map_range_equal f (entry_at cs vs) (k + 1) m (λ j l. entry_tail c cs v vs j (omega arith)) in
+          map_range_equal f (entry_at cs vs) (k + 1) m (λ j l b. entry_tail c cs v vs j (omega arith)) in
           let up : Ascends (k + 1) (k + 1 + m) cs = subst (λ t. Ascends t (k + 1 + m) cs) (ap (λ x. x + 1) same) (subst (λ t. Ascends (c + 1) t cs) (let s : k + suc m ≡ k + 1 + m = omega arith in s) a.2) in
           let below = support_of p (k + 1) m cs vs (omega arith) up b.2 in (
             support_some k (f k) rest (omega (arith, b.0)) ∙ ap₂ ◌∷◌ (sym same) (ap (support_from (k + 1)) tail ∙ below.0),

@@ -7,6 +7,7 @@ ghost use Rattle.sparse_rows.specs.Rows.{built};
 ghost use Rattle.sparse_rows.specs.Stored.{IsCell, weight};
 
 use crate::group::group;
+use crate::parts::part;
 use crate::rows::Rows;
 use crate::sparse::Sparse;
 use residue_words::Modulus;
@@ -95,13 +96,9 @@ impl RowsBuilder {
         let mut cells = Vec::new(alloc);
         let mut row = Sparse::new(alloc, width, modulus);
         for i in 0..height {
-            let from = grouped.starts[i as usize];
-            let to = grouped.starts[i as usize + 1];
-            sort_cells(
-                &grouped.others[from..to],
-                &grouped.vals[from..to],
-                &mut cells,
-            )?;
+            let cols = part(&grouped.others, &grouped.starts, i as usize);
+            let vals = part(&grouped.vals, &grouped.starts, i as usize);
+            sort_cells(cols, vals, &mut cells)?;
             row.clear();
             sum_cells(&cells, &mut row)?;
             made.append(&row)?;

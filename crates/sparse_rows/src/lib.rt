@@ -6,6 +6,7 @@
 mod builder;
 mod group;
 mod list;
+mod parts;
 mod rows;
 mod sparse;
 

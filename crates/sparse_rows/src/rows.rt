@@ -1,11 +1,12 @@
 // A matrix as compressed rows.
-ghost use Rattle.std.specs.Prelude.{◌≡◌, ◌<◌, ◌≤◌, ◌+◌, ◌*◌, ◌%◌, ◌^◌, ℕ, [], ◌∷◌, ◌++◌, length, slice_index, All, IfOk};
+ghost use Rattle.std.specs.Prelude.{◌≡◌, ◌<◌, ◌≤◌, ◌+◌, ◌*◌, ◌%◌, ◌^◌, ℕ, [], ◌∷◌, ◌++◌, length, slice_index, All, IfOk, OnOk};
 ghost use Rattle.residue_words.specs.Matrix.{IsMatrix, IsVector, apply, entry, row};
 ghost use Rattle.residue_words.specs.Residues.{sum_below};
 ghost use Rattle.sparse_rows.specs.Rows.{beside, entry_count, identity, nonzeros, selected, support, transposed};
-ghost use Rattle.sparse_rows.specs.Stored.{IsSparse, spread};
+ghost use Rattle.sparse_rows.specs.Stored.{IsSparse, spread, with_row};
 
 use crate::group::group;
+use crate::parts::part;
 use crate::sparse::Sparse;
 use residue_words::Modulus;
 use std::alloc::{AllocError, Global};
@@ -64,7 +65,7 @@ impl Rows {
         requires height_small { self.old.matrix.height < 2147483648 }
         requires sparse { IsSparse self.old.modulus self.old.matrix.width cols.now vals.now }
         ensures modulus { self.new.modulus ≡ self.old.modulus }
-        ensures matrix { IfOk result (λ _. self.new.matrix ≡ record { height = self.old.matrix.height + 1; width = self.old.matrix.width; rows = self.old.matrix.rows ++ spread self.old.matrix.width cols.now vals.now ∷ [] }) }
+        ensures matrix { OnOk result (self.new.matrix ≡ with_row self.old.matrix (spread self.old.matrix.width cols.now vals.now)) }
     {
         self.starts.reserve(1)?;
         self.vals.reserve(vals.len())?;
@@ -80,7 +81,7 @@ impl Rows {
         requires modulus { row.now.modulus ≡ self.old.modulus }
         requires width { length row.now.row ≡ self.old.matrix.width }
         ensures modulus { self.new.modulus ≡ self.old.modulus }
-        ensures matrix { IfOk result (λ _. self.new.matrix ≡ record { height = self.old.matrix.height + 1; width = self.old.matrix.width; rows = self.old.matrix.rows ++ row.now.row ∷ [] }) }
+        ensures matrix { OnOk result (self.new.matrix ≡ with_row self.old.matrix row.now.row) }
     {
         self.append_slices(row.cols(), row.vals())
     }
@@ -132,7 +133,7 @@ impl Rows {
     pub fn entries(&self) -> u64
         ensures { result ≡ entry_count self.now.matrix }
     {
-        self.starts[self.starts.len() - 1] as u64
+        self.cols.len() as u64
     }
 
     /// The columns of the nonzero entries of row i, ascending.
@@ -143,8 +144,7 @@ impl Rows {
         ensures below_width { (k : ℕ) → k < length result.now → slice_index result.now k < self.now.matrix.width }
         ensures ascending { (k t : ℕ) → k < t → t < length result.now → slice_index result.now k < slice_index result.now t }
     {
-        let i = i as usize;
-        &self.cols[self.starts[i]..self.starts[i + 1]]
+        part(&self.cols, &self.starts, i as usize)
     }
 
     /// The nonzero entries of row i, by ascending columns.
@@ -155,8 +155,7 @@ impl Rows {
         ensures positive { (k : ℕ) → k < length result.now → 0 < slice_index result.now k }
         ensures residues { (k : ℕ) → k < length result.now → slice_index result.now k < self.now.modulus }
     {
-        let i = i as usize;
-        &self.vals[self.starts[i]..self.starts[i + 1]]
+        part(&self.vals, &self.starts, i as usize)
     }
 
     /// The transposed matrix, in time proportional to the entries, the width and the height.
@@ -164,11 +163,8 @@ impl Rows {
         ensures modulus { IfOk result (λ rows. rows.modulus ≡ self.now.modulus) }
         ensures matrix { IfOk result (λ rows. rows.matrix ≡ transposed self.now.matrix) }
     {
-        let total = self.starts[self.starts.len() - 1];
-        let cols = &self.cols[..total];
-        let vals = &self.vals[..total];
         let rows = self.rows_of_entries(alloc)?;
-        let grouped = group(alloc, self.width, cols, &rows, vals)?;
+        let grouped = group(alloc, self.width, &self.cols, &rows, &self.vals)?;
         Ok(Rows {
             modulus: self.modulus,
             width: self.height(),
