@@ -1,5 +1,5 @@
 -- A row and the ascending columns of its nonzero entries: each gives the other.
-use Rattle.std.proofs.Common.{ℕ, zero, suc, ◌≡◌, ◌≢◌, ◌+◌, ◌*◌, ◌<◌, ◌≤◌, ◌⊎◌, inl, inr, List, [], ◌∷◌, ◌++◌, length, map, slice_index, slice_set, cond, eqb, sym, refl, ap, ap₂, subst, ◌∙◌, arith, add-one}
+use Rattle.std.proofs.Common.{ℕ, zero, suc, ◌≡◌, ◌≢◌, ◌+◌, ◌*◌, ◌<◌, ◌≤◌, ◌⊎◌, inl, inr, List, [], ◌∷◌, ◌++◌, length, map, slice_index, slice_set, cond, eqb, sym, refl, ap, ap₂, subst, ◌∙◌, arith, zero-mul}
 use Rattle.std.specs.List.{range_with_len}
 use Rattle.std.proofs.lemmas.Bool.{cases_eq, cases_lt, cond-true, cond-false, eq-eqb, ne_eqb}
 use Rattle.std.proofs.lemmas.List.{get_or_append_left, get_or_push, get_or-set_other, get_or-set_same, length-set, length_push}
@@ -291,3 +291,89 @@ spread_push {p} {j} {cs} {vs} s n v l =
 pub spread_none : (n : ℕ) (vs : List ℕ) → spread n [] vs ≡ zeros n
 unfolding spread
 spread_none n vs = refl
+
+-- the support of a plain row that begins at column k ascends
+support_ascends : (k : ℕ) (v : List ℕ) → Ascends k (k + length v) (support_from k v)
+support_ascends k [] = tt
+support_ascends k (x ∷ xs) =
+    let rest : Ascends (k + 1) (k + suc (length xs)) (support_from (k + 1) xs) =
+    subst (λ n. Ascends (k + 1) n (support_from (k + 1) xs)) (let e : k + 1 + length xs ≡ k + suc (length xs) = omega arith in e) (support_ascends (k + 1) xs) in
+    elim (cases_eq x 0) [
+      | inl e ↦ rw (support_zero k x xs e) (lower k (k + suc (length xs)) (support_from (k + 1) xs) rest)
+      | inr d ↦ rw (support_some k x xs (omega arith)) (omega arith, omega arith, rest)
+    ]
+  where
+    lower : (k n : ℕ) (cs : List ℕ) → Ascends (k + 1) n cs → Ascends k n cs
+    lower k n [] a = tt
+    lower k n (c ∷ cs) a = (omega (arith, a.0), a.1, a.2)
+
+-- as many nonzero entries as columns of them
+support_long : (k : ℕ) (v : List ℕ) → length (support_from k v) ≡ length (nonzeros v)
+support_long k [] = refl
+support_long k (x ∷ xs) =
+    elim (cases_eq x 0) [
+      | inl e ↦ ap length (support_zero k x xs e) ∙ support_long (k + 1) xs ∙ sym (ap length (nonzeros_zero x xs e))
+      | inr d ↦
+          let p : 0 < x = omega arith in
+          ap length (support_some k x xs p) ∙ ap suc (support_long (k + 1) xs) ∙ sym (ap length (nonzeros_some x xs p))
+    ]
+
+-- they are positive residues
+nonzeros_values : (p : ℕ) (v : List ℕ) → ((j : ℕ) → j < length v → slice_index v j < p) → AreValues p (nonzeros v)
+nonzeros_values p [] h = tt
+nonzeros_values p (x ∷ xs) h =
+    let rest : AreValues p (nonzeros xs) = nonzeros_values p xs (λ j l. h (suc j) (omega arith)) in
+    elim (cases_eq x 0) [
+      | inl e ↦ rw (nonzeros_zero x xs e) rest
+      | inr d ↦ rw (nonzeros_some x xs (omega arith)) (omega arith, h 0 (omega arith), rest)
+    ]
+
+-- the entries of a row behind its first entry, by its support
+entry_rest : (k : ℕ) (xs : List ℕ) → ((i : ℕ) → entry_at (support_from (k + 1) xs) (nonzeros xs) (k + 1 + i) ≡ slice_index xs i) →
+    (i : ℕ) → entry_at (support_from (k + 1) xs) (nonzeros xs) (k + suc i) ≡ slice_index xs i
+entry_rest k xs h i = ap (entry_at (support_from (k + 1) xs) (nonzeros xs)) (let e : k + suc i ≡ k + 1 + i = omega arith in e) ∙ h i
+
+entry_zero : (k x : ℕ) (xs : List ℕ) → ((i : ℕ) → entry_at (support_from (k + 1) xs) (nonzeros xs) (k + 1 + i) ≡ slice_index xs i) → x ≡ 0 →
+    (j : ℕ) → entry_at (support_from (k + 1) xs) (nonzeros xs) (k + j) ≡ slice_index (x ∷ xs) j
+entry_zero k x xs h e zero = entry_before (k + 1) (k + 1 + length xs) (support_from (k + 1) xs) (nonzeros xs) (k + zero) (omega arith) (support_ascends (k + 1) xs) ∙ sym e
+entry_zero k x xs h e (suc i) = entry_rest k xs h i
+
+entry_some : (k x : ℕ) (xs : List ℕ) → ((i : ℕ) → entry_at (support_from (k + 1) xs) (nonzeros xs) (k + 1 + i) ≡ slice_index xs i) →
+    (j : ℕ) → entry_at (k ∷ support_from (k + 1) xs) (x ∷ nonzeros xs) (k + j) ≡ slice_index (x ∷ xs) j
+entry_some k x xs h zero =
+    ap (entry_at (k ∷ support_from (k + 1) xs) (x ∷ nonzeros xs)) (let e : k + zero ≡ k = omega arith in e) ∙ entry_head k (support_from (k + 1) xs) x (nonzeros xs)
+entry_some k x xs h (suc i) = entry_tail k (support_from (k + 1) xs) x (nonzeros xs) (k + suc i) (λ e. omega arith) ∙ entry_rest k xs h i
+
+-- the entries of a plain row by its support
+entry_from : (k : ℕ) (v : List ℕ) (j : ℕ) → entry_at (support_from k v) (nonzeros v) (k + j) ≡ slice_index v j
+entry_from k [] j = refl
+entry_from k (x ∷ xs) j =
+    elim (cases_eq x 0) [
+      | inl e ↦ ap₂ (λ cs vs. entry_at cs vs (k + j)) (support_zero k x xs e) (nonzeros_zero x xs e) ∙ entry_zero k x xs (entry_from (k + 1) xs) e j
+      | inr d ↦ ap₂ (λ cs vs. entry_at cs vs (k + j)) (support_some k x xs (omega arith)) (nonzeros_some x xs (omega arith)) ∙ entry_some k x xs (entry_from (k + 1) xs) j
+    ]
+
+pub entry_support : (v : List ℕ) (j : ℕ) → entry_at (support v) (nonzeros v) j ≡ slice_index v j
+entry_support v j = ap (entry_at (support v) (nonzeros v)) (let e : j ≡ 0 + j = omega arith in e) ∙ entry_from 0 v j
+
+-- the support and the nonzero entries of a plain row are its columns and values
+pub support_sparse : {p n : ℕ} {v : List ℕ} → IsVector p n v → IsSparse p n (support v) (nonzeros v)
+support_sparse {p} {n} {v} h =
+    sparse p n (support v) (nonzeros v) (support_long 0 v)
+    (subst (λ t. Ascends 0 t (support v)) (omega (arith, h.len)) (support_ascends 0 v))
+    (nonzeros_values p v (λ j l. h.residues j (omega (arith, h.len))))
+
+pub spread_support : (n : ℕ) (v : List ℕ) → length v ≡ n → spread n (support v) (nonzeros v) ≡ v
+spread_support n v e = list_equal n _ v (length_spread n _ _) e (λ j l. at_spread n _ _ j l ∙ entry_support v j)
+
+-- a sum over a row is the sum over its support
+pub sum_over_support : {p n : ℕ} {v : List ℕ} → IsVector p n v → (x : ℕ → ℕ) →
+    sum_below n (λ j. slice_index v j * x j) ≡ sum_below (length (support v)) (λ k. slice_index (nonzeros v) k * x (slice_index (support v) k))
+sum_over_support {p} {n} {v} h x =
+    let s : IsSparse p n (support v) (nonzeros v) = support_sparse h in
+    sum_support n (length (support v)) (λ j. slice_index v j * x j) (slice_index (support v)) s.below s.rising
+    (λ j l. elim (entry_cover (support v) (nonzeros v) j) [
+      | inl z ↦ inl (ap (λ a. a * x j) (sym (entry_support v j) ∙ z) ∙ zero-mul (x j))
+      | inr w ↦ inr w
+    ])
+    ∙ sum_equal (length (support v)) _ _ (λ k l. ap (λ a. a * x (slice_index (support v) k)) (sym (entry_support v (slice_index (support v) k)) ∙ entry_here (support v) (nonzeros v) s.long s.rising k l))
