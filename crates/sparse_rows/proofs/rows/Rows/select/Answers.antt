@@ -1,5 +1,6 @@
 use Rattle.std.proofs.Common.{ℕ, ◌≡◌, ◌<◌, ◌∙◌, ap, ap₂, arith, get_or, length, subst, sym, take}
 use Rattle.std.proofs.lemmas.List.{take_more}
+use Rattle.std.proofs.lemmas.List.Elements.{All-get_or}
 use Rattle.residue_words.specs.Matrix.{IsMatrix, row}
 use Rattle.sparse_rows.specs.Rows.{ResidueMatrix, selected}
 use Rattle.sparse_rows.specs.Stored.{spread, with_row}
@@ -13,7 +14,7 @@ loop-i-preserved c =
     let A : ResidueMatrix = c.args.self.now in
     let i : ℕ = get_or c.args.rows.now c.loop-i.i-index 0 in
     let sound : IsMatrix A.modulus A.matrix = subst (λ (m : ResidueMatrix). IsMatrix m.modulus m.matrix) c.self.view_is (stored_sound c.self.invariant) in
-    let low : i < A.matrix.height = ? in
+    let low : i < A.matrix.height = All-get_or (λ k. k < A.matrix.height) c.args.rows.now c.loop-i.i-index 0 c.loop-i-test.true c.requires.inside in
     let width : c.loop-i.made.matrix.width ≡ A.matrix.width = ap (λ m. m.width) c.loop-i.invariant.matrix in
     let new : spread c.loop-i.made.matrix.width c.cols.result.now c.vals.result.now ≡ row A.matrix i =
     rw (c.cols.ensures.support, c.vals.ensures.values, width) (spread_support A.matrix.width (row A.matrix i) (sound.each i low).len) in
