@@ -1,5 +1,5 @@
 -- What the loops keep, and how it grows.
-use Rattle.std.proofs.Common.{ℕ, suc, ◌≡◌, ◌≢◌, ◌+◌, ◌<◌, ◌⊎◌, inl, inr, List, [], ◌∷◌, ◌++◌, length, map, take, cond, eqb, slice_index, slice_set, sym, refl, ap, ap₂, ◌∙◌, arith}
+use Rattle.std.proofs.Common.{ℕ, suc, ◌≡◌, ◌≢◌, ◌+◌, ◌*◌, ◌%◌, ◌<◌, ◌⊎◌, inl, inr, List, [], ◌∷◌, ◌++◌, length, map, take, cond, eqb, slice_index, slice_set, sym, refl, ap, ap₂, ◌∙◌, arith}
 use Rattle.std.specs.List.{range_with_len}
 use Rattle.std.specs.Prelude.{◌==◌, if◌then◌else◌}
 use Rattle.std.proofs.lemmas.Bool.{cases_eq, cond-true, cond-false, eq-eqb, ne_eqb}
@@ -7,7 +7,13 @@ use Rattle.std.proofs.lemmas.List.{get_or-set_other, get_or-set_same, length-set
 use Rattle.std.proofs.lemmas.List.FromFn.{map-range_with_len_more}
 use Rattle.residue_words.specs.Matrix.{Matrix, list_of, row, zeros}
 use Rattle.residue_words.proofs.Vectors.{at_list_of, at_zeros, length_list_of, list_equal}
-use Rattle.sparse_rows.specs.Rows.{ResidueMatrix, ResidueRow, identity, matrix_by, selected}
+use Rattle.residue_words.specs.Residues.{sum_below}
+use Rattle.residue_words.specs.Matrix.{IsMatrix, IsVector, entry}
+use Rattle.residue_words.proofs.Residues.{add_same}
+use Rattle.residue_words.proofs.Sums.{sum_more, sum_none}
+use native.Mathlib.Nat.{mod-mod, zero-mod}
+use Rattle.sparse_rows.proofs.Spread.{sum_over_support}
+use Rattle.sparse_rows.specs.Rows.{ResidueMatrix, ResidueRow, identity, matrix_by, nonzeros, selected, support}
 use Rattle.sparse_rows.specs.Stored.{with_row}
 
 -- the matrix of this size with these rows
@@ -52,3 +58,28 @@ pub record IsIdentitySoFar (p n i : ℕ) (rows : ResidueMatrix) (row : ResidueRo
 pub record IsSelectionSoFar (from : ResidueMatrix) (named : List ℕ) (made : ResidueMatrix) : Type 0 where
   pub modulus : made.modulus ≡ from.modulus
   pub matrix : made.matrix ≡ selected from.matrix named
+
+-- the first n terms of the product of a stored row with a column
+unfoldable pub sparse_dot : List ℕ → List ℕ → List ℕ → ℕ → ℕ
+sparse_dot cs vs x n = sum_below n (λ t. slice_index vs t * slice_index x (slice_index cs t))
+
+pub sparse_dot_none : (p : ℕ) (cs vs x : List ℕ) → 0 ≡ sparse_dot cs vs x 0 % p
+unfolding sparse_dot
+sparse_dot_none p cs vs x = sym (ap (λ t. t % p) (sum_none _) ∙ zero-mod p)
+
+-- a term more
+pub sparse_dot_more : (p : ℕ) (cs vs x : List ℕ) (n sum product next : ℕ) → sum ≡ sparse_dot cs vs x n % p → product ≡ (slice_index vs n * slice_index x (slice_index cs n)) % p →
+    next ≡ (sum + product) % p → next ≡ sparse_dot cs vs x (n + 1) % p
+unfolding sparse_dot
+sparse_dot_more p cs vs x n sum product next a b c =
+    let term : ℕ → ℕ = λ t. slice_index vs t * slice_index x (slice_index cs t) in
+    c ∙ add_same p sum (sum_below n term) product (term n) (ap (λ t. t % p) a ∙ mod-mod _ p) (ap (λ t. t % p) b ∙ mod-mod _ p) ∙ ap (λ t. t % p) (sym (sum_more n term))
+
+-- all terms
+pub sparse_dot_all : {p n : ℕ} {v : List ℕ} → IsVector p n v → (x : List ℕ) → sparse_dot (support v) (nonzeros v) x (length (support v)) ≡ sum_below n (λ j. slice_index v j * slice_index x j)
+unfolding sparse_dot
+sparse_dot_all h x = sym (sum_over_support h (slice_index x))
+
+-- the entry at i of the product of a matrix with a column
+abbrev pub product_entry : ResidueMatrix → List ℕ → ℕ → ℕ
+product_entry m x i = sum_below m.matrix.width (λ j. entry m.matrix i j * slice_index x j) % m.modulus

@@ -1,7 +1,7 @@
-use Rattle.std.proofs.Common.{◌≡◌, ◌*◌, ◌%◌, slice_index}
-use Rattle.residue_words.specs.Matrix.{entry, list_of}
-use Rattle.residue_words.specs.Residues.{sum_below}
+use Rattle.std.proofs.Common.{◌≡◌}
+use Rattle.residue_words.specs.Matrix.{list_of}
+use Rattle.sparse_rows.proofs.Loops.{product_entry}
 use Rattle.sparse_rows.proofs.rows.Rows.times.Given as goal
 
 abbrev pub invariant-loop-i : goal.invariant-loop-i
-invariant-loop-i l = l.y.items ≡ list_of l.i (λ i. sum_below l.self.matrix.width (λ j. entry l.self.matrix i j * slice_index l.x j) % l.self.modulus)
+invariant-loop-i l = l.y.items ≡ list_of l.i (product_entry l.fn.self l.fn.x)
