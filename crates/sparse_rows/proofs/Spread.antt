@@ -210,6 +210,10 @@ entry_cover (c ∷ cs) (v ∷ vs) j =
       ]
     ]
 
+-- at and behind what bounds the stored columns the row is 0
+pub entry_beyond : (cs vs : List ℕ) (b j : ℕ) → ((k : ℕ) → k < length cs → slice_index cs k < b) → b ≤ j → entry_at cs vs j ≡ 0
+entry_beyond cs vs b j below l = elim (entry_cover cs vs j) [ inl z ↦ z | inr w ↦ absurd (omega (arith, below w.0 w.1, w.2)) ]
+
 -- where a row is 0 from j on, its stored columns are below j
 pub narrow : {p n : ℕ} {cs vs : List ℕ} → IsSparse p n cs vs → (j : ℕ) → ((k : ℕ) → j ≤ k → k < n → slice_index (spread n cs vs) k ≡ 0) → IsSparse p j cs vs
 narrow {p} {n} {cs} {vs} s j zero_from = record {
@@ -261,14 +265,14 @@ sparse_push {p} {j} {cs} {vs} s v low high =
     }
 
 -- the entries with one more behind the others
-entry_push_other : (cs vs : List ℕ) (j v i : ℕ) → length cs ≡ length vs → j ≢ i → entry_at (cs ++ j ∷ []) (vs ++ v ∷ []) i ≡ entry_at cs vs i
+pub entry_push_other : (cs vs : List ℕ) (j v i : ℕ) → length cs ≡ length vs → j ≢ i → entry_at (cs ++ j ∷ []) (vs ++ v ∷ []) i ≡ entry_at cs vs i
 entry_push_other [] [] j v i e d = entry_tail j [] v [] i d
 entry_push_other [] (w ∷ vs) j v i e d = absurd (omega arith)
 entry_push_other (c ∷ cs) [] j v i e d = absurd (omega arith)
 entry_push_other (c ∷ cs) (w ∷ vs) j v i e d =
     ap (cond (eqb c i) w) (entry_push_other cs vs j v i (omega arith) d)
 
-entry_push_same : (cs vs : List ℕ) (j v : ℕ) → length cs ≡ length vs → ((k : ℕ) → k < length cs → slice_index cs k < j) → entry_at (cs ++ j ∷ []) (vs ++ v ∷ []) j ≡ v
+pub entry_push_same : (cs vs : List ℕ) (j v : ℕ) → length cs ≡ length vs → ((k : ℕ) → k < length cs → slice_index cs k < j) → entry_at (cs ++ j ∷ []) (vs ++ v ∷ []) j ≡ v
 entry_push_same [] [] j v e below = entry_head j [] v []
 entry_push_same [] (w ∷ vs) j v e below = absurd (omega arith)
 entry_push_same (c ∷ cs) [] j v e below = absurd (omega arith)

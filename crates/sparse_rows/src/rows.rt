@@ -183,7 +183,7 @@ impl Rows {
         ensures matrix { IfOk result (λ rows. rows.matrix ≡ beside self.now.matrix right.now.matrix) }
     {
         let width = self.width + right.width;
-        let entries = (self.entries() + right.entries()) as usize;
+        let entries = self.cols.len().saturating_add(right.cols.len());
         let mut rows = Rows::with_room(alloc, self.modulus, width, self.height(), entries)?;
         let mut row = Sparse::new(alloc, width, self.modulus);
         for i in 0..self.height() {
@@ -260,6 +260,8 @@ impl Rows {
         requires row { i < self.now.matrix.height }
         requires modulus { to.old.modulus ≡ self.now.modulus }
         requires width { by + self.now.matrix.width ≤ length to.old.row }
+        requires narrow { by + self.now.matrix.width ≤ 2147483648 }
+        requires sound { IsMatrix self.now.modulus self.now.matrix }
         requires behind { (j : ℕ) → by ≤ j → j < length to.old.row → slice_index to.old.row j ≡ 0 }
         ensures modulus { to.new.modulus ≡ to.old.modulus }
         ensures length { length to.new.row ≡ length to.old.row }
