@@ -1,3 +1,4 @@
+pub mod Grouping
 pub mod Loops
 pub mod Stored
 pub mod Spread
