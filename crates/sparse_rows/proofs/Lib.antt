@@ -2,3 +2,4 @@ pub mod Grouping
 pub mod Loops
 pub mod Stored
 pub mod Spread
+pub mod Transposed

@@ -30,7 +30,7 @@ entry_head : (c : ℕ) (cs : List ℕ) (v : ℕ) (vs : List ℕ) → entry_at (c
 entry_head c cs v vs = cond-true (eqb c c) v (entry_at cs vs c) (eq-eqb c c refl)
 
 -- at another column the first does not count
-entry_tail : (c : ℕ) (cs : List ℕ) (v : ℕ) (vs : List ℕ) (j : ℕ) → c ≢ j → entry_at (c ∷ cs) (v ∷ vs) j ≡ entry_at cs vs j
+pub entry_tail : (c : ℕ) (cs : List ℕ) (v : ℕ) (vs : List ℕ) (j : ℕ) → c ≢ j → entry_at (c ∷ cs) (v ∷ vs) j ≡ entry_at cs vs j
 entry_tail c cs v vs j d = cond-false (eqb c j) v (entry_at cs vs j) (ne_eqb c j d)
 
 -- before the first stored column the row is 0
@@ -137,7 +137,7 @@ sparse p n cs vs e a b = record {
   residues = values_residues p vs b;
 }
 
-columns_ascend : {p n : ℕ} {cs vs : List ℕ} → IsSparse p n cs vs → Ascends 0 n cs
+pub columns_ascend : {p n : ℕ} {cs vs : List ℕ} → IsSparse p n cs vs → Ascends 0 n cs
 columns_ascend {p} {n} {cs} {vs} s = ascends 0 n cs (λ t l. omega arith) s.below s.rising
 
 values_within : {p n : ℕ} {cs vs : List ℕ} → IsSparse p n cs vs → AreValues p vs

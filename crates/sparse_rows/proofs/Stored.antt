@@ -86,7 +86,7 @@ height_more : (starts : List ℕ) (e : ℕ) → length (starts ++ e ∷ []) - 1 
 height_more starts e = omega (arith, length_push starts e)
 
 -- the parts of the values
-value_parts : {p n : ℕ} {starts cs vs : List ℕ} → IsStored p n starts cs vs → AreStarts (length starts - 1) (length vs) starts
+pub value_parts : {p n : ℕ} {starts cs vs : List ℕ} → IsStored p n starts cs vs → AreStarts (length starts - 1) (length vs) starts
 value_parts {p} {n} {starts} {cs} {vs} s = subst (λ t. AreStarts (length starts - 1) t starts) s.long s.parts
 
 module _ (p n : ℕ) (starts cs vs : List ℕ) (stored : IsStored p n starts cs vs) (cs' vs' : List ℕ) (row_stored : IsSparse p n cs' vs') where

@@ -6,7 +6,7 @@ ghost use Rattle.sparse_rows.specs.Rows.{beside, entry_count, identity, nonzeros
 ghost use Rattle.sparse_rows.specs.Stored.{IsSparse, spread, with_row};
 
 use crate::group::group;
-use crate::parts::part;
+use crate::parts::{part, part_numbers};
 use crate::sparse::Sparse;
 use residue_words::Modulus;
 use std::alloc::{AllocError, Global};
@@ -163,7 +163,7 @@ impl Rows {
         ensures modulus { IfOk result (λ rows. rows.modulus ≡ self.now.modulus) }
         ensures matrix { IfOk result (λ rows. rows.matrix ≡ transposed self.now.matrix) }
     {
-        let rows = self.rows_of_entries(alloc)?;
+        let rows = part_numbers(alloc, &self.starts)?;
         let grouped = group(alloc, self.width, &self.cols, &rows, &self.vals)?;
         Ok(Rows {
             modulus: self.modulus,
@@ -244,15 +244,6 @@ impl Rows {
             sum = sum.saturating_add(self.cols(*i).len());
         }
         sum
-    }
-
-    // The row of each entry.
-    fn rows_of_entries(&self, alloc: Global) -> Result<Vec<u32>, AllocError> {
-        let mut rows = Vec::with_capacity(alloc, self.entries() as usize)?;
-        for i in 0..self.height() {
-            rows.resize(self.starts[i as usize + 1], i)?;
-        }
-        Ok(rows)
     }
 
     // Sets the entries of `to` from `by` on to those of row i: `to` is 0 there and behind.
