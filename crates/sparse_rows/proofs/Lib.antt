@@ -1,0 +1,5 @@
+pub mod Grouping
+pub mod Loops
+pub mod Stored
+pub mod Spread
+pub mod Transposed
