@@ -1,12 +1,15 @@
 -- What the calls of a reader do: one line that is due, read from the bytes kept and those taken from the source.
-use Rattle.std.specs.Prelude.{◌≡◌, ◌≢◌, ◌<◌, ◌≤◌, ◌+◌, ◌-◌, ◌||◌, nat_lt, Bool, true, false, not, if◌then◌else◌, ℕ, List, [], ◌∷◌, ◌++◌, Option, None, Some, Result, Ok, Err}
+use Rattle.std.specs.Prelude.{◌≡◌, ◌≢◌, ◌<◌, ◌≤◌, ◌+◌, ◌-◌, ◌||◌, nat_lt, Bool, true, false, not, if◌then◌else◌, ℕ, List, [], ◌∷◌, ◌++◌, Option, None, Some, Result, Ok, Err, ◌⊎◌}
+use Rattle.sms_text.specs.declared.reader.Entry.{Entry}
+use Rattle.sms_text.specs.declared.reader.Head.{Head}
 use Rattle.sms_text.specs.declared.kind.Kind.{Kind}
 use Rattle.sms_text.specs.declared.kind.Kind.TheVariants as kind
 use Rattle.sms_text.specs.declared.kind.TextError.{TextError}
 use Rattle.sms_text.specs.declared.kind.TextError.TheVariants as error
 use Rattle.sms_text.specs.Lines.{Line, lines, size, content, words, is_void}
+use Rattle.sms_text.specs.Numbers.{is_value, divides_by_zero, value_modulo}
 use Rattle.sms_text.specs.Outside.{before, IsSpent, Rose}
-use Rattle.sms_text.specs.Text.{Due, Item, Judged, judge, end_kind}
+use Rattle.sms_text.specs.Text.{Due, Header, Body, Item, Sizes, Value, Closing, Judged, judge, end_kind}
 
 -- the bytes taken and not used, how many bytes lines may still take, the number of the next line, whether the end came,
 -- the error that is answered from now on, and the sizes of the text that is open
@@ -86,3 +89,62 @@ LineDid p due old new told told' f g result = elim old.error [
   | None ↦ Takes p due old new told told' f g result
   | Some e ↦ Repeats old new told told' f g result e
 ]
+
+-- what a header says; what an entry or the closing line of a text of these sizes says
+abbrev pub header_judged : {E : Type 0} → Result Head E → Result Judged E
+header_judged (Ok h) = Ok (record { item = Sizes h.m h.n; due = Body h.m h.n ∷ [] })
+header_judged (Err e) = Err e
+
+abbrev pub entry_judged : {E : Type 0} → Head → Result (Option Entry) E → Result Judged E
+entry_judged h (Ok (Some e)) = Ok (record { item = Value e.i e.j e.v; due = Body h.m h.n ∷ [] })
+entry_judged h (Ok None) = Ok (record { item = Closing; due = [] })
+entry_judged h (Err e) = Err e
+
+-- an entry lies inside the sizes and its value is a residue
+pub record IsInside (h : Head) (p : ℕ) (e : Entry) : Type 0 where
+  pub row : e.i < h.m
+  pub column : e.j < h.n
+  pub residue : e.v < p
+
+-- after an entry the text stays open; after its end it is not
+abbrev pub LeavesOpen : Head → ℕ → ReaderState → Option Entry → Type 0
+LeavesOpen h p new (Some e) = (new.open_text ≡ Some (h.m, h.n)) × IsInside h p e
+LeavesOpen h p new None = new.open_text ≡ None
+
+-- a line of words: its number and its words
+pub record WordLine : Type 0 where
+  pub number : ℕ
+  pub words : List (List ℕ)
+
+-- why no line of words is answered
+abbrev pub HasReason : TextError → Next → ℕ → ℕ → Type 0
+HasReason (error.Bad line k) read f g = ((read ≡ TooLong line) × (k ≡ kind.Long)) ⊎ ((read ≡ Missing line) × (k ≡ kind.NoEnd))
+HasReason error.Read read f g = (read ≡ Unknown) × Rose f g
+HasReason error.Memory read f g = Unit {0}
+
+-- Of a call that was to take a line of words: as above, for the next line that isn't void.
+abbrev pub TakesWords : ReaderState → ReaderState → Option (List ℕ) → Option (List ℕ) → ℕ → ℕ → Result WordLine TextError → Type 0
+TakesWords old new told told' f g (Ok line) = (taken : List ℕ) × Moves old.ended new.ended taken told told' × (new.error ≡ None)
+    × (new.number ≡ line.number + 1)
+    × ((ended : Bool) (more : List ℕ) → MayFollow new.ended ended more →
+    next ended old.room old.number (lines (old.kept ++ taken ++ more)) ≡ Filled line.number line.words new.room (lines (new.kept ++ more)))
+TakesWords old new told told' f g (Err e) = (taken : List ℕ) × Moves old.ended new.ended taken told told' × (new.error ≡ Some e)
+    × HasReason e (next new.ended old.room old.number (lines (old.kept ++ taken))) f g
+
+abbrev pub WordsDid : ReaderState → ReaderState → Option (List ℕ) → Option (List ℕ) → ℕ → ℕ → Result WordLine TextError → Type 0
+WordsDid old new told told' f g result = elim old.error [
+  | None ↦ TakesWords old new told told' f g result
+  | Some e ↦ Repeats old new told told' f g result e
+]
+
+-- the kinds that the reader of words finds
+abbrev pub is_of_words : Kind → Bool
+is_of_words kind.Certificate = true
+is_of_words kind.Trace = true
+is_of_words kind.Script = true
+is_of_words _ = false
+
+-- the residue of a word as an entry's value: none where the word isn't a value's spelling, or its divisor is 0 modulo p
+abbrev pub ValueOf : ℕ → List ℕ → Option ℕ → Type 0
+ValueOf p w None = (is_value w ≡ false) ⊎ (divides_by_zero p w ≡ true)
+ValueOf p w (Some v) = (is_value w ≡ true) × (divides_by_zero p w ≡ false) × (v ≡ value_modulo p w) × (v < p)
