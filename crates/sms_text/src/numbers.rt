@@ -5,16 +5,14 @@ ghost use Rattle.sms_text.specs.Numbers.{is_number, is_digit, is_letter, value, 
 ghost use Rattle.sms_text.specs.Text.{is_one_letter};
 ghost use Rattle.sms_text.specs.Spelling.{DigitsOf, SignedOf, SplitWord, SplitSlash, ThreeWords, SpelledAs, is_start};
 
-use residue_words::Modulus;
+use residue_words::{Fold, Modulus};
 use std::alloc::{AllocError, Global};
 
 // Above every size and index that is allowed: numbers from here on need not be told apart.
 const CAP: u64 = 0x1_0000_0000;
 
-// A number below this may grow by one digit within 64 bits.
-const ROOM: u64 = 0x1000_0000_0000_0000;
-
 /// The three words of a line.
+#[derive(Clone, Copy)]
 pub struct Three<'a> {
     pub first: &'a [u8],
     pub second: &'a [u8],
@@ -139,34 +137,20 @@ pub fn capped(word: &[u8]) -> Option<u64>
 }
 
 // The number that a word of any length spells, modulo p. `None` if the word isn't all digits.
-fn digits(word: &[u8], p: &Modulus) -> Option<Digits>
+fn fold_digits(word: &[u8], p: &Modulus) -> Option<Digits>
     ensures { DigitsOf p.now word.now result }
 {
     if word.is_empty() {
         return None;
     }
-    let p = p.p();
-    let mut number = 0u64;
-    let mut zero = true;
+    let mut fold = Fold::new(p);
     for b in word {
         if !is_digit(*b) {
             return None;
         }
-        let digit = u64::from(*b - 48);
-        number = 10 * lower(number, p) + digit;
-        zero = zero && digit == 0;
+        fold.push_digit(*b - 48);
     }
-    Some(Digits { residue: number % p, zero })
-}
-
-// A number of the same residue that may grow by a digit.
-fn lower(number: u64, p: u64) -> u64
-    requires two_or_more { 2 ≤ p }
-    requires in_range { p < 2 ^ 48 }
-    ensures same { result % p ≡ number % p }
-    ensures small { result < 2 ^ 60 }
-{
-    if number < ROOM { number } else { number % p }
+    Some(Digits { residue: fold.value(), zero: fold.is_zero_integer() })
 }
 
 // The number that a word with or without a sign spells, modulo p.
@@ -178,10 +162,10 @@ fn signed(word: &[u8], p: &Modulus) -> Option<Digits>
     }
     let first = word[0];
     if first != 45 && first != 43 {
-        return digits(word, p);
+        return fold_digits(word, p);
     }
     let (_, rest) = word.split_at(1);
-    let number = digits(rest, p)?;
+    let number = fold_digits(rest, p)?;
     if first == 45 {
         Some(Digits { residue: p.neg(number.residue), zero: number.zero })
     } else {
@@ -214,7 +198,7 @@ pub fn value_word(word: &[u8], p: &Modulus) -> Option<Spelled>
     let Some(back) = back else {
         return Some(Spelled { residue: top.residue, zero: top.zero, no_divisor: false });
     };
-    let bottom = digits(back, p)?;
+    let bottom = fold_digits(back, p)?;
     if bottom.residue == 0 {
         return Some(Spelled { residue: 0, zero: false, no_divisor: true });
     }

@@ -3,7 +3,7 @@ ghost use Rattle.std.specs.Prelude.{◌≡◌, ◌≢◌, ◌<◌, ◌≤◌, �
 ghost use Rattle.sms_text.specs.Lines.{lines, content, words};
 ghost use Rattle.sms_text.specs.Text.{Header, Body};
 ghost use Rattle.sms_text.specs.Reading.{Unfinished, Unknown, header_judged, entry_judged, next, one};
-ghost use Rattle.sms_text.specs.Feeding.{FetchDid, NextDid, TakeDid, TakeWordsDid, SaysInside, step};
+ghost use Rattle.sms_text.specs.Feeding.{FetchDid, NextDid, TakeDid, TakeWordsDid, SaysInside, error_of, step};
 
 use crate::buffer::Buffer;
 use crate::kind::{Kind, TextError};
@@ -91,34 +91,39 @@ impl Feed {
         }
     }
 
-    // The bytes of the line of this length, without a byte 13 at their end.
-    fn line(&self, length: usize) -> &[u8]
-        requires { length ≤ length self.now.buffer }
-        ensures { result.now ≡ content (take length self.now.buffer) }
+    // The bytes of a line, `count` of them, without a byte 13 at their end.
+    fn line(&self, count: usize) -> &[u8]
+        requires { count ≤ length self.now.buffer }
+        ensures { result.now ≡ content (take count self.now.buffer) }
     {
-        let (line, _) = self.buffer.bytes().split_at(length);
+        let (line, _) = self.buffer.bytes().split_at(count);
         content(line)
     }
 
-    // Passes the line of this length, and its byte 10.
-    fn pass(&mut self, length: usize)
-        requires within { length ≤ length self.old.buffer }
-        requires fits { step length self.old.buffer ≤ self.old.room }
+    // Passes a line of `count` bytes, and its byte 10.
+    fn pass(&mut self, count: usize)
+        requires within { count ≤ length self.old.buffer }
+        requires fits { step count self.old.buffer ≤ self.old.room }
         requires bounded { self.old.room + self.old.number ≤ 1099511627777 }
-        requires some { 0 < step length self.old.buffer }
-        ensures buffer { self.new.buffer ≡ drop (step length self.old.buffer) self.old.buffer }
-        ensures room { self.new.room ≡ self.old.room - step length self.old.buffer }
+        requires some { 0 < step count self.old.buffer }
+        ensures buffer { self.new.buffer ≡ drop (step count self.old.buffer) self.old.buffer }
+        ensures room { self.new.room ≡ self.old.room - step count self.old.buffer }
         ensures number { self.new.number ≡ self.old.number + 1 }
         ensures ended { self.new.ended ≡ self.old.ended }
     {
-        let step = if length < self.buffer.bytes().len() { length + 1 } else { length };
+        let step = if count < self.buffer.bytes().len() { count + 1 } else { count };
         self.buffer.skip(step);
         self.room -= step as u64;
         self.number += 1;
     }
 
     // The length of the next line that isn't void.
-    fn next_line<S: Source>(&mut self, source: &mut S) -> Result<usize, Stop> {
+    fn next_line<S: Source>(&mut self, source: &mut S) -> Result<usize, Stop>
+        requires { self.old.room + self.old.number ≤ 1099511627777 }
+        ensures did { NextDid self.old self.new (S.told source.old) (S.told source.new) (S.faults source.old) (S.faults source.new) result }
+        ensures count { S.faults source.old ≤ S.faults source.new }
+        ensures lazy { next self.old.ended self.old.room self.old.number (lines self.old.buffer) ≢ Unknown → source.new ≡ source.old }
+    {
         loop {
             let length = self.fetch(source)?;
             if !is_void(self.line(length)) {
@@ -129,7 +134,14 @@ impl Feed {
     }
 
     /// Takes the line that is due as a header.
-    pub fn take_header<S: Source>(&mut self, source: &mut S) -> Result<Head, TextError> {
+    pub fn take_header<S: Source>(&mut self, source: &mut S) -> Result<Head, TextError>
+        requires { self.old.room + self.old.number ≤ 1099511627777 }
+        ensures did { (p : ℕ) → TakeDid p Header self.old self.new (S.told source.old) (S.told source.new) (S.faults source.old) (S.faults source.new) result (header_judged result) }
+        ensures sizes { IfOk result (λ h. (h.m ≤ 2147483647) × (h.n ≤ 2147483647)) }
+        ensures count { S.faults source.old ≤ S.faults source.new }
+        ensures lazy { next self.old.ended self.old.room self.old.number (lines self.old.buffer) ≢ Unknown → source.new ≡ source.old }
+        ensures bounded { self.new.room + self.new.number ≤ 1099511627777 }
+    {
         let length = match self.next_line(source) {
             Ok(length) => length,
             Err(stop) => return Err(stop.error(self.number, Kind::NoHeader)),
@@ -144,7 +156,14 @@ impl Feed {
     }
 
     /// Takes the line that is due as an entry or the closing line of a text with this head.
-    pub fn take_entry<S: Source>(&mut self, source: &mut S, head: &Head, p: &Modulus) -> Result<Option<Entry>, TextError> {
+    pub fn take_entry<S: Source>(&mut self, source: &mut S, head: &Head, p: &Modulus) -> Result<Option<Entry>, TextError>
+        requires { self.old.room + self.old.number ≤ 1099511627777 }
+        ensures did { TakeDid p.now (Body head.now.m head.now.n) self.old self.new (S.told source.old) (S.told source.new) (S.faults source.old) (S.faults source.new) result (entry_judged head.now result) }
+        ensures inside { IfOk result (SaysInside head.now p.now) }
+        ensures count { S.faults source.old ≤ S.faults source.new }
+        ensures lazy { next self.old.ended self.old.room self.old.number (lines self.old.buffer) ≢ Unknown → source.new ≡ source.old }
+        ensures bounded { self.new.room + self.new.number ≤ 1099511627777 }
+    {
         let length = match self.next_line(source) {
             Ok(length) => length,
             Err(stop) => return Err(stop.error(self.number, Kind::NoEnd)),
@@ -159,7 +178,13 @@ impl Feed {
     }
 
     /// Takes the next line as words.
-    pub fn take_words<S: Source>(&mut self, source: &mut S) -> Result<Line, TextError> {
+    pub fn take_words<S: Source>(&mut self, source: &mut S) -> Result<Line, TextError>
+        requires { self.old.room + self.old.number ≤ 1099511627777 }
+        ensures did { TakeWordsDid self.old self.new (S.told source.old) (S.told source.new) (S.faults source.old) (S.faults source.new) result }
+        ensures count { S.faults source.old ≤ S.faults source.new }
+        ensures lazy { next self.old.ended self.old.room self.old.number (lines self.old.buffer) ≢ Unknown → source.new ≡ source.old }
+        ensures bounded { self.new.room + self.new.number ≤ 1099511627777 }
+    {
         let length = match self.next_line(source) {
             Ok(length) => length,
             Err(stop) => return Err(stop.error(self.number, Kind::NoEnd)),
