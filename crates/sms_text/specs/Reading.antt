@@ -9,7 +9,7 @@ use Rattle.sms_text.specs.declared.kind.TextError.TheVariants as error
 use Rattle.sms_text.specs.Lines.{Line, lines, size, content, words, is_void}
 use Rattle.sms_text.specs.Numbers.{is_value, divides_by_zero, value_modulo}
 use Rattle.sms_text.specs.Outside.{before, IsSpent, Rose}
-use Rattle.sms_text.specs.Text.{Due, Header, Body, Item, Sizes, Value, Closing, Judged, judge, end_kind}
+use Rattle.sms_text.specs.Text.{Due, Header, Body, Item, Sizes, Value, Closing, Judged, Reading, Got, Fault, Short, judge, end_kind, read, with_item}
 
 -- the bytes taken and not used, how many bytes lines may still take, the number of the next line, whether the end came,
 -- the error that is answered from now on, and the sizes of the text that is open
@@ -148,3 +148,29 @@ is_of_words _ = false
 abbrev pub ValueOf : ℕ → List ℕ → Option ℕ → Type 0
 ValueOf p w None = (is_value w ≡ false) ⊎ (divides_by_zero p w ≡ true)
 ValueOf p w (Some v) = (is_value w ≡ true) × (divides_by_zero p w ≡ false) × (v ≡ value_modulo p w) × (v < p)
+
+-- these items were read before
+abbrev pub with_items : List Item → Reading → Reading
+with_items [] reading = reading
+with_items (item ∷ items) reading = with_item item (with_items items reading)
+
+-- a result is what the bytes read so far say: the items; or the first fault; or that they end too early, since the source failed
+abbrev pub Says : Result (List Item) TextError → Reading → ℕ → ℕ → Type 0
+Says (Ok items) reading f g = (rest : List Line) × (reading ≡ Got items rest)
+Says (Err (error.Bad line k)) reading f g = reading ≡ Fault line k
+Says (Err error.Read) reading f g = (reading ≡ Short) × Rose f g
+Says (Err error.Memory) reading f g = Unit {0}
+
+-- a whole run over a source: the bytes that it gave and whether it gave its end; and the result is what they say from the start on
+abbrev pub FromStart : ℕ → ℕ → List Due → Result (List Item) TextError → Option (List ℕ) → Option (List ℕ) → ℕ → ℕ → Type 0
+FromStart p limit wanted result told told' f g = (bytes : List ℕ) × ((ended : Bool) × (told ≡ before bytes told') × (ended ≡ true → IsSpent told')
+    × Says result (read p ended limit 1 wanted (lines bytes)) f g)
+
+-- a run so far: the bytes taken, whatever comes behind them, say these items and then what the reader's state says where these lines are due
+pub record RunsTo (p limit : ℕ) (wanted : List Due) (items : List Item) (dues : List Due) (told told' : Option (List ℕ)) (state : ReaderState) : Type 0 where
+  pub taken : List ℕ
+  pub sound : state.error ≡ None
+  pub source : told ≡ before taken told'
+  pub spent : state.ended ≡ true → IsSpent told'
+  pub reads : (ended : Bool) (more : List ℕ) → MayFollow state.ended ended more →
+      read p ended limit 1 wanted (lines (taken ++ more)) ≡ with_items items (read p ended state.room state.number dues (lines (state.kept ++ more)))
