@@ -1,2 +1,5 @@
+pub mod Feeding
+pub mod Lining
 pub mod Moving
 pub mod Runs
+pub mod Words

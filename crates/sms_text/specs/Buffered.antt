@@ -1,13 +1,13 @@
 -- The bytes taken and not yet used.
 use Rattle.std.specs.Prelude.{◌≡◌, ◌<◌, ◌≤◌, ◌+◌, ◌==◌, if◌then◌else◌, ℕ, List, [], ◌∷◌, ◌++◌, length, take, drop, Option, Result, Ok, Err}
+use Rattle.std.specs.List.{position_or_len}
 use Rattle.sms_text.specs.declared.outside.Pulled.{Pulled}
 use Rattle.sms_text.specs.declared.outside.Pulled.TheVariants as pulled
 use Rattle.sms_text.specs.Outside.{before, IsSpent, Rose, PullDid}
 
 -- how many bytes stand before the first byte 10: all, if there is none
 abbrev pub line_length : List ℕ → ℕ
-line_length [] = 0
-line_length (b ∷ bs) = if b == 10 then 0 else line_length bs + 1
+line_length bytes = position_or_len (λ b. b == 10) bytes
 
 -- no line ends in the first bytes from start on
 abbrev pub IsScanned : List ℕ → ℕ → ℕ → Type 0

@@ -7,10 +7,8 @@ use Rattle.sms_text.specs.declared.numbers.Three.{Three}
 use Rattle.sms_text.specs.Lines.{is_gap, words}
 use Rattle.sms_text.specs.Numbers.{is_number, value, has_slash, numerator, denominator, unsigned, residue, is_value, is_zero, divides_by_zero, value_modulo}
 
--- nothing is left, or a word begins
-abbrev pub is_start : List ℕ → Bool
-is_start [] = true
-is_start (b ∷ bs) = not (is_gap b)
+abbrev pub is_slash : ℕ → Bool
+is_slash b = b == 47
 
 -- the first word, empty if there is none, and what stands behind it
 abbrev pub SplitWord : List ℕ → List ℕ → List ℕ → Type 0

@@ -3,7 +3,8 @@ ghost use Rattle.std.specs.Prelude.{◌≡◌, ◌≢◌, ◌<◌, ◌≤◌, �
 ghost use Rattle.sms_text.specs.Lines.{content, is_gap, words, is_void};
 ghost use Rattle.sms_text.specs.Numbers.{is_number, is_digit, is_letter, value, has_slash, numerator, denominator, unsigned, residue, is_minus};
 ghost use Rattle.sms_text.specs.Text.{is_one_letter};
-ghost use Rattle.sms_text.specs.Spelling.{DigitsOf, SignedOf, SplitWord, SplitSlash, ThreeWords, SpelledAs, is_start};
+ghost use Rattle.sms_text.specs.Spelling.{DigitsOf, SignedOf, SplitWord, SplitSlash, ThreeWords, SpelledAs, is_slash};
+ghost use Rattle.std.specs.List.{prefix_len, position_or_len};
 
 use residue_words::{Fold, Modulus};
 use std::alloc::{AllocError, Global};
@@ -55,12 +56,21 @@ fn is_gap(b: u8) -> bool
 
 // The place of the first byte that is no gap.
 fn word_start(line: &[u8]) -> usize
-    ensures within { result ≤ length line.now }
-    ensures same { words (drop result line.now) ≡ words line.now }
-    ensures at { is_start (drop result line.now) ≡ true }
+    ensures { result ≡ prefix_len is_gap line.now }
 {
     let mut at = 0;
     while at < line.len() && is_gap(line[at]) {
+        at += 1;
+    }
+    at
+}
+
+// The place of the first gap.
+fn word_end(line: &[u8]) -> usize
+    ensures { result ≡ position_or_len is_gap line.now }
+{
+    let mut at = 0;
+    while at < line.len() && !is_gap(line[at]) {
         at += 1;
     }
     at
@@ -71,11 +81,7 @@ fn split_word(line: &[u8]) -> (&[u8], &[u8])
     ensures { SplitWord line.now result.0.now result.1.now }
 {
     let (_, tail) = line.split_at(word_start(line));
-    let mut end = 0;
-    while end < tail.len() && !is_gap(tail[end]) {
-        end += 1;
-    }
-    tail.split_at(end)
+    tail.split_at(word_end(tail))
 }
 
 /// Whether the line has no words, or its first word begins with `%` or `#`.
@@ -173,15 +179,22 @@ fn signed(word: &[u8], p: &Modulus) -> Option<Digits>
     }
 }
 
-// What stands before the first slash, and behind it, if there is one.
-fn split_slash(word: &[u8]) -> (&[u8], Option<&[u8]>)
-    ensures { SplitSlash word.now result.0.now result.1 }
+// The place of the first slash.
+fn slash_place(word: &[u8]) -> usize
+    ensures { result ≡ position_or_len is_slash word.now }
 {
     let mut at = 0;
     while at < word.len() && word[at] != 47 {
         at += 1;
     }
-    let (front, back) = word.split_at(at);
+    at
+}
+
+// What stands before the first slash, and behind it, if there is one.
+fn split_slash(word: &[u8]) -> (&[u8], Option<&[u8]>)
+    ensures { SplitSlash word.now result.0.now result.1 }
+{
+    let (front, back) = word.split_at(slash_place(word));
     if back.is_empty() {
         return (front, None);
     }
