@@ -1,3 +1,4 @@
+pub mod Digits
 pub mod Feeding
 pub mod Lining
 pub mod Moving

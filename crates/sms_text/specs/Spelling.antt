@@ -21,11 +21,11 @@ ThreeWords ws (Some t) = ws ≡ t.first.now ∷ t.second.now ∷ t.third.now ∷
 
 abbrev pub DigitsOf : ℕ → List ℕ → Option Digits → Type 0
 DigitsOf p w None = is_number w ≡ false
-DigitsOf p w (Some d) = (is_number w ≡ true) × (d.residue ≡ value w % p) × (d.zero ≡ (value w == 0))
+DigitsOf p w (Some d) = (is_number w ≡ true) × (d.residue ≡ value w % p) × (d.zero ≡ (value w == 0)) × (d.residue < p)
 
 abbrev pub SignedOf : ℕ → List ℕ → Option Digits → Type 0
 SignedOf p w None = is_number (unsigned w) ≡ false
-SignedOf p w (Some d) = (is_number (unsigned w) ≡ true) × (d.residue ≡ residue p w) × (d.zero ≡ (value (unsigned w) == 0))
+SignedOf p w (Some d) = (is_number (unsigned w) ≡ true) × (d.residue ≡ residue p w) × (d.zero ≡ (value (unsigned w) == 0)) × (d.residue < p)
 
 abbrev pub SplitSlash : List ℕ → List ℕ → Option (Bor (List ℕ)) → Type 0
 SplitSlash w front None = (has_slash w ≡ false) × (front ≡ w)

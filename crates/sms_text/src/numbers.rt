@@ -39,13 +39,15 @@ pub struct Spelled {
 pub fn content(line: &[u8]) -> &[u8]
     ensures { result.now ≡ content line.now }
 {
-    let length = line.len();
-    if length > 0 && line[length - 1] == 13 {
-        let (front, _) = line.split_at(length - 1);
-        front
-    } else {
-        line
+    if line.is_empty() {
+        return line;
     }
+    let last = line.len() - 1;
+    if line[last] != 13 {
+        return line;
+    }
+    let (front, _) = line.split_at(last);
+    front
 }
 
 fn is_gap(b: u8) -> bool
@@ -89,7 +91,11 @@ pub fn is_void(line: &[u8]) -> bool
     ensures { result ≡ is_void (words line.now) }
 {
     let start = word_start(line);
-    start == line.len() || line[start] == 37 || line[start] == 35
+    if start == line.len() {
+        return true;
+    }
+    let first = line[start];
+    first == 37 || first == 35
 }
 
 /// The words of a line that has three.
