@@ -1,0 +1,135 @@
+-- Lists of n residues are the numbers below p ^ n, so independent rows are no more than those that span them.
+use Rattle.std.proofs.Common.{ℕ, zero, suc, ◌≡◌, ◌≢◌, ◌+◌, ◌*◌, ◌-◌, ◌/◌, ◌%◌, ◌^◌, ◌<◌, ◌≤◌, ◌⊎◌, inl, inr, cond, eqb, List, [], ◌∷◌, length, slice_index, sym, refl, ap, ap₂, ◌∙◌, arith, mod-lt, eq-eqb, ne_eqb, pow-suc, mul-le-mul_left, suc-le-suc, le_antisymm}
+use native.Mathlib.Nat.{one-le-pow, pow-le-pow_right, div-add-mod', pow-zero}
+use Rattle.std.proofs.lemmas.Bool.{cases_eq, cases_lt, cond-true, cond-false}
+use Rattle.std.proofs.lemmas.Nat.{same_from_place, mul-add-lt, div_below}
+use Rattle.residue_words.specs.Matrix.{Matrix, IsVector, IsMatrix, IsCombination, combine, zeros}
+use Rattle.residue_words.proofs.Vectors.{mix, at_mix, at_zeros, mix_vector, combine_linear, vector_equal}
+use Rattle.row_space.specs.Echelon.{IsIndependent}
+use Rattle.row_space.specs.Laws.{SpanFixesHeight}
+use Rattle.row_space.proofs.Ends.{difference_self, difference_zero}
+
+-- t, but v in place of m
+moved : ℕ → ℕ → ℕ → ℕ
+moved m v t = cond (eqb t m) v t
+
+moved_at : (m v t : ℕ) → t ≡ m → moved m v t ≡ v
+unfolding moved
+moved_at m v t e = cond-true (eqb t m) v t (eq-eqb t m e)
+
+moved_off : (m v t : ℕ) → t ≢ m → moved m v t ≡ t
+unfolding moved
+moved_off m v t d = cond-false (eqb t m) v t (ne_eqb t m d)
+
+-- no map of n numbers to fewer is one to one
+pub pigeonhole : (n m : ℕ) (f : ℕ → ℕ) → ((x : ℕ) → x < n → f x < m) → ((x y : ℕ) → x < n → y < n → f x ≡ f y → x ≡ y) → n ≤ m
+pigeonhole zero m f small one = omega arith
+pigeonhole (suc n) zero f small one = absurd (omega (arith, small n (omega arith)))
+pigeonhole (suc n) (suc m) f small one =
+    let v : ℕ = f n in
+    let top : v < suc m = small n (omega arith) in
+    let apart : (x : ℕ) → x < n → f x ≢ v = λ x l e. omega (arith, one x n (omega arith) (omega arith) e) in
+    suc-le-suc (pigeonhole n m (λ x. moved m v (f x))
+    (λ x l. elim (cases_eq (f x) m) [
+      | inl e ↦ omega (arith, moved_at m v (f x) e, apart x l)
+      | inr d ↦ omega (arith, moved_off m v (f x) d, small x (omega arith))
+    ])
+    (λ x y lx ly same. one x y (omega arith) (omega arith) (elim (cases_eq (f x) m) [
+      | inl e ↦ elim (cases_eq (f y) m) [
+        | inl g ↦ e ∙ sym g
+        | inr d ↦ absurd (apart y ly (sym (moved_off m v (f y) d) ∙ sym same ∙ moved_at m v (f x) e))
+      ]
+      | inr c ↦ elim (cases_eq (f y) m) [
+        | inl g ↦ absurd (apart x lx (sym (moved_off m v (f x) c) ∙ same ∙ moved_at m v (f y) g))
+        | inr d ↦ sym (moved_off m v (f x) c) ∙ same ∙ moved_off m v (f y) d
+      ]
+    ])))
+
+-- the digits of x to the base p, and the number of a list of digits
+abbrev digits : ℕ → ℕ → ℕ → List ℕ
+digits p zero x = []
+digits p (suc n) x = x % p ∷ digits p n (x / p)
+
+abbrev number : ℕ → List ℕ → ℕ
+number p [] = 0
+number p (d ∷ ds) = number p ds * p + d
+
+digits_vector : (p n x : ℕ) → 0 < p → IsVector p n (digits p n x)
+digits_vector p zero x pos = record { len = refl; residues = λ j l. absurd (omega arith) }
+digits_vector p (suc n) x pos =
+    let rest : IsVector p n (digits p n (x / p)) = digits_vector p n (x / p) pos in
+    record { len = ap suc rest.len; residues = each rest }
+  where
+    each : IsVector p n (digits p n (x / p)) → (j : ℕ) → j < suc n → slice_index (x % p ∷ digits p n (x / p)) j < p
+    each rest zero l = mod-lt x pos
+    each rest (suc j) l = rest.residues j (omega arith)
+
+number_digits : (p n x : ℕ) → 0 < p → x < p ^ n → number p (digits p n x) ≡ x
+number_digits p zero x pos l = omega (arith, pow-zero p)
+number_digits p (suc n) x pos l =
+    let below : x / p < p ^ n = div_below x p (p ^ n) pos (omega (arith, pow-suc p n)) in
+    ap (λ t. t * p + x % p) (number_digits p n (x / p) pos below) ∙ div-add-mod' x p
+
+-- what is left of a vector without its head
+tail_vector : (p n d : ℕ) (ds : List ℕ) → IsVector p (suc n) (d ∷ ds) → IsVector p n ds
+tail_vector p n d ds v = record { len = let e = v.len in omega arith; residues = λ j l. v.residues (suc j) (omega arith) }
+
+number_below : (p n : ℕ) (l : List ℕ) → IsVector p n l → number p l < p ^ n
+number_below p zero [] v = omega (arith, pow-zero p)
+number_below p zero (d ∷ ds) v = absurd (let e = v.len in omega arith)
+number_below p (suc n) [] v = absurd (let e = v.len in omega arith)
+number_below p (suc n) (d ∷ ds) v =
+    omega (arith, mul-add-lt (number p ds) p d (p ^ n) (number_below p n ds (tail_vector p n d ds v)) (v.residues 0 (omega arith)), pow-suc p n)
+
+number_apart : (p n : ℕ) (u v : List ℕ) → IsVector p n u → IsVector p n v → number p u ≡ number p v → u ≡ v
+number_apart p zero [] [] a b e = refl
+number_apart p zero (d ∷ ds) v a b e = absurd (let e = a.len in omega arith)
+number_apart p zero [] (c ∷ cs) a b e = absurd (let e = b.len in omega arith)
+number_apart p (suc n) [] v a b e = absurd (let e = a.len in omega arith)
+number_apart p (suc n) (d ∷ ds) [] a b e = absurd (let e = b.len in omega arith)
+number_apart p (suc n) (d ∷ ds) (c ∷ cs) a b e =
+    let parts = same_from_place (number p ds) d (number p cs) c p (a.residues 0 (omega arith)) (b.residues 0 (omega arith)) e in
+    ap₂ (λ x xs. x ∷ xs) parts.1 (number_apart p n ds cs (tail_vector p n d ds a) (tail_vector p n c cs b) parts.0)
+
+-- powers of 2 or more rise
+power_order : (p a b : ℕ) → 2 ≤ p → p ^ a ≤ p ^ b → a ≤ b
+power_order p a b two l =
+    let pos : 0 < p = omega arith in
+    elim (cases_lt b a) [
+      | inr le ↦ le
+      | inl less ↦
+          let up : p ^ suc b ≤ p ^ a = pow-le-pow_right pos less in
+          let some : 1 ≤ p ^ b = one-le-pow b p pos in
+          let twice : p ^ b * 2 ≤ p ^ b * p = mul-le-mul_left (p ^ b) two in
+          absurd (omega (arith, pow-suc p b))
+    ]
+
+-- combinations of independent rows differ
+pub independent_apart : (p : ℕ) (A : Matrix) (y z : List ℕ) → 2 ≤ p → IsIndependent p A → IsVector p A.height y → IsVector p A.height z →
+    combine p y A ≡ combine p z A → y ≡ z
+independent_apart p A y z two free vy vz same =
+    let q : ℕ = p - 1 in
+    let next : p ≡ suc q = omega arith in
+    let none : mix p A.height 1 q y z ≡ zeros A.height = free (mix p A.height 1 q y z) (mix_vector p A.height 1 q y z (omega arith))
+    (combine_linear p 1 q y z A ∙ ap (λ u. mix p A.width 1 q u (combine p z A)) same ∙ difference_self p q A.width (combine p z A) next) in
+    vector_equal p A.height y z vy vz (λ j l.
+    difference_zero p q (slice_index y j) (slice_index z j) two next (vy.residues j l) (vz.residues j l)
+    (sym (at_mix p A.height 1 q y z j l) ∙ ap (λ u. slice_index u j) none ∙ at_zeros A.height j l))
+
+-- independent rows in a row space are no more than the rows that span it
+pub independent_height : (p : ℕ) (A B : Matrix) → 2 ≤ p → IsIndependent p A → ((v : List ℕ) → IsCombination p A v → IsCombination p B v) → A.height ≤ B.height
+independent_height p A B two free within =
+    let pos : 0 < p = omega arith in
+    let y : ℕ → List ℕ = digits p A.height in
+    let image : (x : ℕ) → IsCombination p B (combine p (y x) A) = λ x. within (combine p (y x) A) (y x, digits_vector p A.height x pos, refl) in
+    power_order p A.height B.height two (pigeonhole (p ^ A.height) (p ^ B.height) (λ x. number p (image x).0)
+    (λ x l. number_below p B.height (image x).0 (image x).1)
+    (λ w x lw lx same.
+    let coefficients : (image w).0 ≡ (image x).0 = number_apart p B.height (image w).0 (image x).0 (image w).1 (image x).1 same in
+    let values : combine p (y w) A ≡ combine p (y x) A = (image w).2 ∙ ap (λ u. combine p u B) coefficients ∙ sym (image x).2 in
+    let equal : y w ≡ y x = independent_apart p A (y w) (y x) two free (digits_vector p A.height w pos) (digits_vector p A.height x pos) values in
+    sym (number_digits p A.height w pos lw) ∙ ap (number p) equal ∙ number_digits p A.height x pos lx))
+
+pub span_height : SpanFixesHeight
+span_height p A B two ma mb width fa fb s =
+    le_antisymm (independent_height p A B two fa (λ v. (s v).0)) (independent_height p B A two fb (λ v. (s v).1))
