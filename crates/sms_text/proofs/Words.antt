@@ -118,7 +118,7 @@ content_whole (b ∷ c ∷ bs) h = ap (λ t. b ∷ t) (content_whole (c ∷ bs) 
 pub split_none : (w : List ℕ) (k : ℕ) → k ≡ position_or_len is_slash w → length (drop k w) ≡ 0 → SplitSlash w (take k w) None
 split_none w k e h =
     let past : length w ≤ k = omega (arith, length-drop k w) in
-    (slash_found w ∙ rw (sym e) (grind (arith, nat_tests)), take_all k w past)
+    (slash_found w ∙ rw (sym e) (grind (arith, nat_tests)), take_all k w past, sym (slash_front w ∙ rw (sym e) refl))
 
 pub split_some : (w : List ℕ) (k : ℕ) (back : Bor (List ℕ)) → k ≡ position_or_len is_slash w → length (drop k w) ≢ 0 → back.now ≡ drop 1 (drop k w) → SplitSlash w (take k w) (Some back)
 split_some w k back e h b =

@@ -20,6 +20,12 @@ FillDid (Ok pulled.End) old new told told' f g = (new ≡ old) × (told' ≡ tol
 FillDid (Ok pulled.Failed) old new told told' f g = (new ≡ old) × (told' ≡ told) × Rose f g
 FillDid (Err e) old new told told' f g = (new ≡ old) × (told' ≡ told)
 
+-- how many bytes were given
+abbrev pub count_of : Pulled → ℕ
+count_of (pulled.Got n) = n
+count_of pulled.End = 0
+count_of pulled.Failed = 0
+
 -- a block stands behind the bytes; or nothing was done
 abbrev pub HasRoom : {T E : Type 0} → Result T E → List ℕ → List ℕ → Type 0
 HasRoom (Ok _) old new = (room : List ℕ) × (0 < length room) × (new ≡ old ++ room)

@@ -28,7 +28,7 @@ SignedOf p w None = is_number (unsigned w) ≡ false
 SignedOf p w (Some d) = (is_number (unsigned w) ≡ true) × (d.residue ≡ residue p w) × (d.zero ≡ (value (unsigned w) == 0)) × (d.residue < p)
 
 abbrev pub SplitSlash : List ℕ → List ℕ → Option (Bor (List ℕ)) → Type 0
-SplitSlash w front None = (has_slash w ≡ false) × (front ≡ w)
+SplitSlash w front None = (has_slash w ≡ false) × (front ≡ w) × (front ≡ numerator w)
 SplitSlash w front (Some back) = (has_slash w ≡ true) × (front ≡ numerator w) × (back.now ≡ denominator w)
 
 abbrev pub SpelledAs : ℕ → List ℕ → Option Spelled → Type 0

@@ -80,7 +80,8 @@ fn word_end(line: &[u8]) -> usize
 
 // The first word, empty if there is none, and what stands behind it.
 fn split_word(line: &[u8]) -> (&[u8], &[u8])
-    ensures { SplitWord line.now result.0.now result.1.now }
+    ensures split { SplitWord line.now result.0.now result.1.now }
+    ensures shorter { length result.0.now + length result.1.now ≤ length line.now }
 {
     let (_, tail) = line.split_at(word_start(line));
     tail.split_at(word_end(tail))

@@ -11,6 +11,6 @@ split_at-requires c = omega (arith, prefix_len-le-length is_gap c.args.line.now)
 pub split_at-requires-2 : goal.split_at-requires-2
 split_at-requires-2 c = omega (arith, prefix_len-le-length (λ b. not (is_gap b)) c.split_at.result.1.now)
 
-pub returns : goal.returns
-returns c = rw (c.split_at-2.ensures.front, c.split_at-2.ensures.back, c.word_end.ensures, c.split_at.ensures.back, c.word_start.ensures)
+pub returns-clause-split : goal.returns-clause-split
+returns-clause-split c = rw (c.split_at-2.ensures.front, c.split_at-2.ensures.back, c.word_end.ensures, c.split_at.ensures.back, c.word_start.ensures)
     (first_word c.args.line.now (drop (prefix_len is_gap c.args.line.now) c.args.line.now) (words_start c.args.line.now) (starts c.args.line.now))
