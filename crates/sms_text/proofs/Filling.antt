@@ -35,12 +35,25 @@ fill_view : (items block mid : List ℕ) (count start : ℕ) → take (length it
 fill_view items block mid count start same within =
     ap (drop start) (fill_items items block mid count same) ∙ drop-append-le start items (take count (drop (length items) mid)) within
 
-pub fill_did : {E : Type 0} (result : Pulled) (items block mid : List ℕ) (start : ℕ) (told told' : Option (List ℕ)) (f g : ℕ) → start ≤ length items →
+pub fill_did : (E : Type 0) (result : Pulled) (items block mid : List ℕ) (start : ℕ) (told told' : Option (List ℕ)) (f g : ℕ) → start ≤ length items →
     PulledBehind result (length items) (items ++ block) mid told told' f g →
     FillDid {E = E} (Ok result) (drop start items) (drop start (take (length items + count_of result) mid)) told told' f g
-fill_did (pulled.Got n) items block mid start told told' f g within h =
+fill_did E (pulled.Got n) items block mid start told told' f g within h =
     (take n (drop (length items) mid), omega (arith, h.2.0, h.2.1, length-take n (drop (length items) mid)), fill_view items block mid n start h.0 within, h.2.2)
-fill_did pulled.End items block mid start told told' f g within h =
+fill_did E pulled.End items block mid start told told' f g within h =
     (fill_view items block mid 0 start h.0 within ∙ append-nil (drop start items), h.2.0, h.2.1)
-fill_did pulled.Failed items block mid start told told' f g within h =
+fill_did E pulled.Failed items block mid start told told' f g within h =
     (fill_view items block mid 0 start h.0 within ∙ append-nil (drop start items), h.2.0, h.2.1)
+
+-- the same, for what the steps of a fill are called
+pub fill_whole : (E : Type 0) (result : Pulled) (old items more block mid new : List ℕ) (end count start : ℕ) (told told' : Option (List ℕ)) (f g : ℕ) →
+    drop start items ≡ old → end ≡ length items → more ≡ items ++ block → count ≡ count_of result → new ≡ take (end + count) mid → start ≤ length items →
+    PulledBehind result end more mid told told' f g → FillDid {E = E} (Ok result) old (drop start new) told told' f g
+fill_whole E result old items more block mid new end count start told told' f g is_old is_end is_more is_count is_new within h =
+    rw (← is_old, is_new, is_count, is_end) (fill_did E result items block mid start told told' f g within (rw (is_end, is_more) at h))
+
+pub fill_keeps : (result : Pulled) (items more block mid new : List ℕ) (end count start scanned : ℕ) (told told' : Option (List ℕ)) (f g : ℕ) →
+    end ≡ length items → more ≡ items ++ block → new ≡ take (end + count) mid → IsScanned items start scanned →
+    PulledBehind result end more mid told told' f g → IsScanned new start scanned
+fill_keeps result items more block mid new end count start scanned told told' f g is_end is_more is_new scan h =
+    rw (is_new, is_end) (fill_scanned items block mid count start scanned (rw (is_end, is_more) at h.0) scan)
