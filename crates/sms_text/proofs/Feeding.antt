@@ -16,7 +16,7 @@ use Rattle.sms_text.specs.Buffered.{line_length, FillDid}
 use Rattle.sms_text.specs.Lines.{Line, lines, size, content, words, is_void}
 use Rattle.sms_text.specs.Outside.{before, IsSpent, Rose}
 use Rattle.sms_text.specs.Text.{Due, Judged, judge, end_kind}
-use Rattle.sms_text.specs.Reading.{Next, Filled, TooLong, Missing, Unknown, next, One, Took, Faulty, Unfinished, judged, one, MayFollow, Moves, HasCause, Takes, TakesWords, WordLine}
+use Rattle.sms_text.specs.Reading.{Next, Filled, TooLong, Missing, Unknown, next, One, Took, Faulty, Unfinished, judged, one, MayFollow, Moves, HasCause, Takes, TakesWords, WordLine, ReaderState, LineDid, WordsDid}
 use Rattle.sms_text.specs.Feeding.{StopsAt, step, first_words, pass_or_fill, IsFirst, Fetched, FetchDid, Passed, IsNext, Found, NextDid, TakeDid, TakeWordsDid, state, error_in, error_of}
 use Rattle.sms_text.proofs.Lining.{next_closed, next_last, next_long_closed, next_long_open, next_unknown}
 use Rattle.sms_text.proofs.Moving.{before_before, moves_follow, moves_on, moves_reach, stays_at, rose_from}
@@ -295,3 +295,17 @@ pub takes_none : (p : ℕ) (due : Due) (old new : Feed) (told told' : Option (Li
     e ≡ error_of s new.number (end_kind due) → Takes p due (state old None o) (state new (Some e) o') told told' f g (Err e)
 takes_none p due old new told told' f g s o o' e d is =
     (d.taken, d.moves, refl, rw is (cause_of p due s new.number _ f g d.found))
+
+-- a call of a reader that keeps no error does what its feed does
+pub line_done : {T : Type 0} (p : ℕ) (due : Due) (result : Result T TextError) (judged : Result Judged TextError) (old : ReaderState) (feed feed' : Feed) (e e' : Option TextError) (o o' : Option (ℕ × ℕ)) (told told' : Option (List ℕ)) (f g : ℕ) →
+    state feed e o ≡ old → e ≡ None → e' ≡ error_in result → TakeDid p due feed feed' told told' f g result judged → LineDid p due old (state feed' e' o') told told' f g judged
+line_done p due result judged old feed feed' e e' o o' told told' f g is none is' did =
+    subst (λ s. LineDid p due s (state feed' e' o') told told' f g judged) (ap (λ x. state feed x o) (sym none) ∙ is)
+      (subst (λ x. Takes p due (state feed None o) (state feed' x o') told told' f g judged) (sym is') (did o o'))
+
+pub words_done : (result result' : Result WordLine TextError) (old : ReaderState) (feed feed' : Feed) (e e' : Option TextError) (o o' : Option (ℕ × ℕ)) (told told' : Option (List ℕ)) (f g : ℕ) →
+    state feed e o ≡ old → e ≡ None → result ≡ result' → e' ≡ error_in result' → TakeWordsDid feed feed' told told' f g result → WordsDid old (state feed' e' o') told told' f g result'
+words_done result result' old feed feed' e e' o o' told told' f g is none same is' did =
+    let did' : TakeWordsDid feed feed' told told' f g result' = subst (λ r. TakeWordsDid feed feed' told told' f g r) same did in
+    subst (λ s. WordsDid s (state feed' e' o') told told' f g result') (ap (λ x. state feed x o) (sym none) ∙ is)
+      (subst (λ x. TakesWords (state feed None o) (state feed' x o') told told' f g result') (sym is') (did' o o'))
