@@ -7,6 +7,8 @@ ghost use Rattle.sms_text.specs.Reading.{LineDid, WordsDid, LeavesOpen, Unfinish
 mod feed;
 mod judge;
 pub mod line;
+#[cfg(test)]
+mod tests;
 
 use crate::kind::{Kind, TextError};
 use crate::outside::Source;
@@ -135,8 +137,8 @@ impl Reader {
         ensures value { result ≡ TextError.Bad line kind }
         ensures kept { self.new ≡ record self.old { error = Some (TextError.Bad line kind) } }
     {
-        let error = TextError::Bad { line, kind };
-        self.error = Some(error);
-        error
+        let refusal = TextError::Bad { line, kind };
+        self.error = Some(refusal);
+        refusal
     }
 }
