@@ -1,6 +1,7 @@
 pub mod Digits
 pub mod Feeding
 pub mod Filling
+pub mod Following
 pub mod Lining
 pub mod Moving
 pub mod Runs

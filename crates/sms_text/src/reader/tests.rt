@@ -1,5 +1,5 @@
 // Texts from outside, with the faults that their format gives them.
-ghost use Rattle.std.specs.Prelude.{◌≡◌, None, Some};
+ghost use Rattle.std.specs.Prelude.{◌≡◌, ◌≤◌, None};
 
 use crate::kind::{Kind, TextError};
 use crate::outside::{Pulled, Source};
