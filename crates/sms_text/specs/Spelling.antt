@@ -1,10 +1,10 @@
 -- What the functions over words say of them.
-use Rattle.std.specs.Prelude.{◌≡◌, ◌≢◌, ◌<◌, ◌%◌, ◌==◌, Bool, true, false, not, ℕ, List, [], ◌∷◌, length, Option, None, Some}
+use Rattle.std.specs.Prelude.{◌≡◌, ◌≢◌, ◌<◌, ◌%◌, ◌==◌, Bool, true, false, ℕ, List, [], ◌∷◌, length, Option, None, Some}
 use Rattle.std.specs.Borrow.{Bor}
 use Rattle.sms_text.specs.declared.numbers.Digits.{Digits}
 use Rattle.sms_text.specs.declared.numbers.Spelled.{Spelled}
 use Rattle.sms_text.specs.declared.numbers.Three.{Three}
-use Rattle.sms_text.specs.Lines.{is_gap, words}
+use Rattle.sms_text.specs.Lines.{words}
 use Rattle.sms_text.specs.Numbers.{is_number, value, has_slash, numerator, denominator, unsigned, residue, is_value, is_zero, divides_by_zero, value_modulo}
 
 abbrev pub is_slash : ℕ → Bool

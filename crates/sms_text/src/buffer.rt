@@ -35,7 +35,11 @@ impl Buffer {
     pub fn new(alloc: Global) -> Self
         ensures { result ≡ [] }
     {
-        Buffer { bytes: Vec::new(alloc), start: 0, scanned: 0 }
+        Buffer {
+            bytes: Vec::new(alloc),
+            start: 0,
+            scanned: 0,
+        }
     }
 
     /// The bytes.

@@ -112,7 +112,11 @@ pub fn three_words(line: &[u8]) -> Option<Three<'_>>
     if word_start(rest) < rest.len() {
         return None;
     }
-    Some(Three { first, second, third })
+    Some(Three {
+        first,
+        second,
+        third,
+    })
 }
 
 fn is_digit(b: u8) -> bool
@@ -163,7 +167,10 @@ fn fold_digits(word: &[u8], p: &Modulus) -> Option<Digits>
         }
         fold.push_digit(*b - 48);
     }
-    Some(Digits { residue: fold.value(), zero: fold.is_zero_integer() })
+    Some(Digits {
+        residue: fold.value(),
+        zero: fold.is_zero_integer(),
+    })
 }
 
 // The number that a word with or without a sign spells, modulo p.
@@ -180,7 +187,10 @@ fn signed(word: &[u8], p: &Modulus) -> Option<Digits>
     let (_, rest) = word.split_at(1);
     let number = fold_digits(rest, p)?;
     if first == 45 {
-        Some(Digits { residue: p.neg(number.residue), zero: number.zero })
+        Some(Digits {
+            residue: p.neg(number.residue),
+            zero: number.zero,
+        })
     } else {
         Some(number)
     }
@@ -216,13 +226,25 @@ pub fn value_word(word: &[u8], p: &Modulus) -> Option<Spelled>
     let (front, back) = split_slash(word);
     let top = signed(front, p)?;
     let Some(back) = back else {
-        return Some(Spelled { residue: top.residue, zero: top.zero, no_divisor: false });
+        return Some(Spelled {
+            residue: top.residue,
+            zero: top.zero,
+            no_divisor: false,
+        });
     };
     let bottom = fold_digits(back, p)?;
     if bottom.residue == 0 {
-        return Some(Spelled { residue: 0, zero: false, no_divisor: true });
+        return Some(Spelled {
+            residue: 0,
+            zero: false,
+            no_divisor: true,
+        });
     }
-    Some(Spelled { residue: p.mul(top.residue, p.inv(bottom.residue)), zero: false, no_divisor: false })
+    Some(Spelled {
+        residue: p.mul(top.residue, p.inv(bottom.residue)),
+        zero: false,
+        no_divisor: false,
+    })
 }
 
 /// The words of a line, each a copy.

@@ -66,7 +66,11 @@ impl Reader {
         requires { limit ≤ 1099511627776 }
         ensures { IfOk result (λ r. r ≡ new_reader limit) }
     {
-        Ok(Reader { feed: Feed::new(alloc, limit), error: None, open_text: None })
+        Ok(Reader {
+            feed: Feed::new(alloc, limit),
+            error: None,
+            open_text: None,
+        })
     }
 
     /// Reads a header line, with which a text begins: two sizes and a letter.
@@ -89,7 +93,12 @@ impl Reader {
     }
 
     /// Reads the next line of a text with this head: an entry, or `None` for the line that closes the text.
-    pub fn entry<S: Source>(&mut self, source: &mut S, head: &Head, p: &Modulus) -> Result<Option<Entry>, TextError>
+    pub fn entry<S: Source>(
+        &mut self,
+        source: &mut S,
+        head: &Head,
+        p: &Modulus,
+    ) -> Result<Option<Entry>, TextError>
         requires { self.old.open_text ≡ Some (head.now.m, head.now.n) }
         ensures did { LineDid p.now (Body head.now.m head.now.n) self.old self.new (S.told source.old) (S.told source.new) (S.faults source.old) (S.faults source.new) (entry_judged head.now result) }
         ensures open { IfOk result (LeavesOpen head.now p.now self.new) }

@@ -35,7 +35,10 @@ pub fn judge_header(line: &[u8]) -> Result<Head, Kind>
     if n > LARGEST_SIZE {
         return Err(Kind::Size);
     }
-    Ok(Head { m: m as u32, n: n as u32 })
+    Ok(Head {
+        m: m as u32,
+        n: n as u32,
+    })
 }
 
 /// What the bytes of a line say where an entry or the closing line of a text with this head is due.
@@ -67,5 +70,9 @@ pub fn judge_entry(line: &[u8], head: &Head, p: &Modulus) -> Result<Option<Entry
     if value.no_divisor {
         return Err(Kind::Divisor);
     }
-    Ok(Some(Entry { i: (i - 1) as u32, j: (j - 1) as u32, v: value.residue }))
+    Ok(Some(Entry {
+        i: (i - 1) as u32,
+        j: (j - 1) as u32,
+        v: value.residue,
+    }))
 }

@@ -59,6 +59,10 @@ impl Line {
         ensures { ValueOf p.now (slice_index_or self.now.words k []) result }
     {
         let spelled = value_word(self.word(k), p)?;
-        if spelled.no_divisor { None } else { Some(spelled.residue) }
+        if spelled.no_divisor {
+            None
+        } else {
+            Some(spelled.residue)
+        }
     }
 }

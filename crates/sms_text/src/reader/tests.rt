@@ -59,7 +59,12 @@ const TEXTS: [(&[u8], u64, u64, u64, Kind); 18] = [
 ];
 
 // The error at which the reading of a text with few entries ends.
-fn first_error(alloc: Global, source: &mut Pieces<'_>, limit: u64, p: &Modulus) -> Result<Option<TextError>, AllocError>
+fn first_error(
+    alloc: Global,
+    source: &mut Pieces<'_>,
+    limit: u64,
+    p: &Modulus,
+) -> Result<Option<TextError>, AllocError>
     requires { limit ≤ 1099511627776 }
 {
     let mut reader = Reader::new(alloc, limit)?;
@@ -81,9 +86,17 @@ fn first_error(alloc: Global, source: &mut Pieces<'_>, limit: u64, p: &Modulus) 
 fn the_first_fault_of_each_text_is_named(rt: HostRuntime) -> Result<(), Fail> {
     for piece in [1, 5, 65_536] {
         for (text, p, limit, line, kind) in TEXTS {
-            let mut source = Pieces { rest: text, piece, offered: 0 };
+            let mut source = Pieces {
+                rest: text,
+                piece,
+                offered: 0,
+            };
             let error = first_error(rt.alloc(), &mut source, limit, &Modulus::new(p))?;
-            let wanted = if line == 0 { None } else { Some(TextError::Bad { line, kind }) };
+            let wanted = if line == 0 {
+                None
+            } else {
+                Some(TextError::Bad { line, kind })
+            };
             assert_eq!(rt; error, wanted);
             assert_eq!(rt; source.offered, 65_536);
         }
@@ -92,7 +105,11 @@ fn the_first_fault_of_each_text_is_named(rt: HostRuntime) -> Result<(), Fail> {
 }
 
 // The second entry of a text.
-fn second_entry(reader: &mut Reader, source: &mut Pieces<'_>, p: &Modulus) -> Result<Option<Entry>, TextError>
+fn second_entry(
+    reader: &mut Reader,
+    source: &mut Pieces<'_>,
+    p: &Modulus,
+) -> Result<Option<Entry>, TextError>
     requires { reader.old.open_text ≡ None }
 {
     let head = reader.header(source)?;
@@ -108,9 +125,16 @@ fn values_of_any_length_fold(rt: HostRuntime) -> Result<(), Fail> {
     let p = Modulus::new(42013);
     for (text, v) in [
         (b"2 3 M\n1 1 5\n2 3 -3/4\n0 0 0\n".as_slice(), 31509),
-        (b"2 3 M\n1 1 5\n2 3 123456789012345678901234567890\n".as_slice(), 20866),
+        (
+            b"2 3 M\n1 1 5\n2 3 123456789012345678901234567890\n".as_slice(),
+            20866,
+        ),
     ] {
-        let mut source = Pieces { rest: text, piece: 9, offered: 0 };
+        let mut source = Pieces {
+            rest: text,
+            piece: 9,
+            offered: 0,
+        };
         let mut reader = Reader::new(rt.alloc(), 99)?;
         let entry = second_entry(&mut reader, &mut source, &p);
         assert_eq!(rt; entry, Ok(Some(Entry { i: 1, j: 2, v })));
@@ -120,7 +144,11 @@ fn values_of_any_length_fold(rt: HostRuntime) -> Result<(), Fail> {
 
 #[test]
 fn words_and_refusals_are_kept(rt: HostRuntime) -> Result<(), Fail> {
-    let mut source = Pieces { rest: b"% a\ncertificate rank 7 2\n", piece: 9, offered: 0 };
+    let mut source = Pieces {
+        rest: b"% a\ncertificate rank 7 2\n",
+        piece: 9,
+        offered: 0,
+    };
     let mut reader = Reader::new(rt.alloc(), 99)?;
     let Ok(line) = reader.words(&mut source) else {
         return Err(Fail::new("no line of words"));
@@ -128,7 +156,10 @@ fn words_and_refusals_are_kept(rt: HostRuntime) -> Result<(), Fail> {
     assert_eq!(rt; (line.number(), line.count()), (2, 4));
     if line.count() == 4 {
         let p = Modulus::new(5);
-        assert_eq!(rt; (line.word(1), line.value(1, &p), line.value(2, &p)), (b"rank".as_slice(), None, Some(2)));
+        assert_eq!(rt;
+            (line.word(1), line.value(1, &p), line.value(2, &p)),
+            (b"rank".as_slice(), None, Some(2))
+        );
     }
     let mut reader = Reader::new(rt.alloc(), 99)?;
     let refused = reader.refuse(0, Kind::Script);

@@ -6,4 +6,5 @@ abbrev pub invariant-loop-b : goal.invariant-loop-b
 invariant-loop-b l = record {
   digits : are_digits (drop l.b-index l.word) ≡ are_digits l.word;
   same : min (value_from l.number (drop l.b-index l.word)) 4294967296 ≡ min (value l.word) 4294967296;
-  small : l.number ≤ 4294967296 }
+  small : l.number ≤ 4294967296;
+}
