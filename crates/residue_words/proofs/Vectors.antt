@@ -1,5 +1,5 @@
 -- Lists of residues and matrices by their entries.
-use Rattle.std.proofs.Common.{ℕ, zero, suc, ◌≡◌, ◌≢◌, ◌+◌, ◌*◌, ◌%◌, ◌<◌, ◌≤◌, ◌⊎◌, inl, inr, cond, eqb, List, [], ◌∷◌, ◌++◌, length, map, slice_index, slice_index_or, sym, refl, ap, ap₂, ◌∙◌, arith, mod-lt, add-one, zero-mul, one-mul, mul_comm, mod-eq_of_lt, eq-eqb, ne_eqb}
+use Rattle.std.proofs.Common.{ℕ, ◌≡◌, ◌≢◌, ◌+◌, ◌*◌, ◌%◌, ◌<◌, ◌≤◌, ◌⊎◌, inl, inr, cond, eqb, List, [], ◌∷◌, ◌++◌, length, map, slice_index, sym, refl, ap, ap₂, ◌∙◌, arith, mod-lt, zero-mul, one-mul, mul_comm, mod-eq_of_lt, eq-eqb, ne_eqb}
 use native.Mathlib.Nat.{mod-mod}
 use Rattle.std.proofs.lemmas.Bool.{cases_lt, cases_eq, cond-true, cond-false}
 use Rattle.residue_words.proofs.Sums.{sum_equal, sum_single, sum_pair, sum_reduce, sum_reduce_right, sum_linear, sum_through}

@@ -1,13 +1,13 @@
 -- Each matrix has a reduced echelon form: column by column.
-use Rattle.std.proofs.Common.{ℕ, zero, suc, ◌≡◌, ◌≢◌, ◌+◌, ◌*◌, ◌-◌, ◌%◌, ◌<◌, ◌≤◌, ◌⊎◌, inl, inr, List, length, slice_index, sym, refl, ap, ap₂, ◌∙◌, arith, mod-lt, mod-eq_of_lt, zero-mul, mul-zero, mul-one}
+use Rattle.std.proofs.Common.{ℕ, zero, suc, ◌≡◌, ◌+◌, ◌*◌, ◌-◌, ◌%◌, ◌<◌, ◌≤◌, inl, inr, List, slice_index, sym, refl, ap, ap₂, ◌∙◌, arith, mod-lt, mod-eq_of_lt, mul-zero}
 use native.Mathlib.Nat.{mod-mod, zero-mod}
 use Rattle.std.proofs.lemmas.Bool.{cases_eq}
 use Rattle.residue_words.specs.Residues.{IsPrime, sum_below}
-use Rattle.residue_words.specs.Matrix.{Matrix, IsMatrix, IsVector, IsCombination, row, entry, list_of, combine}
-use Rattle.residue_words.proofs.Residues.{add_same, mul_same, left_zero, right_zero, minus_one, product_zero_right}
-use Rattle.residue_words.proofs.Sums.{sum_none, sum_more, sum_equal, sum_same, sum_zero, sum_add, sum_scale, sum_pair, sum_reduce, sum_through}
+use Rattle.residue_words.specs.Matrix.{Matrix, IsMatrix, row, entry, list_of}
+use Rattle.residue_words.proofs.Residues.{add_same, mul_same, right_zero, minus_one, product_zero_right}
+use Rattle.residue_words.proofs.Sums.{sum_more, sum_equal, sum_same, sum_zero, sum_add, sum_scale, sum_pair}
 use Rattle.residue_words.proofs.Vectors.{at_list_of, combination_of, length_list_of, matrix_of, is_matrix_of, entry_matrix_of}
-use Rattle.row_space.specs.Echelon.{HasPlaces, IsRref}
+use Rattle.row_space.specs.Echelon.{HasPlaces}
 use Rattle.row_space.specs.Laws.{RrefExists}
 use Rattle.row_space.proofs.Solvable.{Solves, Refutes, solvable_or_refuted, extended, extended_below, extended_last}
 use Rattle.row_space.proofs.Spans.{places_equal, same_span_of_rows}

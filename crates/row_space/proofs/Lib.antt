@@ -1,6 +1,12 @@
 pub mod Counting
 pub mod Ends
+pub mod Example
 pub mod Exists
+pub mod FactorLaws
+pub mod KernelLaws
 pub mod Solvable
+pub mod ReadOff
+pub mod Refuting
 pub mod Spans
+pub mod Triangular
 pub mod Unique

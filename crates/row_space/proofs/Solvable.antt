@@ -1,13 +1,12 @@
 -- A system is solvable, or a combination of its rows refutes it: by induction on the columns.
-use Rattle.std.proofs.Common.{ℕ, zero, suc, ◌≡◌, ◌≢◌, ◌+◌, ◌*◌, ◌-◌, ◌%◌, ◌<◌, ◌≤◌, ◌⊎◌, ◌↔◌, inl, inr, cond, ltb, List, length, slice_index, sym, refl, ap, ap₂, ◌∙◌, arith, mod-eq_of_lt, mod-lt, lt-ltb, le-ltb, zero-mul, mul-one, mul_comm}
-use native.Mathlib.Nat.{mod-mod, zero-mod}
-use Rattle.std.proofs.lemmas.Bool.{cases_eq, cases_lt, cond-true, cond-false}
-use Rattle.std.proofs.lemmas.Nat.{mul-mod_first, mul-mod_second}
+use Rattle.std.proofs.Common.{ℕ, zero, suc, ◌≡◌, ◌≢◌, ◌+◌, ◌*◌, ◌-◌, ◌%◌, ◌<◌, ◌≤◌, ◌⊎◌, inl, inr, cond, ltb, List, slice_index, sym, refl, ap, ap₂, ◌∙◌, arith, mod-eq_of_lt, mod-lt, lt-ltb, le-ltb, zero-mul, mul_comm}
+use native.Mathlib.Nat.{zero-mod}
+use Rattle.std.proofs.lemmas.Bool.{cases_eq, cond-true, cond-false}
 use Rattle.residue_words.specs.Residues.{IsPrime, sum_below}
-use Rattle.residue_words.specs.Matrix.{Matrix, IsMatrix, IsVector, entry, list_of, apply, combine, dot, zeros}
+use Rattle.residue_words.specs.Matrix.{Matrix, IsVector, entry, list_of, apply, combine, dot, zeros}
 use Rattle.residue_words.proofs.Residues.{add_same, mul_same, left_zero, right_zero, inverse, minus_one, product_zero_right}
 use Rattle.residue_words.proofs.Sums.{sum_none, sum_more, sum_equal, sum_same, sum_single, sum_zero_same, sum_add, sum_scale, sum_pair, sum_reduce, sum_reduce_right}
-use Rattle.residue_words.proofs.Vectors.{at_apply, at_combine, at_list_of, at_zeros, delta, delta_same, delta_other, dot_combine, list_of_equal, list_of_self, vector_of, list_equal, length_list_of}
+use Rattle.residue_words.proofs.Vectors.{at_apply, at_list_of, at_zeros, delta, delta_same, delta_other, dot_combine, list_of_equal, vector_of, list_equal, length_list_of}
 use Rattle.row_space.specs.Solution.{Annuls, IsSolution}
 use Rattle.row_space.specs.Laws.{Alternative}
 

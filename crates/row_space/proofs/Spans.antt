@@ -1,10 +1,10 @@
 -- Row spaces, and rows with places of their own (echelon forms and kernel bases alike).
-use Rattle.std.proofs.Common.{ℕ, zero, suc, ◌≡◌, ◌≢◌, ◌+◌, ◌*◌, ◌%◌, ◌<◌, ◌≤◌, ◌⊎◌, ◌↔◌, inl, inr, List, length, slice_index, sym, refl, ap, ap₂, subst, ◌∙◌, arith, mod-eq_of_lt, mul-one, mul-zero}
+use Rattle.std.proofs.Common.{ℕ, zero, suc, ◌≡◌, ◌≢◌, ◌*◌, ◌%◌, ◌<◌, ◌≤◌, inl, inr, List, slice_index, sym, refl, ap, subst, ◌∙◌, arith, mod-eq_of_lt, mul-one, mul-zero}
 use Rattle.std.proofs.lemmas.Bool.{cases_lt, cases_eq}
 use Rattle.residue_words.specs.Residues.{sum_below}
-use Rattle.residue_words.specs.Matrix.{Matrix, IsVector, IsMatrix, IsCombination, row, entry, list_of, combine, zeros}
-use Rattle.residue_words.proofs.Sums.{sum_equal, sum_single, sum_has}
-use Rattle.residue_words.proofs.Vectors.{at_combine, at_zeros, combine_vector, zeros_vector, vector_equal, combination_through, combine_single, matrix_equal}
+use Rattle.residue_words.specs.Matrix.{Matrix, IsVector, IsMatrix, IsCombination, row, entry, combine, zeros}
+use Rattle.residue_words.proofs.Sums.{sum_single, sum_has}
+use Rattle.residue_words.proofs.Vectors.{at_combine, at_zeros, zeros_vector, vector_equal, combination_through, combine_single, matrix_equal}
 use Rattle.row_space.specs.Echelon.{HasPlaces, SameSpan, IsIndependent}
 
 -- to have the same row space goes both ways, and on

@@ -1,11 +1,10 @@
 -- Each of these is at most one: the echelon form, the rank, the kernel basis, the reduced solution, the refuting combination.
-use Rattle.std.proofs.Common.{ℕ, suc, ◌≡◌, ◌+◌, ◌*◌, ◌-◌, ◌%◌, ◌<◌, ◌≤◌, List, slice_index, sym, refl, ap, ap₂, ◌∙◌, arith}
-use Rattle.residue_words.specs.Matrix.{Matrix, IsVector, IsCombination, row, apply, combine, dot, zeros}
+use Rattle.std.proofs.Common.{ℕ, suc, ◌≡◌, ◌+◌, ◌*◌, ◌-◌, ◌%◌, ◌<◌, List, slice_index, sym, ap, ap₂, ◌∙◌, arith}
+use Rattle.residue_words.specs.Matrix.{Matrix, row, zeros}
 use Rattle.residue_words.proofs.Residues.{minus_one}
 use Rattle.residue_words.proofs.Vectors.{mix, mix_vector, apply_linear, combine_linear, dot_linear, row_combination}
-use Rattle.row_space.specs.Echelon.{HasRank, IsRref}
-use Rattle.row_space.specs.Kernel.{IsKernel, IsNull}
-use Rattle.row_space.specs.Solution.{Annuls, IsReducedSolution, IsRefutingCombination, IsSolution}
+use Rattle.row_space.specs.Kernel.{IsNull}
+use Rattle.row_space.specs.Solution.{Annuls, IsSolution}
 use Rattle.row_space.specs.Laws.{KernelIsUnique, RankIsUnique, RefutationIsUnique, RrefIsUnique, SolutionIsUnique}
 use Rattle.row_space.proofs.Ends.{difference_self, difference_ends}
 use Rattle.row_space.proofs.Spans.{places_unique}
