@@ -8,7 +8,7 @@ use Rattle.std.proofs.lemmas.List.Elements.{All-cons, All-nil}
 use Rattle.std.proofs.lemmas.List.Sums.{sum_by-cons, sum_by_push}
 use Rattle.residue_words.specs.Matrix.{list_of, zeros}
 use Rattle.residue_words.proofs.Residues.{add_same}
-use Rattle.residue_words.proofs.Vectors.{at_list_of, length_list_of, list_equal}
+use Rattle.residue_words.proofs.Vectors.{at_list_of, length_list_of, list_equal, list_of_equal}
 use Rattle.sparse_rows.specs.Rows.{Building, ResidueMatrix, ResidueRow, Triple, matrix_by, sum_at}
 use Rattle.sparse_rows.specs.Stored.{IsCell, picked, triples, weight}
 
@@ -138,3 +138,10 @@ pub record IsBuiltSoFar (b : Building) (i : ℕ) (made : ResidueMatrix) (row : R
   pub matrix : made.matrix ≡ matrix_by i b.width (λ i j. sum_at i j b.pushed % b.modulus)
   pub row_modulus : row.modulus ≡ b.modulus
   pub row_length : length row.row ≡ b.width
+
+-- the sums of the cells of a row are those of the triples
+pub built_row : (p n i : ℕ) (is js vs cs ws : List ℕ) (cells : List (ℕ × ℕ)) (pushed : List Triple) (r : List ℕ) → length js ≡ length is → length vs ≡ length is →
+    cs ≡ picked i is js → ws ≡ picked i is vs → triples is js vs ≡ pushed → ((j : ℕ) → weight j cells ≡ weight j (zip cs ws)) → r ≡ list_of n (λ j. weight j cells % p) → r ≡ list_of n (λ j. sum_at i j pushed % p)
+built_row p n i is js vs cs ws cells pushed r a b c w t sums e =
+    e ∙ list_of_equal n (λ j. weight j cells % p) (λ j. sum_at i j pushed % p) (λ j l.
+    ap (λ x. x % p) (sums j ∙ ap₂ (λ x y. weight j (zip x y)) c w ∙ sum_at_picked i j is js vs a b ∙ ap (sum_at i j) t))
