@@ -3,3 +3,4 @@ pub mod Loops
 pub mod Stored
 pub mod Spread
 pub mod Transposed
+pub mod Summed

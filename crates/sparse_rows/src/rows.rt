@@ -256,9 +256,9 @@ impl Rows {
         requires behind { (j : ℕ) → by ≤ j → j < length to.old.row → slice_index to.old.row j ≡ 0 }
         ensures modulus { to.new.modulus ≡ to.old.modulus }
         ensures length { length to.new.row ≡ length to.old.row }
-        ensures before { IfOk result (λ _. (j : ℕ) → j < by → slice_index to.new.row j ≡ slice_index to.old.row j) }
-        ensures inside { IfOk result (λ _. (j : ℕ) → j < self.now.matrix.width → slice_index to.new.row (by + j) ≡ entry self.now.matrix i j) }
-        ensures after { IfOk result (λ _. (j : ℕ) → by + self.now.matrix.width ≤ j → j < length to.old.row → slice_index to.new.row j ≡ 0) }
+        ensures before { OnOk result ((j : ℕ) → j < by → slice_index to.new.row j ≡ slice_index to.old.row j) }
+        ensures inside { OnOk result ((j : ℕ) → j < self.now.matrix.width → slice_index to.new.row (by + j) ≡ entry self.now.matrix i j) }
+        ensures after { OnOk result ((j : ℕ) → by + self.now.matrix.width ≤ j → j < length to.old.row → slice_index to.new.row j ≡ 0) }
     {
         let cols = self.cols(i);
         let vals = self.vals(i);
