@@ -3,7 +3,7 @@ use Rattle.std.proofs.Common.{ℕ, zero, suc, ◌≡◌, ◌≢◌, ◌+◌, ◌
 use Rattle.std.specs.List.{range_with_len}
 use Rattle.std.proofs.lemmas.Bool.{cases_eq, cases_lt, cond-true, cond-false, eq-eqb, ne_eqb}
 use Rattle.std.proofs.lemmas.List.{get_or_append_left, get_or_push, get_or-set_other, get_or-set_same, length-set, length_push}
-use Rattle.residue_words.specs.Matrix.{IsVector, list_of, zeros}
+use Rattle.residue_words.specs.Matrix.{IsVector, zeros}
 use Rattle.residue_words.specs.Residues.{sum_below}
 use Rattle.residue_words.proofs.Sums.{sum_support, sum_equal}
 use Rattle.residue_words.proofs.Vectors.{at_list_of, length_list_of, list_equal}

@@ -1,5 +1,5 @@
 -- Entries grouped by their columns are the rows of the transposed matrix.
-use Rattle.std.proofs.Common.{ℕ, zero, suc, ◌≡◌, ◌≢◌, ◌+◌, ◌-◌, ◌<◌, ◌≤◌, ◌⊎◌, inl, inr, List, [], ◌∷◌, ◌++◌, length, map, replicate, take, drop, cond, eqb, slice_index, sym, refl, ap, ap₂, subst, ◌∙◌, arith}
+use Rattle.std.proofs.Common.{ℕ, zero, suc, ◌≡◌, ◌≢◌, ◌+◌, ◌-◌, ◌<◌, ◌≤◌, inl, inr, List, [], ◌∷◌, ◌++◌, length, map, replicate, take, drop, eqb, slice_index, sym, refl, ap, ap₂, subst, ◌∙◌, arith}
 use Rattle.std.specs.List.{range_with_len}
 use Rattle.std.proofs.lemmas.Bool.{cases_eq, cases_lt, cond-true, cond-false, eq-eqb, ne_eqb}
 use Rattle.std.proofs.lemmas.List.{append-nil, length-append, length-replicate, length-take-le, take_all}
@@ -154,7 +154,7 @@ module _ (p n : ℕ) (starts cs vs : List ℕ) (stored : IsStored p n starts cs 
       (column_until h (omega arith))))
 
 module _ (p n : ℕ) (starts cs vs : List ℕ) (stored : IsStored p n starts cs vs) (starts' is ws : List ℕ) (parts : AreStarts n (length cs) starts')
-  (holds : HoldsGroups n cs (part_numbers (length starts - 1) starts) starts' is) (holds_values : HoldsGroups n cs vs starts' ws) (long : length is ≡ length cs) (long_values : length ws ≡ length cs) where
+    (holds : HoldsGroups n cs (part_numbers (length starts - 1) starts) starts' is) (holds_values : HoldsGroups n cs vs starts' ws) (long : length is ≡ length cs) (long_values : length ws ≡ length cs) where
   column : (k : ℕ) → k < n → IsColumn p k (length starts - 1) starts cs vs (part starts' is k) (part starts' ws k)
   column k l = column_is p n starts cs vs stored k (part starts' is k) (part starts' ws k) (holds k l) (holds_values k l)
 

@@ -1,7 +1,6 @@
-use Rattle.std.proofs.Common.{ℕ, ◌≡◌, ◌<◌, ◌≤◌, ◌+◌, ◌%◌, ◌∙◌, List, [], ◌∷◌, ◌++◌, ap, ap₂, arith, length, subst, sym}
+use Rattle.std.proofs.Common.{ℕ, ◌≡◌, ◌+◌, ◌%◌, ◌∙◌, List, [], ap, ap₂, arith, length, subst, sym}
 use Rattle.std.specs.List.{All, zip}
 use Rattle.std.proofs.lemmas.List.Elements.{All-same}
-use Rattle.residue_words.proofs.Vectors.{length_list_of}
 use Rattle.sparse_rows.specs.Rows.{Building, matrix_by, sum_at}
 use Rattle.sparse_rows.specs.Stored.{IsCell, picked, weight, with_row}
 use Rattle.residue_words.specs.Matrix.{list_of}
@@ -83,4 +82,4 @@ loop-i-preserved c =
     }
 
 pub returns-clause-matrix : goal.returns-clause-matrix
-returns-clause-matrix c = c.loop-i.invariant.matrix ∙ ap (λ h. matrix_by h c.args.self.width (λ i j. sum_at i j c.args.self.pushed % c.args.self.modulus)) (omega (arith, c.loop-i-test.false, ap (λ b. b.height) c.self.view_is))
+returns-clause-matrix c = ap (λ m. m.matrix) c.shrink.ensures ∙ c.loop-i.invariant.matrix ∙ ap (λ h. matrix_by h c.args.self.width (λ i j. sum_at i j c.args.self.pushed % c.args.self.modulus)) (omega (arith, c.loop-i-test.false, ap (λ b. b.height) c.self.view_is))
