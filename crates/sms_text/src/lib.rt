@@ -2,11 +2,14 @@
 #![tactic(auto)]
 
 mod blocks;
+mod buffer;
 mod gathered;
 mod kind;
 mod laws;
 mod memory;
+mod numbers;
 mod outside;
+mod reader;
 mod write;
 #[cfg(test)]
 mod write_tests;
@@ -16,4 +19,6 @@ pub use kind::{Kind, TextError};
 pub use laws::written_text_reads_back;
 pub use memory::{MemorySink, MemorySource, SteadySink, SteadySource};
 pub use outside::{Pulled, Put, Sink, Source};
+pub use reader::line::Line;
+pub use reader::{Entry, Head, Reader};
 pub use write::{WriteFault, write_end, write_entry, write_head, write_number, write_text};
