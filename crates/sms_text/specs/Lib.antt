@@ -1,3 +1,4 @@
+pub mod Buffered
 pub mod Lines
 pub mod Numbers
 pub mod Outside

@@ -1,0 +1,6 @@
+pub mod Digits
+pub mod Euclid
+pub mod Quotients
+pub mod Residues
+pub mod Sums
+pub mod Vectors
