@@ -1,3 +1,4 @@
 pub mod Capped
 pub mod Options
+pub mod Texts
 pub mod Written
