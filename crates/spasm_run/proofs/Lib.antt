@@ -1,5 +1,7 @@
 pub mod Capped
 pub mod Options
 pub mod Placed
+pub mod Stays
 pub mod Texts
+pub mod Whole
 pub mod Written

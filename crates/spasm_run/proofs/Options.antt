@@ -1,5 +1,5 @@
 -- The forms that the words of a command take.
-use Rattle.std.proofs.Common.{not, eqb, ◌≡◌, ◌≢◌, ℕ, zero, suc, ◌<◌, ◌≤◌, List, [], ◌∷◌, ◌++◌, length, get_or, Option, None, Some, Bor, MatchOption, Bool, true, false, refl, sym, ◌∙◌, ap, subst, arith}
+use Rattle.std.proofs.Common.{not, eqb, ◌≡◌, ◌≢◌, ℕ, zero, suc, ◌<◌, ◌≤◌, ◌^◌, List, [], ◌∷◌, ◌++◌, length, get_or, Option, None, Some, Bor, MatchOption, Bool, true, false, refl, sym, ◌∙◌, ap, subst, arith}
 use Rattle.std.proofs.lemmas.Slice.Eq.{bytes_eq-Decides}
 use Rattle.std.specs.Bool.{Decides}
 use Rattle.std.specs.Cmp.Lexicographic.{pointwise}
@@ -269,3 +269,12 @@ pub first_and_rest : (ws rest : List (Bor (List ℕ))) (first : Bor (List ℕ)) 
 first_and_rest ws rest first w result e f h =
     let P : List (List ℕ) → Type 0 = λ l. IsCommandOf l result in
     subst P (ap (λ (x : List ℕ). x ∷ bytes_of rest) f ∙ sym (ap bytes_of e)) h
+
+-- an accepted modulus lies in the range
+form_range : (ws : List (List ℕ)) (n : ℕ) → Forms ws n → (2 ≤ n) × (n < 2 ^ 48)
+form_range ws n (Default e d) = (omega arith, omega arith)
+form_range ws n (Joined v e r) = (r.2, omega (arith, r.3))
+form_range ws n (Apart v e r) = (r.2, omega (arith, r.3))
+
+pub accepted_range : (ws : List (List ℕ)) (c : Command) → Accepted ws c → (2 ≤ c.modulus) × (c.modulus < 2 ^ 48)
+accepted_range ws c a = let x = accepted_options ws c a in form_range x.0 c.modulus (modulus_forms x.0 c.modulus x.2)

@@ -200,3 +200,8 @@ pub placed_end : (p : ℕ) (h : Head) (es xs : List Entry) (i : ℕ) (rows : Lis
 placed_end p h es xs i rows two same past placed =
     let P : List Entry → Type 0 = λ l. IsPlaced p h.m h.n l rows in
     placed_all p h es rows two (subst P (take_all i xs past ∙ same) placed)
+
+-- the rows of a text are a matrix of residues
+pub text_matrix : (p : ℕ) (h : Head) (es : List Entry) (A : Matrix) → 2 ≤ p → A ≡ matrix_of p h.m h.n (Sizes h.m h.n ∷ (map value_item es ++ Closing ∷ [])) → IsMatrix p A
+unfolding made
+text_matrix p h es A two same = let P : Matrix → Type 0 = λ B. IsMatrix p B in subst P (sym same) (made_matrix p h es two)

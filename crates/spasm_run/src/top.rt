@@ -138,7 +138,8 @@ fn find_rank<S: Source>(
     source: &mut S,
     limit: u64,
 ) -> Result<u64, TextError>
-    requires { limit ≤ 1099511627776 }
+    requires limit { limit ≤ 1099511627776 }
+    requires two_or_more { 2 ≤ p.now }
     ensures did { RankRead p.now limit (S.told source.old) (S.told source.new) (S.faults source.old) (S.faults source.new) result }
     ensures count { S.faults source.old ≤ S.faults source.new }
 {
@@ -154,7 +155,8 @@ fn find_rank<S: Source>(
 
 // The rank of a text's matrix.
 fn rank_of_text(alloc: Global, p: &Modulus, text: &Text) -> Result<usize, AllocError>
-    requires { AreInside p.now text.now }
+    requires two_or_more { 2 ≤ p.now }
+    requires inside { AreInside p.now text.now }
     ensures { IfOk result (λ r. IsPrime p.now → HasRank p.now (matrix_of p.now text.now.head.m text.now.head.n (text_items text.now)) r) }
 {
     let rows = place(alloc, p, text)?;
