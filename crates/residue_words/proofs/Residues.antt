@@ -1,6 +1,6 @@
 -- Congruences modulo p: `a % p ≡ b % p`.
-use Rattle.std.proofs.Common.{ℕ, zero, suc, ◌≡◌, ◌≢◌, ◌+◌, ◌*◌, ◌-◌, ◌/◌, ◌%◌, ◌<◌, ◌≤◌, ◌⊎◌, inl, inr, sym, refl, ap, subst, ◌∙◌, arith, mod-lt, mod-eq_of_lt, mul_assoc, mul_comm, zero-mul, mul-zero}
-use native.Mathlib.Nat.{add-mod, zero-mod, mod-mod, add-mul-mod_self_left, mul-mod_right, mul-mod_left, mod_self, div-add-mod}
+use Rattle.std.proofs.Common.{ℕ, zero, suc, ◌≡◌, ◌≢◌, ◌+◌, ◌*◌, ◌-◌, ◌/◌, ◌%◌, ◌<◌, ◌≤◌, ◌⊎◌, inl, inr, sym, refl, ap, ◌∙◌, arith, mod-lt, mod-eq_of_lt, mul_comm, zero-mul}
+use native.Mathlib.Nat.{add-mod, zero-mod, mod-mod, mul-mod_left, mod_self, div-add-mod}
 use Rattle.std.proofs.lemmas.Nat.{mul-mod}
 use Rattle.std.proofs.lemmas.Bool.{cases_lt, cases_eq}
 use Rattle.residue_words.specs.Residues.{IsPrime}

@@ -1,5 +1,5 @@
 -- Lists of residues and matrices by their entries.
-use Rattle.std.proofs.Common.{ℕ, zero, suc, ◌≡◌, ◌≢◌, ◌+◌, ◌*◌, ◌%◌, ◌<◌, ◌≤◌, ◌⊎◌, inl, inr, cond, eqb, List, [], ◌∷◌, ◌++◌, length, map, slice_index, slice_index_or, sym, refl, ap, ap₂, ◌∙◌, arith, mod-lt, add-one, zero-mul, one-mul, mul_comm, mod-eq_of_lt, eq-eqb, ne_eqb}
+use Rattle.std.proofs.Common.{ℕ, ◌≡◌, ◌≢◌, ◌+◌, ◌*◌, ◌%◌, ◌<◌, ◌≤◌, ◌⊎◌, inl, inr, cond, eqb, List, [], ◌∷◌, ◌++◌, length, map, slice_index, sym, refl, ap, ap₂, ◌∙◌, arith, mod-lt, zero-mul, one-mul, mul_comm, mod-eq_of_lt, eq-eqb, ne_eqb}
 use native.Mathlib.Nat.{mod-mod}
 use Rattle.std.proofs.lemmas.Bool.{cases_lt, cases_eq, cond-true, cond-false}
 use Rattle.residue_words.proofs.Sums.{sum_equal, sum_single, sum_pair, sum_reduce, sum_reduce_right, sum_linear, sum_through}
@@ -197,6 +197,20 @@ dot_combine p y A x =
     ∙ sym (sum_reduce_right p A.height (slice_index y) (λ i. sum_below A.width (λ j. entry A i j * slice_index x j)))
     ∙ ap (λ t. t % p) (sum_equal A.height (λ i. slice_index y i * (sum_below A.width (λ j. entry A i j * slice_index x j) % p)) (λ i. slice_index y i * slice_index (apply p A x) i)
     (λ i l. ap (λ t. slice_index y i * t) (sym (at_apply p A x i l))))
+
+-- a vector that is a sum of rows of B is in its row space
+pub combination_of : (p : ℕ) (B : Matrix) (v : List ℕ) (c : ℕ → ℕ) → 0 < p → IsVector p B.width v →
+    ((j : ℕ) → j < B.width → slice_index v j % p ≡ sum_below B.height (λ k. c k * entry B k j) % p) → IsCombination p B v
+combination_of p B v c pos vector same =
+    let y : List ℕ = list_of B.height (λ k. c k % p) in (
+      y,
+      vector_of p B.height (λ k. c k % p) (λ k l. mod-lt (c k) pos),
+      list_equal B.width v (combine p y B) vector.len (length_list_of B.width _) (λ j l.
+          sym (mod-eq_of_lt (vector.residues j l)) ∙ same j l
+          ∙ sym (sum_reduce p B.height c (λ k. entry B k j))
+          ∙ ap (λ x. x % p) (sum_equal B.height (λ k. c k % p * entry B k j) (λ k. slice_index y k * entry B k j) (λ k b. ap (λ x. x * entry B k j) (sym (at_list_of B.height (λ k. c k % p) k b))))
+          ∙ sym (at_combine p y B j l)),
+    )
 
 -- coefficients of the rows of A in those of B, for all rows at once
 pick : (p : ℕ) (A B : Matrix) → ((i : ℕ) → i < A.height → IsCombination p B (row A i)) → (i : ℕ) → (i < A.height) ⊎ (A.height ≤ i) → List ℕ

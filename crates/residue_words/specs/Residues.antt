@@ -1,5 +1,5 @@
 -- Primes, and finite sums of whole numbers.
-use Rattle.std.specs.Prelude.{◌≡◌, ◌≢◌, ◌<◌, ◌≤◌, ◌+◌, ◌*◌, ◌%◌, ◌==◌, if◌then◌else◌, ℕ, zero, suc}
+use Rattle.std.specs.Prelude.{◌≢◌, ◌<◌, ◌≤◌, ◌+◌, ◌*◌, ◌%◌, ◌==◌, if◌then◌else◌, ℕ, zero, suc}
 
 -- p is prime: it is 2 or more, and no d with 2 ≤ d < p divides it (textbook)
 pub record IsPrime (p : ℕ) : Type 0 where

@@ -1,5 +1,5 @@
 -- The 3 x 3 example modulo 7 on which the definitions are worked: its third row is the sum of the first two.
-use Rattle.std.specs.Prelude.{◌≡◌, List, ℕ, [], ◌∷◌}
+use Rattle.std.specs.Prelude.{[], ◌∷◌}
 use Rattle.residue_words.specs.Matrix.{Matrix}
 use Rattle.row_space.specs.Echelon.{HasRank, IsRref}
 use Rattle.row_space.specs.Kernel.{IsKernel}

@@ -1,11 +1,11 @@
 -- The laws of row spaces that the other crates rest on. Each is the contract of a public function that does nothing.
-use Rattle.std.specs.Prelude.{◌≡◌, ◌<◌, ◌≤◌, ◌+◌, ◌↔◌, ◌⊎◌, ℕ, List, length, slice_index}
+use Rattle.std.specs.Prelude.{◌≡◌, ◌<◌, ◌≤◌, ◌↔◌, ◌⊎◌, ℕ, List, length, slice_index}
 use Rattle.residue_words.specs.declared.plain.Pair.{Pair}
 use Rattle.residue_words.specs.Residues.{IsPrime}
 use Rattle.residue_words.specs.Matrix.{Matrix, IsMatrix, IsVector, IsCombination, entry, row}
 use Rattle.row_space.specs.Echelon.{HasLeads, HasRank, IsIndependent, IsRref, SameSpan}
 use Rattle.row_space.specs.Kernel.{IsKernel}
-use Rattle.row_space.specs.Solution.{IsSolution, IsReducedSolution, IsRefutingCombination, Annuls, beside, refuting_side, refuting_system}
+use Rattle.row_space.specs.Solution.{IsSolution, IsReducedSolution, IsRefutingCombination, Annuls, beside, refuting_rows, refuting_side, refuting_system}
 use Rattle.row_space.specs.Factors.{AreFactors, Certificate, IsValid, ShowsKernel, ShowsRref, TellsOf}
 
 -- a matrix has at most one reduced echelon form, rank, kernel basis
@@ -80,7 +80,11 @@ RrefSolves = (p : ℕ) (A : Matrix) (b : List ℕ) (E : Matrix) (leads : List �
     ((j : ℕ) → j < A.width → slice_index x j ≡ 0 ⊎ ((k : ℕ) × (k < E.height) × (slice_index leads k ≡ j))) →
     IsReducedSolution p A b x
 
--- the reduced solution of the refuting system is the refuting combination
+-- the refuting system is a system for y whose solutions are the y with y A = 0 and y . b = 1, and its reduced solution is the refuting combination
+pub record RefutingSystemIs (p : ℕ) (A : Matrix) (b y : List ℕ) : Type 0 where
+  pub system : refuting_system A b ≡ beside (refuting_rows A b) (refuting_side A.width)
+  pub solution : IsSolution p (refuting_rows A b) (refuting_side A.width) y ↔ Annuls p A b 1 y
+  pub reduced : IsReducedSolution p (refuting_rows A b) (refuting_side A.width) y ↔ IsRefutingCombination p A b y
+
 abbrev pub RefutingSystem : Type 0
-RefutingSystem = (p : ℕ) (A : Matrix) (b y : List ℕ) → 2 ≤ p → IsMatrix p A → IsVector p A.height b →
-    IsVector p A.height y → IsReducedSolution p (refuting_system A b) (refuting_side A.width) y → IsRefutingCombination p A b y
+RefutingSystem = (p : ℕ) (A : Matrix) (b y : List ℕ) → 2 ≤ p → IsMatrix p A → IsVector p A.height b → RefutingSystemIs p A b y

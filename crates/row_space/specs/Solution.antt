@@ -1,5 +1,5 @@
 -- The solution of A x = b that is told, and the row combination that refutes an unsolvable system.
-use Rattle.std.specs.Prelude.{◌≡◌, ◌<◌, ◌+◌, ◌++◌, ℕ, List, [], ◌∷◌, map, slice_index}
+use Rattle.std.specs.Prelude.{◌≡◌, ◌+◌, ◌++◌, ℕ, List, [], ◌∷◌, map, slice_index}
 use Rattle.std.specs.List.{range_with_len}
 use Rattle.residue_words.specs.Matrix.{Matrix, IsVector, apply, combine, dot, entry, list_of, row, zeros}
 use Rattle.row_space.specs.Kernel.{IsNull, EndsAt}
@@ -23,7 +23,7 @@ pub record IsRefutingCombination (p : ℕ) (A : Matrix) (b y : List ℕ) : Type 
   pub refutes : Annuls p A b 1 y
   pub reduced : (z : List ℕ) (i : ℕ) → Annuls p A b 0 z → EndsAt A.height z i → slice_index y i ≡ 0
 
--- [A | b], and the matrix whose rows are those of A transposed with a 0 behind each, and b with a 1
+-- [A | b]
 abbrev pub beside : Matrix → List ℕ → Matrix
 beside A b = record {
   height = A.height;
@@ -31,13 +31,22 @@ beside A b = record {
   rows = map (λ i. row A i ++ slice_index b i ∷ []) (range_with_len 0 A.height);
 }
 
+-- the matrix whose rows are those of A transposed, and b: the equations for a refuting combination
+abbrev pub refuting_rows : Matrix → List ℕ → Matrix
+refuting_rows A b = record {
+  height = A.width + 1;
+  width = A.height;
+  rows = map (λ j. list_of A.height (λ i. entry A i j)) (range_with_len 0 A.width) ++ list_of A.height (slice_index b) ∷ [];
+}
+
+-- their right-hand side for a matrix of this width: zeros, and a one at the end
+abbrev pub refuting_side : ℕ → List ℕ
+refuting_side n = zeros n ++ 1 ∷ []
+
+-- both side by side: the rows of A transposed with a 0 behind each, and b with a 1
 abbrev pub refuting_system : Matrix → List ℕ → Matrix
 refuting_system A b = record {
   height = A.width + 1;
   width = A.height + 1;
   rows = map (λ j. list_of A.height (λ i. entry A i j) ++ 0 ∷ []) (range_with_len 0 A.width) ++ (list_of A.height (slice_index b) ++ 1 ∷ []) ∷ [];
 }
-
--- the right-hand side of the refuting system of a matrix of this width: zeros, and a one at the end
-abbrev pub refuting_side : ℕ → List ℕ
-refuting_side n = zeros n ++ 1 ∷ []

@@ -1,4 +1,5 @@
 pub mod Capped
+pub mod Elimination
 pub mod Options
 pub mod Placed
 pub mod Stays

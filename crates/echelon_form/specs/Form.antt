@@ -1,0 +1,20 @@
+-- What callers see of an echelon form.
+use Rattle.std.specs.Prelude.{◌≡◌, ◌<◌, ◌≤◌, ℕ, List, length}
+use Rattle.residue_words.specs.Residues.{IsPrime}
+use Rattle.residue_words.specs.Matrix.{Matrix, IsMatrix}
+use Rattle.row_space.specs.Echelon.{HasLeads, IsRref}
+
+-- the rows of the form with their modulus, and the leads
+pub record Form : Type 0 where
+  pub modulus : ℕ
+  pub matrix : Matrix
+  pub leads : List ℕ
+
+-- it is the form of A: for a prime modulus the one reduced echelon form with its leads, for others some rows of A's width
+pub record IsFormOf (p : ℕ) (A : Matrix) (f : Form) : Type 0 where
+  pub modulus : f.modulus ≡ p
+  pub matrix : IsMatrix p f.matrix
+  pub width : f.matrix.width ≡ A.width
+  pub rank : length f.leads ≡ f.matrix.height
+  pub rref : IsPrime p → IsRref p A f.matrix
+  pub leads : IsPrime p → HasLeads f.matrix f.leads

@@ -1,0 +1,2 @@
+//! The reduced row echelon form of a sparse matrix.
+#![tactic(auto)]

@@ -1,0 +1,75 @@
+-- The refuting system is the system for a combination y with y A = 0 and y . b = 1.
+use Rattle.std.proofs.Common.{ℕ, ◌≡◌, ◌+◌, ◌*◌, ◌%◌, ◌<◌, ◌↔◌, List, [], ◌∷◌, ◌++◌, map, slice_index, sym, ap, ap₂, ◌∙◌, arith, mul_comm}
+use Rattle.std.specs.List.{range_with_len}
+use Rattle.std.proofs.lemmas.List.{get_or_append_left, get_or_push, same_from_push}
+use Rattle.std.proofs.lemmas.List.FromFn.{fill_by_all, get_or-map-range_with_len, length-map-range_with_len, map-range_with_len_more}
+use Rattle.residue_words.specs.Residues.{sum_below}
+use Rattle.residue_words.specs.Matrix.{Matrix, row, entry, list_of, apply, combine, dot, zeros}
+use Rattle.residue_words.proofs.Sums.{sum_equal}
+use Rattle.residue_words.proofs.Vectors.{at_list_of, at_zeros, length_list_of, list_of_equal, list_of_more}
+use Rattle.row_space.specs.Kernel.{IsNull}
+use Rattle.row_space.specs.Solution.{Annuls, IsSolution, beside, refuting_rows, refuting_side, refuting_system}
+use Rattle.row_space.specs.Laws.{RefutingSystem}
+
+-- its rows: the columns of A, and b
+refuting_column : (A : Matrix) (b : List ℕ) (j : ℕ) → j < A.width → row (refuting_rows A b) j ≡ list_of A.height (λ i. entry A i j)
+refuting_column A b j l =
+    get_or_append_left (map (λ j. list_of A.height (λ i. entry A i j)) (range_with_len 0 A.width)) (list_of A.height (slice_index b) ∷ []) [] j
+    (omega (arith, length-map-range_with_len (λ j. list_of A.height (λ i. entry A i j)) 0 A.width))
+    ∙ get_or-map-range_with_len (λ j. list_of A.height (λ i. entry A i j)) 0 A.width j j [] l (omega arith)
+
+refuting_end : (A : Matrix) (b : List ℕ) → row (refuting_rows A b) A.width ≡ list_of A.height (slice_index b)
+refuting_end A b =
+    get_or_push (map (λ j. list_of A.height (λ i. entry A i j)) (range_with_len 0 A.width)) (list_of A.height (slice_index b)) [] A.width
+    (length-map-range_with_len (λ j. list_of A.height (λ i. entry A i j)) 0 A.width)
+
+-- its values at y: y A, and y . b
+refuting_values : (p : ℕ) (A : Matrix) (b y : List ℕ) → apply p (refuting_rows A b) y ≡ combine p y A ++ dot p A.height y b ∷ []
+refuting_values p A b y =
+    list_of_more A.width (λ j. sum_below A.height (λ i. entry (refuting_rows A b) j i * slice_index y i) % p)
+    ∙ ap₂ (λ u t. u ++ t ∷ [])
+    (list_of_equal A.width _ _ (λ j l. ap (λ t. t % p) (sum_equal A.height (λ i. entry (refuting_rows A b) j i * slice_index y i) (λ i. slice_index y i * entry A i j) (λ i o.
+    ap (λ t. t * slice_index y i) (ap (λ u. slice_index u i) (refuting_column A b j l) ∙ at_list_of A.height (λ i. entry A i j) i o) ∙ mul_comm (entry A i j) (slice_index y i)))))
+    (ap (λ t. t % p) (sum_equal A.height (λ i. entry (refuting_rows A b) A.width i * slice_index y i) (λ i. slice_index y i * slice_index b i) (λ i o.
+    ap (λ t. t * slice_index y i) (ap (λ u. slice_index u i) (refuting_end A b) ∙ at_list_of A.height (slice_index b) i o) ∙ mul_comm (slice_index b i) (slice_index y i))))
+
+-- the y whose values are zeros and c
+annuls_iff : (p : ℕ) (A : Matrix) (b : List ℕ) (c : ℕ) (y : List ℕ) → IsSolution p (refuting_rows A b) (zeros A.width ++ c ∷ []) y ↔ Annuls p A b c y
+annuls_iff p A b c y = (
+  λ s. let parts = same_from_push (combine p y A) (zeros A.width) (dot p A.height y b) c (sym (refuting_values p A b y) ∙ s.1) in (s.0, parts.0, parts.1),
+  λ a. (a.0, refuting_values p A b y ∙ ap₂ (λ u t. u ++ t ∷ []) a.1 a.2),
+)
+
+null_iff : (p : ℕ) (A : Matrix) (b y : List ℕ) → IsNull p (refuting_rows A b) y ↔ Annuls p A b 0 y
+null_iff p A b y =
+    let side : zeros (A.width + 1) ≡ zeros A.width ++ 0 ∷ [] = list_of_more A.width (λ j. 0) in
+    let same = annuls_iff p A b 0 y in
+    (λ s. same.0 (s.0, s.1 ∙ side), λ a. let s = same.1 a in (s.0, s.1 ∙ sym side))
+
+-- its columns with the right-hand side behind them
+system_beside : (A : Matrix) (b : List ℕ) → refuting_system A b ≡ beside (refuting_rows A b) (refuting_side A.width)
+system_beside A b =
+    let f : ℕ → List ℕ = λ j. row (refuting_rows A b) j ++ slice_index (refuting_side A.width) j ∷ [] in
+    let g : ℕ → List ℕ = λ j. list_of A.height (λ i. entry A i j) ++ 0 ∷ [] in
+    let front : (j : ℕ) → j < A.width → g j ≡ f j = λ j l. ap₂ (λ u t. u ++ t ∷ []) (sym (refuting_column A b j l))
+    (sym (get_or_append_left (zeros A.width) (1 ∷ []) 0 j (omega (arith, length_list_of A.width (λ j. 0))) ∙ at_zeros A.width j l)) in
+    let last : list_of A.height (slice_index b) ++ 1 ∷ [] ≡ f A.width = ap₂ (λ u t. u ++ t ∷ []) (sym (refuting_end A b))
+    (sym (get_or_push (zeros A.width) 1 0 A.width (length_list_of A.width (λ j. 0)))) in
+    let fronts : map g (range_with_len 0 A.width) ≡ map f (range_with_len 0 A.width) =
+    fill_by_all f (map g (range_with_len 0 A.width)) A.width [] (length-map-range_with_len g 0 A.width)
+    (λ k l. get_or-map-range_with_len g 0 A.width k k [] l (omega arith) ∙ front k l) in
+    ap (with_rows (A.width + 1) (A.height + 1)) (ap₂ (λ u t. u ++ t ∷ []) fronts last ∙ sym (map-range_with_len_more f 0 A.width A.width (omega arith)))
+  where
+    with_rows : ℕ → ℕ → List (List ℕ) → Matrix
+    with_rows h w r = record { height = h; width = w; rows = r }
+
+pub refuting : RefutingSystem
+refuting p A b y two m v =
+    record {
+      system = system_beside A b;
+      solution = annuls_iff p A b 1 y;
+      reduced = (
+        λ s. record { refutes = (annuls_iff p A b 1 y).0 s.solves; reduced = λ z i none end. s.reduced z i ((null_iff p A b z).1 none) end },
+        λ r. record { solves = (annuls_iff p A b 1 y).1 r.refutes; reduced = λ z j null end. r.reduced z j ((null_iff p A b z).0 null) end },
+      );
+    }

@@ -1,0 +1,2 @@
+//! Sparse matrices as compressed rows.
+#![tactic(auto)]

@@ -1,0 +1,2 @@
+//! Elimination with sparse rows.
+#![tactic(auto)]
