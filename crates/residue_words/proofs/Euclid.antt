@@ -85,7 +85,7 @@ euclid_factor p a before rest factor_before factor negative h =
     omega (arith, h.total, h.positive)
 
 -- with a prime p the algorithm ends at 1
-euclid_one : (p a before rest factor_before factor : ℕ) (negative : Bool) → IsEuclid p a before rest factor_before factor negative → rest ≤ 1 → IsPrime p → rest ≡ 1
+pub euclid_one : (p a before rest factor_before factor : ℕ) (negative : Bool) → IsEuclid p a before rest factor_before factor negative → rest ≤ 1 → IsPrime p → rest ≡ 1
 euclid_one p a before rest factor_before factor negative h small prime =
     elim (cases_eq rest 0) [
       | inl e ↦

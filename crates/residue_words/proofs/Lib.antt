@@ -1,5 +1,6 @@
 pub mod Digits
 pub mod Euclid
+pub mod Inverses
 pub mod Quotients
 pub mod Residues
 pub mod Sums

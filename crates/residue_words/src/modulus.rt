@@ -1,6 +1,6 @@
 // Residues modulo p.
 ghost use Rattle.residue_words.specs.Reciprocal.{reciprocal};
-ghost use Rattle.residue_words.specs.Residues.{IsPrime};
+ghost use Rattle.residue_words.specs.Residues.{IsPrime, inverse};
 ghost use Rattle.std.specs.Prelude.{◌≡◌, ◌≢◌, ◌<◌, ◌≤◌, ◌+◌, ◌-◌, ◌*◌, ◌/◌, ◌%◌, ◌^◌, ℕ};
 
 use std::marker::Model;
@@ -145,11 +145,12 @@ impl Modulus {
         }
     }
 
-    /// The inverse of a where p is prime, by Euclid's algorithm; for other moduli some residue.
+    /// The inverse of a, by Euclid's algorithm: 0 where there is none, which a prime p leaves only to 0.
     /// Takes a number of steps proportional to the digits of p.
     pub fn inv(&self, a: u64) -> u64
         requires nonzero { a ≢ 0 }
         requires residue { a < self.now }
+        ensures value { result ≡ inverse self.now a }
         ensures inverse { IsPrime self.now → (a * result) % self.now ≡ 1 }
         ensures in_range { result < self.now }
     {
@@ -169,6 +170,9 @@ impl Modulus {
             factor_before = factor;
             factor = next_factor;
             negative = !negative;
+        }
+        if rest == 0 {
+            return 0;
         }
         if negative { p - factor } else { factor }
     }

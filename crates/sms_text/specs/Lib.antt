@@ -1,7 +1,9 @@
 pub mod Buffered
+pub mod Feeding
 pub mod Lines
 pub mod Numbers
 pub mod Outside
 pub mod Reading
+pub mod Spelling
 pub mod Text
 pub mod Written

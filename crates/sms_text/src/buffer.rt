@@ -1,6 +1,6 @@
 // The bytes that were taken from a source and not yet used.
 ghost use Rattle.std.specs.Prelude.{◌≡◌, ◌<◌, ◌≤◌, ◌+◌, ◌++◌, [], List, ℕ, length, take, drop, IfOk, OnErr};
-ghost use Rattle.sms_text.specs.Buffered.{FillDid, HasRoom, PulledBehind, line_length};
+ghost use Rattle.sms_text.specs.Buffered.{FillDid, count_of, HasRoom, PulledBehind, line_length};
 
 use crate::outside::{Pulled, Source};
 use std::alloc::{AllocError, Global};
@@ -75,11 +75,7 @@ impl Buffer {
         let end = self.bytes.len();
         open_room(&mut self.bytes)?;
         let pulled = pull_behind(&mut self.bytes, end, source);
-        let count = match pulled {
-            Pulled::Got(count) => count,
-            Pulled::End | Pulled::Failed => 0,
-        };
-        self.bytes.truncate(end + count);
+        self.bytes.truncate(end + count_of(pulled));
         Ok(pulled)
     }
 
@@ -124,6 +120,16 @@ fn open_room(bytes: &mut Vec<u8>) -> Result<(), AllocError>
     let room = end.checked_add(BLOCK).ok_or(AllocError)?;
     bytes.resize(room, 0)?;
     Ok(())
+}
+
+// How many bytes were given.
+fn count_of(pulled: Pulled) -> usize
+    ensures { result ≡ count_of pulled }
+{
+    match pulled {
+        Pulled::Got(count) => count,
+        Pulled::End | Pulled::Failed => 0,
+    }
 }
 
 // Pulls into what stands behind the first `end` bytes.

@@ -3,18 +3,17 @@ ghost use Rattle.std.specs.Prelude.{◌≡◌, ◌≢◌, ◌<◌, ◌≤◌, �
 ghost use Rattle.sms_text.specs.Lines.{content, is_gap, words, is_void};
 ghost use Rattle.sms_text.specs.Numbers.{is_number, is_digit, is_letter, value, has_slash, numerator, denominator, unsigned, residue, is_minus};
 ghost use Rattle.sms_text.specs.Text.{is_one_letter};
-ghost use Rattle.sms_text.specs.Spelling.{DigitsOf, SignedOf, SplitWord, SplitSlash, ThreeWords, SpelledAs, is_start};
+ghost use Rattle.sms_text.specs.Spelling.{DigitsOf, SignedOf, SplitWord, SplitSlash, ThreeWords, SpelledAs, is_slash};
+ghost use Rattle.std.specs.List.{prefix_len, position_or_len};
 
-use residue_words::Modulus;
+use residue_words::{Fold, Modulus};
 use std::alloc::{AllocError, Global};
 
 // Above every size and index that is allowed: numbers from here on need not be told apart.
 const CAP: u64 = 0x1_0000_0000;
 
-// A number below this may grow by one digit within 64 bits.
-const ROOM: u64 = 0x1000_0000_0000_0000;
-
 /// The three words of a line.
+#[derive(Clone, Copy)]
 pub struct Three<'a> {
     pub first: &'a [u8],
     pub second: &'a [u8],
@@ -40,13 +39,15 @@ pub struct Spelled {
 pub fn content(line: &[u8]) -> &[u8]
     ensures { result.now ≡ content line.now }
 {
-    let length = line.len();
-    if length > 0 && line[length - 1] == 13 {
-        let (front, _) = line.split_at(length - 1);
-        front
-    } else {
-        line
+    if line.is_empty() {
+        return line;
     }
+    let last = line.len() - 1;
+    if line[last] != 13 {
+        return line;
+    }
+    let (front, _) = line.split_at(last);
+    front
 }
 
 fn is_gap(b: u8) -> bool
@@ -57,9 +58,7 @@ fn is_gap(b: u8) -> bool
 
 // The place of the first byte that is no gap.
 fn word_start(line: &[u8]) -> usize
-    ensures within { result ≤ length line.now }
-    ensures same { words (drop result line.now) ≡ words line.now }
-    ensures at { is_start (drop result line.now) ≡ true }
+    ensures { result ≡ prefix_len is_gap line.now }
 {
     let mut at = 0;
     while at < line.len() && is_gap(line[at]) {
@@ -68,16 +67,24 @@ fn word_start(line: &[u8]) -> usize
     at
 }
 
+// The place of the first gap.
+fn word_end(line: &[u8]) -> usize
+    ensures { result ≡ position_or_len is_gap line.now }
+{
+    let mut at = 0;
+    while at < line.len() && !is_gap(line[at]) {
+        at += 1;
+    }
+    at
+}
+
 // The first word, empty if there is none, and what stands behind it.
 fn split_word(line: &[u8]) -> (&[u8], &[u8])
-    ensures { SplitWord line.now result.0.now result.1.now }
+    ensures split { SplitWord line.now result.0.now result.1.now }
+    ensures shorter { length result.0.now + length result.1.now ≤ length line.now }
 {
     let (_, tail) = line.split_at(word_start(line));
-    let mut end = 0;
-    while end < tail.len() && !is_gap(tail[end]) {
-        end += 1;
-    }
-    tail.split_at(end)
+    tail.split_at(word_end(tail))
 }
 
 /// Whether the line has no words, or its first word begins with `%` or `#`.
@@ -85,7 +92,11 @@ pub fn is_void(line: &[u8]) -> bool
     ensures { result ≡ is_void (words line.now) }
 {
     let start = word_start(line);
-    start == line.len() || line[start] == 37 || line[start] == 35
+    if start == line.len() {
+        return true;
+    }
+    let first = line[start];
+    first == 37 || first == 35
 }
 
 /// The words of a line that has three.
@@ -139,34 +150,20 @@ pub fn capped(word: &[u8]) -> Option<u64>
 }
 
 // The number that a word of any length spells, modulo p. `None` if the word isn't all digits.
-fn digits(word: &[u8], p: &Modulus) -> Option<Digits>
+fn fold_digits(word: &[u8], p: &Modulus) -> Option<Digits>
     ensures { DigitsOf p.now word.now result }
 {
     if word.is_empty() {
         return None;
     }
-    let p = p.p();
-    let mut number = 0u64;
-    let mut zero = true;
+    let mut fold = Fold::new(p);
     for b in word {
         if !is_digit(*b) {
             return None;
         }
-        let digit = u64::from(*b - 48);
-        number = 10 * lower(number, p) + digit;
-        zero = zero && digit == 0;
+        fold.push_digit(*b - 48);
     }
-    Some(Digits { residue: number % p, zero })
-}
-
-// A number of the same residue that may grow by a digit.
-fn lower(number: u64, p: u64) -> u64
-    requires two_or_more { 2 ≤ p }
-    requires in_range { p < 2 ^ 48 }
-    ensures same { result % p ≡ number % p }
-    ensures small { result < 2 ^ 60 }
-{
-    if number < ROOM { number } else { number % p }
+    Some(Digits { residue: fold.value(), zero: fold.is_zero_integer() })
 }
 
 // The number that a word with or without a sign spells, modulo p.
@@ -178,10 +175,10 @@ fn signed(word: &[u8], p: &Modulus) -> Option<Digits>
     }
     let first = word[0];
     if first != 45 && first != 43 {
-        return digits(word, p);
+        return fold_digits(word, p);
     }
     let (_, rest) = word.split_at(1);
-    let number = digits(rest, p)?;
+    let number = fold_digits(rest, p)?;
     if first == 45 {
         Some(Digits { residue: p.neg(number.residue), zero: number.zero })
     } else {
@@ -189,15 +186,22 @@ fn signed(word: &[u8], p: &Modulus) -> Option<Digits>
     }
 }
 
-// What stands before the first slash, and behind it, if there is one.
-fn split_slash(word: &[u8]) -> (&[u8], Option<&[u8]>)
-    ensures { SplitSlash word.now result.0.now result.1 }
+// The place of the first slash.
+fn slash_place(word: &[u8]) -> usize
+    ensures { result ≡ position_or_len is_slash word.now }
 {
     let mut at = 0;
     while at < word.len() && word[at] != 47 {
         at += 1;
     }
-    let (front, back) = word.split_at(at);
+    at
+}
+
+// What stands before the first slash, and behind it, if there is one.
+fn split_slash(word: &[u8]) -> (&[u8], Option<&[u8]>)
+    ensures { SplitSlash word.now result.0.now result.1 }
+{
+    let (front, back) = word.split_at(slash_place(word));
     if back.is_empty() {
         return (front, None);
     }
@@ -214,7 +218,7 @@ pub fn value_word(word: &[u8], p: &Modulus) -> Option<Spelled>
     let Some(back) = back else {
         return Some(Spelled { residue: top.residue, zero: top.zero, no_divisor: false });
     };
-    let bottom = digits(back, p)?;
+    let bottom = fold_digits(back, p)?;
     if bottom.residue == 0 {
         return Some(Spelled { residue: 0, zero: false, no_divisor: true });
     }
