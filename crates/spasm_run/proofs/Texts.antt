@@ -151,3 +151,31 @@ read_nothing p limit told f = let r = run_begins p limit (Header ∷ []) told in
 pub read_wants : (p limit : ℕ) (h : Head) (entries : List Entry) (start told : Option (List ℕ)) (f0 f : ℕ) (state : ReaderState) →
     IsRead p limit h entries start told f0 f state → FromStart p limit (Header ∷ []) (Err error.Memory) start told f0 f
 read_wants p limit h entries start told f0 f state is = (is.run.taken, (state.ended, is.run.source, is.run.spent, tt))
+
+-- the same where a call's result is known by an equation
+pub read_starts : (p limit : ℕ) (h : Head) (entries : List Entry) (told told' : Option (List ℕ)) (f g : ℕ) (old new : ReaderState) → entries ≡ [] →
+    old ≡ new_reader limit → LineDid p Header old new told told' f g (header_judged (Ok h)) → new.open_text ≡ Some (h.m, h.n) → f ≤ g →
+    IsRead p limit h entries told told' f g new
+read_starts p limit h entries told told' f g old new none begins did opened count =
+    let P : List Entry → Type 0 = λ l. IsRead p limit h l told told' f g new in
+    subst P (sym none) (read_begins p limit h told told' f g old new begins did opened count)
+
+pub read_entry : (p limit : ℕ) (h : Head) (entries entries' : List Entry) (e : Entry) (o : Option Entry) (start told told' : Option (List ℕ)) (f0 f g : ℕ) (old new : ReaderState) →
+    IsRead p limit h entries start told f0 f old → LineDid p (Body h.m h.n) old new told told' f g (entry_judged h (Ok o)) → LeavesOpen h p new o → f ≤ g →
+    o ≡ Some e → entries' ≡ entries ++ e ∷ [] → IsRead p limit h entries' start told' f0 g new
+read_entry p limit h entries entries' e None start told told' f0 f g old new is did opened count some more = absurd cc
+read_entry p limit h entries entries' e (Some d) start told told' f0 f g old new is did opened count some more =
+    let P : List Entry → Type 0 = λ l. IsRead p limit h l start told' f0 g new in
+    let same : d ≡ e = cc in
+    subst P (ap (λ (x : Entry). entries ++ x ∷ []) same ∙ sym more) (read_more p limit h entries d start told told' f0 f g old new is did opened count)
+
+pub entry_room : (p limit : ℕ) (h : Head) (entries : List Entry) (o : Option Entry) (start told told' : Option (List ℕ)) (f0 f g : ℕ) (old new : ReaderState) →
+    IsRead p limit h entries start told f0 f old → LineDid p (Body h.m h.n) old new told told' f g (entry_judged h (Ok o)) → new.room < old.room
+entry_room p limit h entries None start told told' f0 f g old new is did = takes_room p (Body h.m h.n) old new told told' f g _ is.run.sound did
+entry_room p limit h entries (Some d) start told told' f0 f g old new is did = takes_room p (Body h.m h.n) old new told told' f g _ is.run.sound did
+
+pub read_end : (p limit : ℕ) (h : Head) (entries : List Entry) (o : Option Entry) (start told told' : Option (List ℕ)) (f0 f g : ℕ) (old new : ReaderState) →
+    IsRead p limit h entries start told f0 f old → LineDid p (Body h.m h.n) old new told told' f g (entry_judged h (Ok o)) → o ≡ None →
+    FromStart p limit (Header ∷ []) (Ok (Sizes h.m h.n ∷ (map value_item entries ++ Closing ∷ []))) start told' f0 g
+read_end p limit h entries (Some d) start told told' f0 f g old new is did none = absurd cc
+read_end p limit h entries None start told told' f0 f g old new is did none = read_closes p limit h entries start told told' f0 f g old new is did
