@@ -141,7 +141,7 @@ pub placed_all : (p : ℕ) (h : Head) (es : List Entry) (rows : List (List ℕ))
 unfolding made
 placed_all p h es rows two placed =
     matrix_equal p (of_rows h.n rows) (made p h es) (placed_matrix p h.m h.n es rows two placed) (made_matrix p h es two) placed.height refl
-      (λ i j a b. placed.places i j (omega (arith, placed.height)) b ∙ sym (made_entry p h es i j (omega (arith, placed.height)) b))
+    (λ i j a b. placed.places i j (omega (arith, placed.height)) b ∙ sym (made_entry p h es i j (omega (arith, placed.height)) b))
 
 -- rows of zeros, one more
 pub blank_none : (n : ℕ) → AreBlank 0 n []
@@ -183,7 +183,7 @@ pub blank_pushed : (k n : ℕ) (old new : List (Vec ℕ Global)) (v : Vec ℕ Gl
 blank_pushed k n old new v blank pushed zeros =
     let P : List (List ℕ) → Type 0 = λ r. AreBlank (k + 1) n r in
     let e : lists new ≡ lists old ++ replicate n 0 ∷ [] =
-        ap lists pushed ∙ map-append (λ (w : Vec ℕ Global). w.items) old (v ∷ []) ∙ ap (λ (l : List ℕ). lists old ++ l ∷ []) zeros in
+    ap lists pushed ∙ map-append (λ (w : Vec ℕ Global). w.items) old (v ∷ []) ∙ ap (λ (l : List ℕ). lists old ++ l ∷ []) zeros in
     subst P (sym e) (blank_more k n (lists old) blank)
 
 -- the entries one after another

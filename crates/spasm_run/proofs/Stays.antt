@@ -62,9 +62,9 @@ closed_for false x line k e = cc
 whole_stays : (p room number : ℕ) (due : Due) (dues : List Due) (ws : List (List ℕ)) (ls ls' : List Line) (line : ℕ) (k : Kind) (long closed void : Bool) → long ≡ false → closed ≡ true →
     ((d : List Due) → read p false room (number + 1) d ls ≡ Fault line k → read p true room (number + 1) d ls' ≡ Fault line k) →
     cond (not (closed || false)) Short (cond void (read p false room (number + 1) (due ∷ dues) ls)
-      (elim (judge p due ws) [ Ok j ↦ with_item j.item (read p false room (number + 1) (j.due ++ dues) ls) | Err d ↦ Fault number d ])) ≡ Fault line k →
+    (elim (judge p due ws) [ Ok j ↦ with_item j.item (read p false room (number + 1) (j.due ++ dues) ls) | Err d ↦ Fault number d ])) ≡ Fault line k →
     cond long (Fault number kind.Long) (cond (not (closed || true)) Short (cond void (read p true room (number + 1) (due ∷ dues) ls')
-      (elim (judge p due ws) [ Ok j ↦ with_item j.item (read p true room (number + 1) (j.due ++ dues) ls') | Err d ↦ Fault number d ]))) ≡ Fault line k
+    (elim (judge p due ws) [ Ok j ↦ with_item j.item (read p true room (number + 1) (j.due ++ dues) ls') | Err d ↦ Fault number d ]))) ≡ Fault line k
 whole_stays p room number due dues ws ls ls' line k true closed void a b h e = absurd cc
 whole_stays p room number due dues ws ls ls' line k false false void a b h e = absurd cc
 whole_stays p room number due dues ws ls ls' line k false true true a b h e = h (due ∷ dues) e
@@ -78,12 +78,12 @@ fault_stays p room number (due ∷ dues) [] ls' line k h e = cc
 fault_stays p room number (due ∷ dues) (l ∷ ls) [] line k h e = absurd h
 fault_stays p room number (due ∷ dues) (l ∷ ls) (l' ∷ ls') line k h e =
     long_stays room number (size l) (size l') line k (ltb room (size l)) _ _ _ refl h.0
-      (λ f x.
-        let c = closed_for l.closed _ line k x in
-        let P : Line → Type 0 = λ m. read p true room number (due ∷ dues) (m ∷ ls') ≡ Fault line k in
-        subst P (h.1 c).0 (whole_stays p (room - size l) number due dues (words (content l.bytes)) ls ls' line k (ltb room (size l)) l.closed (is_void (words (content l.bytes))) f c
-          (λ d. fault_stays p (room - size l) (number + 1) d ls ls' line k (h.1 c).1) x))
-      refl e
+    (λ f x.
+    let c = closed_for l.closed _ line k x in
+    let P : Line → Type 0 = λ m. read p true room number (due ∷ dues) (m ∷ ls') ≡ Fault line k in
+    subst P (h.1 c).0 (whole_stays p (room - size l) number due dues (words (content l.bytes)) ls ls' line k (ltb room (size l)) l.closed (is_void (words (content l.bytes))) f c
+    (λ d. fault_stays p (room - size l) (number + 1) d ls ls' line k (h.1 c).1) x))
+    refl e
 
 -- a fault of the bytes taken is one of all bytes
 pub fault_of_all : (p limit number : ℕ) (dues : List Due) (taken : List ℕ) (ended : Bool) (bytes : List ℕ) (told told' : Option (List ℕ)) (line : ℕ) (k : Kind) →

@@ -64,7 +64,7 @@ next_falls true room number [] h k ws room' rest e = cc
 next_falls false room number [] h k ws room' rest e = cc
 next_falls ended room number (l ∷ ls) h k ws room' rest e =
     falls_by room (size l) number room' k (words (content l.bytes)) ws ls rest (next ended (room - size l) (number + 1) ls)
-      (ltb room (size l)) (l.closed || ended) (is_void (words (content l.bytes))) refl h.0 (next_falls ended (room - size l) (number + 1) ls h.1 k ws room' rest) e
+    (ltb room (size l)) (l.closed || ended) (is_void (words (content l.bytes))) refl h.0 (next_falls ended (room - size l) (number + 1) ls h.1 k ws room' rest) e
 
 took_filled : (j j' : Judged) (r : Result Judged Kind) (n k room room' : ℕ) (ls rest : List Line) →
     elim r as (λ x. One) [ Ok i ↦ Took i room (n + 1) ls | Err d ↦ Faulty n d ] ≡ Took j room' k rest → room ≡ room'
@@ -128,7 +128,7 @@ pub read_closes : (p limit : ℕ) (h : Head) (entries : List Entry) (start told 
 read_closes p limit h entries start told told' f0 f g old new is did =
     let items = Sizes h.m h.n ∷ map value_item entries in
     run_ends p limit (Header ∷ []) (items ++ Closing ∷ []) start told' new f0 g
-      (run_goes p limit (Header ∷ []) items (Body h.m h.n) [] start told told' old new f g (record { item = Closing; due = [] }) is.run did)
+    (run_goes p limit (Header ∷ []) items (Body h.m h.n) [] start told told' old new f g (record { item = Closing; due = [] }) is.run did)
 
 -- no entry was read
 pub read_stops : (p limit : ℕ) (h : Head) (entries : List Entry) (start told told' : Option (List ℕ)) (f0 f g : ℕ) (old new : ReaderState) (e : TextError) →

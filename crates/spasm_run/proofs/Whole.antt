@@ -78,25 +78,32 @@ pub ran_done : (ws : List (List ℕ)) (q p limit r : ℕ) (told told' : Option (
 ran_done ws q p limit r told told' f f' held held' g g' same accepted read_at written =
     let P : ℕ → Type 0 = λ m. RankRead m limit told told' f f' (Ok r) in
     let found = subst P same read_at in record {
-  bytes = found.bytes;
-  ended = found.ended;
-  taken = found.taken;
-  spent = found.spent;
-  cause = (rank_command p, rank_text r, accepted, answer_found ws p limit r told told' f f' found, written);
-}
+      bytes = found.bytes;
+      ended = found.ended;
+      taken = found.taken;
+      spent = found.spent;
+      cause = (rank_command p, rank_text r, accepted, answer_found ws p limit r told told' f f' found, written);
+    }
 
 pub ran_unwritten : (ws : List (List ℕ)) (q p limit r : ℕ) (told told' : Option (List ℕ)) (f f' : ℕ) (held held' : Option (List ℕ)) (g g' : ℕ) (fault : WriteFault) → q ≡ p → Accepted ws (rank_command p) →
     RankRead q limit told told' f f' (Ok r) → Writes (Err fault) (rank_text r) held held' g g' → Ran ws limit told told' f f' held held' g g' status.WriteFault
 ran_unwritten ws q p limit r told told' f f' held held' g g' fault same accepted read_at (part, rest, cut, put, rose) =
     let P : ℕ → Type 0 = λ m. RankRead m limit told told' f f' (Ok r) in
     let found = subst P same read_at in record {
-  bytes = found.bytes;
-  ended = found.ended;
-  taken = found.taken;
-  spent = found.spent;
-  cause = (rank_command p, part, rest, accepted,
-    (let P : List ℕ → Type 0 = λ l. HasAnswer (rank_command p) found.bytes found.ended limit l in subst P cut (answer_found ws p limit r told told' f f' found)), put, rose);
-}
+      bytes = found.bytes;
+      ended = found.ended;
+      taken = found.taken;
+      spent = found.spent;
+      cause = (
+        rank_command p,
+        part,
+        rest,
+        accepted,
+        (let P : List ℕ → Type 0 = λ l. HasAnswer (rank_command p) found.bytes found.ended limit l in subst P cut (answer_found ws p limit r told told' f f' found)),
+        put,
+        rose,
+      );
+    }
 
 failed_cause : (ws : List (List ℕ)) (p limit : ℕ) (bytes : List ℕ) (ended : Bool) (f f' : ℕ) (held : Option (List ℕ)) (g g' : ℕ) (e : TextError) → Accepted ws (rank_command p) →
     Finds p bytes ended limit f f' (Err e) → HasCause ws limit bytes ended f f' held held g g' (status_of e)
@@ -110,12 +117,12 @@ ran_unread ws q p limit told told' f f' held g g' e s same accepted read_at is =
     let P : ℕ → Type 0 = λ m. RankRead m limit told told' f f' (Err e) in
     let found = subst P same read_at in
     let Q : Status → Type 0 = λ t. HasCause ws limit found.bytes found.ended f f' held held g g' t in record {
-  bytes = found.bytes;
-  ended = found.ended;
-  taken = found.taken;
-  spent = found.spent;
-  cause = subst Q (sym is) (failed_cause ws p limit found.bytes found.ended f f' held g g' e accepted found.finds);
-}
+      bytes = found.bytes;
+      ended = found.ended;
+      taken = found.taken;
+      spent = found.spent;
+      cause = subst Q (sym is) (failed_cause ws p limit found.bytes found.ended f f' held g g' e accepted found.finds);
+    }
 
 -- nothing was read where no command is accepted
 pub ran_refused : (ws : List (List ℕ)) (limit : ℕ) (told : Option (List ℕ)) (f : ℕ) (held : Option (List ℕ)) (g : ℕ) → ((c : Command) → ¬ Accepted ws c) →

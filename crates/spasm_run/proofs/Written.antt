@@ -28,9 +28,13 @@ rose_earlier f0 f g from (inr full) = inr full
 pub writes_then : (result : Result (Unit {0}) WriteFault) (a b : List ℕ) (h0 h1 h2 : Option (List ℕ)) (f0 f1 f2 : ℕ) → h1 ≡ behind h0 a → f0 ≤ f1 →
     Writes result b h1 h2 f1 f2 → Writes result (a ++ b) h0 h2 f0 f2
 writes_then (Ok done) a b h0 h1 h2 f0 f1 f2 first count then = then ∙ ap (λ (h : Option (List ℕ)). behind h b) first ∙ behind_behind h0 a b
-writes_then (Err fault) a b h0 h1 h2 f0 f1 f2 first count (part, rest, cut, then, rose) =
-    (a ++ part, rest, ap (λ (l : List ℕ). a ++ l) cut ∙ sym (append_assoc a part rest),
-      then ∙ ap (λ (h : Option (List ℕ)). behind h part) first ∙ behind_behind h0 a part, rose_earlier f0 f1 f2 count rose)
+writes_then (Err fault) a b h0 h1 h2 f0 f1 f2 first count (part, rest, cut, then, rose) = (
+  a ++ part,
+  rest,
+  ap (λ (l : List ℕ). a ++ l) cut ∙ sym (append_assoc a part rest),
+  then ∙ ap (λ (h : Option (List ℕ)). behind h part) first ∙ behind_behind h0 a part,
+  rose_earlier f0 f1 f2 count rose,
+)
 
 -- a piece was not written, so nor what follows it
 pub writes_stops : (result : Result (Unit {0}) WriteFault) (fault : WriteFault) (a b : List ℕ) (h0 h1 : Option (List ℕ)) (f0 f1 : ℕ) → IsErr result →

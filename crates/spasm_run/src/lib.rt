@@ -7,6 +7,8 @@ mod rank;
 mod read;
 mod status;
 mod tell;
+#[cfg(test)]
+mod tests;
 mod top;
 mod words;
 

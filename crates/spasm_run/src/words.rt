@@ -9,6 +9,7 @@ const MODULUS: u64 = 42_013;
 
 // The largest modulus, and above it a number that is as good as any larger one.
 const LARGEST: u64 = 281_474_976_710_655;
+
 const CAP: u64 = 281_474_976_710_656;
 
 /// What is asked for.
@@ -46,7 +47,10 @@ fn read_command(name: &[u8], options: &[&str]) -> Option<Command>
         return None;
     }
     match read_modulus(options) {
-        Some(modulus) => Some(Command { task: Task::Rank, modulus }),
+        Some(modulus) => Some(Command {
+            task: Task::Rank,
+            modulus,
+        }),
         None => None,
     }
 }
@@ -97,7 +101,11 @@ fn joined_value(word: &[u8]) -> Option<&[u8]>
         return None;
     }
     let (name, value) = word.split_at(10);
-    if name == b"--modulus=".as_slice() { Some(value) } else { None }
+    if name == b"--modulus=".as_slice() {
+        Some(value)
+    } else {
+        None
+    }
 }
 
 // The modulus that a value spells.

@@ -15,7 +15,7 @@ pub returns-then-is_err-clause-did : goal.returns-then-is_err-clause-did
 returns-then-is_err-clause-did g c =
     let e = c.in-Ok-Some.ensures in
     read_wants _ _ c.in-Ok-header.head _ _ _ _ _ _
-      (read_entry _ _ c.in-Ok-header.head c.loop-entry.entries.items _ c.in-Ok-Some.entry c.in-Ok-Some.field-0 _ _ (g.S.Source.told c.entry.new.source) _ _ (g.S.Source.faults c.entry.new.source) _ c.entry.new.self c.loop-entry.invariant e.did e.open e.count c.in-Ok-Some.field-0-is refl)
+    (read_entry _ _ c.in-Ok-header.head c.loop-entry.entries.items _ c.in-Ok-Some.entry c.in-Ok-Some.field-0 _ _ (g.S.Source.told c.entry.new.source) _ _ (g.S.Source.faults c.entry.new.source) _ c.entry.new.self c.loop-entry.invariant e.did e.open e.count c.in-Ok-Some.field-0-is refl)
 
 pub loop-entry-smaller : goal.loop-entry-smaller
 loop-entry-smaller g c = entry_room _ _ c.in-Ok-header.head c.loop-entry.entries.items c.in-Ok-Some.field-0 _ _ (g.S.Source.told c.entry.new.source) _ _ (g.S.Source.faults c.entry.new.source) _ c.entry.new.self c.loop-entry.invariant c.in-Ok-Some.ensures.did
