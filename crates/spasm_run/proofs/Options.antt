@@ -6,7 +6,7 @@ use Rattle.std.specs.Cmp.Lexicographic.{pointwise}
 use Rattle.std.specs.Prelude.{codes}
 use Rattle.std.specs.List.{Contains, flat_map}
 use Rattle.sms_text.specs.Numbers.{value}
-use Rattle.spasm_run.specs.Words.{Given, spelling, spelling_of, AreKnown, IsInRange, IsValueOf, GivenOnce, Absent, modulus_name, Accepted, task_name}
+use Rattle.spasm_run.specs.Words.{Given, spelling, AreKnown, IsInRange, IsValueOf, GivenOnce, Absent, modulus_name, Accepted, task_name}
 use Rattle.spasm_run.specs.Options.{IsCommandOf, IsModulus, IsModulusOf, IsOneCommand, bytes_of}
 use Rattle.spasm_run.specs.declared.words.Command.{Command}
 use Rattle.spasm_run.specs.declared.words.Task.{Task}

@@ -1,17 +1,17 @@
 -- Entries placed into rows one after another, and the matrix that they make.
-use Rattle.std.proofs.Common.{ℕ, zero, suc, Global, take, Bool, true, false, cond, ◌&&◌, eqb, ◌≡◌, ◌≢◌, ◌⊎◌, ◌+◌, ◌%◌, ◌<◌, ◌≤◌, List, [], ◌∷◌, ◌++◌, Vec, length, map, get_or, set, replicate, refl, sym, ap, ◌∙◌, subst, inl, inr, arith, mod-lt, get_or-set_same, get_or-set_other, length-append, add_assoc, zero-add, add-zero}
+use Rattle.std.proofs.Common.{ℕ, zero, suc, Global, take, cond, ◌&&◌, eqb, ◌≡◌, ◌≢◌, ◌⊎◌, ◌+◌, ◌%◌, ◌<◌, ◌≤◌, List, [], ◌∷◌, ◌++◌, Vec, length, map, get_or, set, replicate, refl, sym, ap, ◌∙◌, subst, inl, inr, arith, mod-lt, get_or-set_same, get_or-set_other, length-append, add_assoc, add-zero}
 use Rattle.std.proofs.lemmas.Bool.{cases_eq}
 use Rattle.std.proofs.lemmas.Bool.Decides.{nat_tests}
 use Rattle.std.specs.List.{All}
 use Rattle.sms_text.specs.Reading.{IsInside}
 use Rattle.spasm_run.specs.Plain.{lists}
-use Rattle.std.proofs.lemmas.List.{take_more, take_all, length-set, map-append, get_or-replicate, length-replicate, get_or_append_left, get_or_push, ext_get_or, get_or-map}
+use Rattle.std.proofs.lemmas.List.{take_more, take_all, length-set, map-append, get_or-replicate, length-replicate, get_or_append_left, get_or_push, get_or-map}
 use native.Mathlib.Nat.{mod-mod}
 use Rattle.residue_words.specs.Matrix.{Matrix, IsMatrix, entry}
 use Rattle.residue_words.proofs.Vectors.{matrix_equal, is_matrix_of, entry_matrix_of}
 use Rattle.residue_words.proofs.Residues.{add_same}
 use Rattle.sms_text.specs.declared.reader.Entry.{Entry}
-use Rattle.sms_text.specs.Text.{Item, Sizes, Closing, value_at, matrix_of}
+use Rattle.sms_text.specs.Text.{Sizes, Closing, value_at, matrix_of}
 use Rattle.sms_text.specs.declared.reader.Head.{Head}
 use Rattle.row_space.specs.Rows.{of_rows}
 use Rattle.spasm_run.specs.Texts.{value_item}

@@ -1,11 +1,11 @@
 -- A fault of the bytes at hand stays when more bytes come behind them.
-use Rattle.std.proofs.Common.{ℕ, Bool, true, false, not, cond, ltb, eqb, ◌||◌, ◌≡◌, ◌+◌, ◌-◌, ◌<◌, ◌≤◌, List, [], ◌∷◌, ◌++◌, length, Option, None, Some, Result, Ok, Err, refl, sym, ap, ◌∙◌, subst, arith, append-nil}
+use Rattle.std.proofs.Common.{ℕ, Bool, true, false, not, cond, ltb, eqb, ◌||◌, ◌≡◌, ◌+◌, ◌-◌, ◌≤◌, List, [], ◌∷◌, ◌++◌, Option, None, Some, Result, Ok, Err, refl, sym, ap, ◌∙◌, subst, arith, append-nil}
 use Rattle.std.proofs.lemmas.Bool.Decides.{nat_tests}
 use Rattle.sms_text.specs.declared.kind.Kind.{Kind}
 use Rattle.sms_text.specs.declared.kind.Kind.TheVariants as kind
 use Rattle.sms_text.specs.Lines.{Line, lines, size, with_first, content, words, is_void}
 use Rattle.sms_text.specs.Outside.{before, IsSpent}
-use Rattle.sms_text.specs.Text.{Due, Item, Judged, Reading, Got, Fault, Short, judge, end_kind, read, with_item}
+use Rattle.sms_text.specs.Text.{Due, Item, Judged, Reading, Got, Fault, Short, judge, read, with_item}
 
 -- the first lines of the one are those of the other, but that the last may go on
 Extends : List Line → List Line → Type 0

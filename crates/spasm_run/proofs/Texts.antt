@@ -1,5 +1,5 @@
 -- A text read line by line.
-use Rattle.std.proofs.Common.{ℕ, Bool, true, false, ◌||◌, not, cond, ltb, eqb, ◌≡◌, suc, ◌<◌, ◌≤◌, ◌≢◌, ◌+◌, ◌-◌, List, [], ◌∷◌, ◌++◌, length, map, Option, None, Some, Result, Ok, Err, refl, sym, ap, ◌∙◌, subst, arith, append_assoc}
+use Rattle.std.proofs.Common.{ℕ, Bool, true, false, ◌||◌, not, cond, ltb, eqb, ◌≡◌, ◌<◌, ◌≤◌, ◌+◌, ◌-◌, List, [], ◌∷◌, ◌++◌, map, Option, None, Some, Result, Ok, Err, refl, sym, ap, ◌∙◌, subst, arith}
 use Rattle.std.specs.List.{All}
 use Rattle.sms_text.specs.declared.kind.Kind.{Kind}
 use Rattle.sms_text.specs.declared.kind.TextError.{TextError}
@@ -7,11 +7,10 @@ use Rattle.sms_text.specs.declared.kind.TextError.TheVariants as error
 use Rattle.sms_text.specs.declared.reader.Entry.{Entry}
 use Rattle.sms_text.specs.declared.reader.Head.{Head}
 use Rattle.sms_text.specs.Lines.{Line, lines, size, with_first, content, words, is_void}
-use Rattle.sms_text.specs.Outside.{before, IsSpent}
-use Rattle.sms_text.specs.Reading.{ReaderState, RunsTo, FromStart, LineDid, Takes, Next, Filled, TooLong, Missing, Unknown, next, One, Faulty, Unfinished, Took, judged, one, IsInside, LeavesOpen, new_reader, entry_judged, header_judged, MayFollow}
+use Rattle.sms_text.specs.Reading.{ReaderState, RunsTo, FromStart, LineDid, Takes, Next, Filled, TooLong, Missing, Unknown, next, One, Faulty, Took, judged, one, IsInside, LeavesOpen, new_reader, entry_judged, header_judged}
 use Rattle.sms_text.specs.Text.{Due, Header, Body, Item, Sizes, Closing, Judged, judge}
 use Rattle.sms_text.proofs.Runs.{run_begins, run_goes, run_ends, run_stops}
-use Rattle.sms_text.proofs.Moving.{stays_at, rose_from}
+use Rattle.sms_text.proofs.Moving.{stays_at}
 use Rattle.std.proofs.lemmas.List.{map-append}
 use Rattle.std.proofs.lemmas.List.Elements.{All-push}
 use Rattle.std.proofs.lemmas.Bool.Decides.{nat_tests}

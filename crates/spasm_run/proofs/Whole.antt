@@ -1,32 +1,28 @@
 -- From what the parts of a run do to what it did.
-use Rattle.std.proofs.Common.{ℕ, Bool, true, false, ◌≡◌, ◌<◌, ◌≤◌, ◌^◌, List, [], ◌∷◌, ◌++◌, map, Option, None, Some, Result, Ok, Err, refl, sym, ap, ◌∙◌, subst, inl, inr, arith}
-use Rattle.std.proofs.lemmas.Bool.{cases_eq}
+use Rattle.std.proofs.Common.{ℕ, Bool, true, false, ◌≡◌, List, [], ◌∷◌, ◌++◌, map, Option, None, Some, Result, Ok, Err, refl, sym, ap, ◌∙◌, subst, inl, inr}
 use Rattle.residue_words.specs.Matrix.{Matrix}
 use Rattle.residue_words.specs.Residues.{IsPrime}
 use Rattle.row_space.specs.Echelon.{HasRank}
-use Rattle.sms_text.specs.declared.kind.Kind.{Kind}
 use Rattle.sms_text.specs.declared.kind.TextError.{TextError}
 use Rattle.sms_text.specs.declared.kind.TextError.TheVariants as error
 use Rattle.sms_text.specs.declared.reader.Entry.{Entry}
 use Rattle.sms_text.specs.declared.write.WriteFault.{WriteFault}
-use Rattle.sms_text.specs.Lines.{Line, lines}
-use Rattle.sms_text.specs.Outside.{before, behind, IsSpent, Rose}
-use Rattle.sms_text.specs.Reading.{FromStart, Says}
-use Rattle.sms_text.specs.Text.{Header, Item, Sizes, Closing, Got, Fault, Short, matrices, matrix_of, read, Reads}
+use Rattle.sms_text.specs.Lines.{lines}
+use Rattle.sms_text.specs.Outside.{before, behind, IsSpent}
+use Rattle.sms_text.specs.Reading.{FromStart}
+use Rattle.sms_text.specs.Text.{Header, Item, Closing, Got, Fault, matrices, matrix_of, read}
 use Rattle.sms_text.specs.Writing.{Writes}
 use Rattle.spasm_run.specs.declared.read.Text.{Text}
 use Rattle.spasm_run.specs.declared.status.Status.{Status}
 use Rattle.spasm_run.specs.declared.status.Status.TheVariants as status
 use Rattle.spasm_run.specs.declared.words.Command.{Command}
-use Rattle.spasm_run.specs.declared.words.Task.{Task}
 use Rattle.spasm_run.specs.declared.words.Task.TheVariants.{Rank}
 use Rattle.spasm_run.specs.Answers.{rank_text, wanted}
 use Rattle.spasm_run.specs.Faults.{status_of}
-use Rattle.spasm_run.specs.Ran.{Ran, HasCause, HasAnswer, Completes, IsDoneOrMemory}
+use Rattle.spasm_run.specs.Ran.{Ran, HasCause, HasAnswer, Completes}
 use Rattle.spasm_run.specs.Texts.{Finds, RankRead, text_items, value_item}
-use Rattle.spasm_run.specs.Words.{Accepted, IsInRange, IsValueOf}
-use Rattle.spasm_run.specs.Options.{IsCommandOf}
-use Rattle.spasm_run.proofs.Options.{one_command, accepted_range}
+use Rattle.spasm_run.specs.Words.{Accepted}
+use Rattle.spasm_run.proofs.Options.{one_command}
 use Rattle.spasm_run.proofs.Stays.{fault_of_all}
 
 -- one text is one matrix

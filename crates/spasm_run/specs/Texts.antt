@@ -1,5 +1,5 @@
 -- Texts of one matrix, read whole.
-use Rattle.std.specs.Prelude.{◌≡◌, ◌<◌, ◌%◌, ℕ, List, [], ◌∷◌, ◌++◌, Bool, true, Option, Result, Ok, Err, Vec, length, map, slice_index, slice_index_or}
+use Rattle.std.specs.Prelude.{◌≡◌, ℕ, List, [], ◌∷◌, ◌++◌, Bool, true, Option, Result, Ok, Err, map}
 use Rattle.std.specs.List.{All}
 use Rattle.residue_words.specs.Residues.{IsPrime}
 use Rattle.residue_words.specs.Matrix.{Matrix}

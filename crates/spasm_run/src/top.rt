@@ -28,7 +28,8 @@ const LIMIT: u64 = 1_099_511_627_776;
 /// went well. Where it did not, one line that says why goes to `err`.
 ///
 /// Words that aren't accepted are refused before anything is read. A source is read up to the last line that is wanted, in at most 2^40
-/// bytes, and the first faulty line is named. Memory is wanted for the entries, 24 bytes each, and for the rows; none for writing.
+/// bytes, and the first faulty line is named. Memory is wanted for the entries, at most 40 bytes each while they are read, and for the rows;
+/// none for writing.
 /// `rt` and `gate` serve commands that search with several workers.
 pub fn run<R: Threads + Sync, S: Source, K: Sink, E: Sink, G: Gate>(
     rt: &R,

@@ -1,5 +1,5 @@
 -- A row more.
-use Rattle.std.proofs.Common.{◌≡◌, ◌≤◌, replicate, rules, arith, subst, ℕ}
+use Rattle.std.proofs.Common.{◌≡◌, replicate, rules, arith, subst, ℕ}
 use Rattle.spasm_run.specs.Placed.{AreBlank}
 use Rattle.spasm_run.specs.Plain.{lists}
 use Rattle.spasm_run.proofs.Placed.{blank_first, blank_pushed}

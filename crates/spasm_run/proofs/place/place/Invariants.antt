@@ -1,7 +1,6 @@
 use Rattle.std.proofs.Common.{take}
 use Rattle.spasm_run.specs.Placed.{IsPlaced}
 use Rattle.spasm_run.specs.Plain.{lists}
-use Rattle.spasm_run.proofs.Placed.{placed_none}
 use Rattle.spasm_run.proofs.place.place.Given as goal
 
 abbrev pub invariant-loop-entry : goal.invariant-loop-entry

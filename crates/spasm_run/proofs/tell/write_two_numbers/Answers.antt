@@ -1,7 +1,6 @@
 -- Three pieces, one after another.
-use Rattle.std.proofs.Common.{◌≡◌, ◌∙◌, ap, List, ℕ, Option, ◌≤◌, arith, Err, Ok, refl}
-use Rattle.sms_text.specs.Outside.{behind}
-use Rattle.spasm_run.proofs.Written.{writes_then, writes_stops, behind_behind}
+use Rattle.std.proofs.Common.{arith, Err, Ok, refl}
+use Rattle.spasm_run.proofs.Written.{writes_then, writes_stops}
 use Rattle.spasm_run.proofs.tell.write_two_numbers.Goals as goal
 
 pub returns-in_err-write_with_number-clause-did : goal.returns-in_err-write_with_number-clause-did

@@ -1,7 +1,7 @@
 -- The next digit makes the number ten times as large and adds to it, under the cap.
-use Rattle.std.proofs.Common.{get_or, arith}
+use Rattle.std.proofs.Common.{arith}
 use Rattle.std.proofs.lemmas.List.{drop_more}
-use Rattle.spasm_run.proofs.Capped.{capped_more, none_at, low_test, high_test}
+use Rattle.spasm_run.proofs.Capped.{capped_more}
 use Rattle.spasm_run.proofs.words.capped_number.Goals as goal
 
 pub loop-b-preserved : goal.loop-b-preserved
