@@ -23,7 +23,8 @@ below_is p a x (suc n) two within less e = elim (cases_Bool (eqb ((a * n) % p) 1
   | inr other ↦
       let below : x < n = elim (cases_eq x n) [
         | inl same ↦ absurd (let e' : (a * n) % p ≡ 1 = rw same at e in grind (arith, nat_tests))
-        | inr apart ↦ omega arith ] in
+        | inr apart ↦ omega arith
+      ] in
       rw other (below_is p a x n two (omega arith) below e)
 ]
 
@@ -57,7 +58,7 @@ euclid_inverse p a before rest factor_before factor true two h one =
     let whole : p - factor + factor ≡ p = omega arith in
     let all : a * (p - factor) + (a * factor + rest) ≡ 1 + a * p = omega (arith, ap (λ y. a * y) whole) in
     inverse_is p a (p - factor) two (omega (arith, h.positive))
-      (sym (right_zero p (a * (p - factor)) (a * factor + rest) h.signed.0) ∙ ap (λ x. x % p) all ∙ right_zero p 1 (a * p) (multiple_zero p a) ∙ mod-eq_of_lt two)
+    (sym (right_zero p (a * (p - factor)) (a * factor + rest) h.signed.0) ∙ ap (λ x. x % p) all ∙ right_zero p 1 (a * p) (multiple_zero p a) ∙ mod-eq_of_lt two)
 
 -- at rest 0 there is none
 pub euclid_none : (p a before rest factor_before factor : ℕ) (negative : Bool) → 2 ≤ p → IsEuclid p a before rest factor_before factor negative → rest ≡ 0 → inverse p a ≡ 0
@@ -65,4 +66,4 @@ euclid_none p a before rest factor_before factor false two h none =
     inverse_none p a factor two h.positive (euclid_factor p a before rest factor_before factor false h) (h.signed.0 ∙ ap (λ x. x % p) none ∙ zero-mod p)
 euclid_none p a before rest factor_before factor true two h none =
     inverse_none p a factor two h.positive (euclid_factor p a before rest factor_before factor true h)
-      (ap (λ x. x % p) (omega (arith, none)) ∙ h.signed.0)
+    (ap (λ x. x % p) (omega (arith, none)) ∙ h.signed.0)
