@@ -32,12 +32,16 @@ rows_did p old new told told' f g result sound h =
 -- from the header on
 header_reads : (p : ℕ) (old new : ReaderState) (told told' : Option (List ℕ)) (f g : ℕ) (m n : ℕ) → Takes p Header old new told told' f g (Ok (record { item = Sizes m n; due = Body m n ∷ [] })) →
     new.open_text ≡ Some (m, n) → (taken : List ℕ) × Moves old.ended new.ended taken told told' × IsBetween p old new taken (Sizes m n ∷ []) (Body m n ∷ [])
-header_reads p old new told told' f g m n t opened = (t.0, t.1, record {
-  sound = t.2;
-  opened = opened;
-  reads = λ ended more dues h.
-      read_one p ended old.room old.number Header dues (lines (old.kept ++ t.0 ++ more)) ∙ ap (after_one p ended dues) (t.3 ended more h);
-})
+header_reads p old new told told' f g m n t opened = (
+  t.0,
+  t.1,
+  record {
+    sound = t.2;
+    opened = opened;
+    reads = λ ended more dues h.
+        read_one p ended old.room old.number Header dues (lines (old.kept ++ t.0 ++ more)) ∙ ap (after_one p ended dues) (t.3 ended more h);
+  },
+)
 
 -- one line more
 line_reads : (p : ℕ) (old mid new : ReaderState) (told told' : Option (List ℕ)) (f g : ℕ) (taken : List ℕ) (items : List Item) (due : Due) (j : Judged) →
@@ -151,16 +155,23 @@ pub reading_closes : (p : ℕ) (h : Head) (b : Building) (o : Option Entry) (old
 reading_closes p h b (Some e) old mid new told told' told'' f f' g result is did opened count none made = absurd cc
 reading_closes p h b None old mid new told told' told'' f f' g (Ok A) is did opened count none made =
     let t = line_takes p (Body h.m h.n) mid new told' told'' f' g (entry_judged h (Ok None)) is.stands.sound did in
-    rows_did p old new told told'' f g (Ok A) is.begun (is.taken ++ t.0, moves_on old.ended mid.ended new.ended is.taken t.0 told told' told'' is.moves t.1, record {
-      items = _;
-      stands = line_reads p old mid new told' told'' f' g is.taken _ (Body h.m h.n) _ is.stands t opened;
-      matrix = whole_matrix p h.m h.n b.pushed ∙ ap (λ B. B ∷ []) (sym (made.1 ∙ rw (is.modulus, is.height, is.width) refl));
-      modulus = made.0 ∙ is.modulus;
-    })
+    rows_did p old new told told'' f g (Ok A) is.begun (
+      is.taken ++ t.0,
+      moves_on old.ended mid.ended new.ended is.taken t.0 told told' told'' is.moves t.1,
+      record {
+        items = _;
+        stands = line_reads p old mid new told' told'' f' g is.taken _ (Body h.m h.n) _ is.stands t opened;
+        matrix = whole_matrix p h.m h.n b.pushed ∙ ap (λ B. B ∷ []) (sym (made.1 ∙ rw (is.modulus, is.height, is.width) refl));
+        modulus = made.0 ∙ is.modulus;
+      },
+    )
 reading_closes p h b None old mid new told told' told'' f f' g (Err e) is did opened count none made =
     let t = line_takes p (Body h.m h.n) mid new told' told'' f' g (entry_judged h (Ok None)) is.stands.sound did in
-    rw made (rows_did p old new told told'' f g (Err error.Memory) is.begun (is.taken ++ t.0, moves_on old.ended mid.ended new.ended is.taken t.0 told told' told'' is.moves t.1,
-    inr (_, _, line_reads p old mid new told' told'' f' g is.taken _ (Body h.m h.n) _ is.stands t opened)))
+    rw made (rows_did p old new told told'' f g (Err error.Memory) is.begun (
+      is.taken ++ t.0,
+      moves_on old.ended mid.ended new.ended is.taken t.0 told told' told'' is.moves t.1,
+      inr (_, _, line_reads p old mid new told' told'' f' g is.taken _ (Body h.m h.n) _ is.stands t opened),
+    ))
 
 -- why the bytes at hand give no matrix
 cause_reads : (p : ℕ) (old new : ReaderState) (bytes : List ℕ) (items : List Item) (e : TextError) (what : One) (f f' g : ℕ) → new.error ≡ Some e → f ≤ f' →
@@ -180,12 +191,15 @@ reading_stops p h b old mid new told told' told'' f f' g e is did =
     let items = Sizes h.m h.n ∷ map triple_item b.pushed in
     let t = line_takes p due mid new told' told'' f' g (entry_judged h (Err e)) is.stands.sound did in
     let reads : (dues : List Due) → read p new.ended old.room old.number (Header ∷ dues) (lines (old.kept ++ (is.taken ++ t.0)))
-        ≡ with_items items (after_one p new.ended dues (one p new.ended mid.room mid.number due (lines (mid.kept ++ t.0)))) = λ dues.
-        ap (λ bs. read p new.ended old.room old.number (Header ∷ dues) (lines bs)) (sym (append_assoc old.kept is.taken t.0))
-        ∙ is.stands.reads new.ended t.0 dues (moves_reach mid.ended new.ended t.0 told' told'' t.1)
-        ∙ ap (with_items items) (read_one p new.ended mid.room mid.number due dues (lines (mid.kept ++ t.0))) in
-    rows_did p old new told told'' f g (Err e) is.begun (is.taken ++ t.0, moves_on old.ended mid.ended new.ended is.taken t.0 told told' told'' is.moves t.1,
-    cause_reads p old new (is.taken ++ t.0) items e _ f f' g t.2 is.count reads t.3)
+    ≡ with_items items (after_one p new.ended dues (one p new.ended mid.room mid.number due (lines (mid.kept ++ t.0)))) = λ dues.
+    ap (λ bs. read p new.ended old.room old.number (Header ∷ dues) (lines bs)) (sym (append_assoc old.kept is.taken t.0))
+    ∙ is.stands.reads new.ended t.0 dues (moves_reach mid.ended new.ended t.0 told' told'' t.1)
+    ∙ ap (with_items items) (read_one p new.ended mid.room mid.number due dues (lines (mid.kept ++ t.0))) in
+    rows_did p old new told told'' f g (Err e) is.begun (
+      is.taken ++ t.0,
+      moves_on old.ended mid.ended new.ended is.taken t.0 told told' told'' is.moves t.1,
+      cause_reads p old new (is.taken ++ t.0) items e _ f f' g t.2 is.count reads t.3,
+    )
 
 -- no header was read
 pub header_stops : (p : ℕ) (old new : ReaderState) (told told' : Option (List ℕ)) (f g : ℕ) (e : TextError) →

@@ -1,5 +1,5 @@
 // Texts read as matrices.
-ghost use Rattle.std.specs.Prelude.{◌≡◌, ◌≤◌, None};
+ghost use Rattle.std.specs.Prelude.{◌≡◌, ◌≤◌, None, IfOk};
 ghost use Rattle.sms_text.specs.Whole.{RowsDid};
 
 use crate::kind::TextError;
@@ -24,6 +24,8 @@ pub fn read_rows<S: Source>(
 ) -> Result<Rows, TextError>
     requires { reader.old.open_text ≡ None }
     ensures did { RowsDid p.now reader.old reader.new (S.told source.old) (S.told source.new) (S.faults source.old) (S.faults source.new) result }
+    ensures closed { IfOk result (λ rows. reader.new.open_text ≡ None) }
+    ensures sizes { IfOk result (λ rows. (rows.matrix.height ≤ 2147483647) × (rows.matrix.width ≤ 2147483647)) }
     ensures count { S.faults source.old ≤ S.faults source.new }
 {
     let head = match reader.header(source) {

@@ -32,12 +32,7 @@ pub fn write_rows<K: Sink>(out: &mut K, rows: &Rows) -> Result<(), WriteFault>
 }
 
 // Adds the lines of row i.
-fn add_row<K: Sink>(
-    out: &mut K,
-    blocks: &mut Blocks,
-    rows: &Rows,
-    i: u32,
-) -> Result<(), WriteFault>
+fn add_row<K: Sink>(out: &mut K, blocks: &mut Blocks, rows: &Rows, i: u32) -> Result<(), WriteFault>
     requires row { i < rows.now.matrix.height }
     requires height { rows.now.matrix.height ≤ 2147483647 }
     requires width { rows.now.matrix.width ≤ 2147483647 }
