@@ -34,6 +34,7 @@ selected_more A named i = ap₂ (λ h rs. sized h A.width rs) (sym (length_push 
 pub length_zeros : (n : ℕ) → length (zeros n) ≡ n
 length_zeros n = length_list_of n (λ j. 0)
 
+-- each entry of a cleared row is 0
 pub zero_at : (u : List ℕ) (n : ℕ) → u ≡ zeros n → (k : ℕ) → k < length u → slice_index u k ≡ 0
 zero_at u n e k l = ap (λ t. slice_index t k) e ∙ at_zeros n k (omega (arith, ap length e, length_zeros n))
 
@@ -144,6 +145,7 @@ pub record IsBesideSoFar (A B : ResidueMatrix) (i : ℕ) (rows : ResidueMatrix) 
   pub row_modulus : to.modulus ≡ A.modulus
   pub row_length : length to.row ≡ A.matrix.width + B.matrix.width
 
+-- one row more of two matrices side by side
 pub beside_more : (A B : Matrix) (i w : ℕ) (r : List ℕ) → r ≡ row A i ++ row B i →
     with_row (sized i w (map (λ k. row A k ++ row B k) (range_with_len 0 i))) r ≡ sized (i + 1) w (map (λ k. row A k ++ row B k) (range_with_len 0 (i + 1)))
 beside_more A B i w r e =

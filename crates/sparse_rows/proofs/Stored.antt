@@ -82,6 +82,7 @@ sized h w r = record { height = h; width = w; rows = r }
 height_is : {p n : ℕ} {starts cs vs : List ℕ} → IsStored p n starts cs vs → length starts ≡ (length starts - 1) + 1
 height_is s = s.parts.long
 
+-- a start more makes one row more
 height_more : (starts : List ℕ) (e : ℕ) → length (starts ++ e ∷ []) - 1 ≡ length starts
 height_more starts e = omega (arith, length_push starts e)
 
@@ -160,6 +161,7 @@ pub support_stored : {p n : ℕ} {starts cs vs : List ℕ} → IsStored p n star
 unfolding stored_row
 support_stored {p} {n} {starts} {cs} {vs} s i l = ap support (row_stored n starts cs vs i l) ∙ support_spread (s.each i l)
 
+-- and its nonzero entries what is stored beside it
 pub nonzeros_stored : {p n : ℕ} {starts cs vs : List ℕ} → IsStored p n starts cs vs → (i : ℕ) → i < length starts - 1 → nonzeros (row (stored_matrix n starts cs vs) i) ≡ part starts vs i
 unfolding stored_row
 nonzeros_stored {p} {n} {starts} {cs} {vs} s i l = ap nonzeros (row_stored n starts cs vs i l) ∙ nonzeros_spread (s.each i l)

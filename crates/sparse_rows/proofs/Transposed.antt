@@ -24,9 +24,11 @@ picked_append k (y ∷ ys) ys' (x ∷ xs) xs' e =
       | inr d ↦ cond-false (eqb y k) _ _ (ne_eqb y k d) ∙ rest ∙ sym (ap (λ t. t ++ picked k ys' xs') (cond-false (eqb y k) (x ∷ picked k ys xs) (picked k ys xs) (ne_eqb y k d)))
     ]
 
+-- an item of another key is left out
 picked_skip : (k y : ℕ) (ys : List ℕ) (x : ℕ) (xs : List ℕ) → y ≢ k → picked k (y ∷ ys) (x ∷ xs) ≡ picked k ys xs
 picked_skip k y ys x xs d = cond-false (eqb y k) _ _ (ne_eqb y k d)
 
+-- an item of the key is taken
 picked_take : (k y : ℕ) (ys : List ℕ) (x : ℕ) (xs : List ℕ) → y ≡ k → picked k (y ∷ ys) (x ∷ xs) ≡ x ∷ picked k ys xs
 picked_take k y ys x xs e = cond-true (eqb y k) _ _ (eq-eqb y k e)
 
@@ -41,10 +43,12 @@ data AtColumn (k r : ℕ) (cs vs : List ℕ) : Type 0 where
   none : picked k cs (replicate (length cs) r) ≡ [] → picked k cs vs ≡ [] → entry_at cs vs k ≡ 0 → AtColumn k r cs vs
   some : (t : ℕ) → t < length vs → picked k cs (replicate (length cs) r) ≡ r ∷ [] → picked k cs vs ≡ slice_index vs t ∷ [] → entry_at cs vs k ≡ slice_index vs t → AtColumn k r cs vs
 
+-- a column before k changes nothing
 at_column_skip : (k r c : ℕ) (cs : List ℕ) (v : ℕ) (vs : List ℕ) → c ≢ k → AtColumn k r cs vs → AtColumn k r (c ∷ cs) (v ∷ vs)
 at_column_skip k r c cs v vs d (none a b e) = none (picked_skip k c cs r _ d ∙ a) (picked_skip k c cs v vs d ∙ b) (entry_tail c cs v vs k d ∙ e)
 at_column_skip k r c cs v vs d (some t l a b e) = some (suc t) (omega (arith, l)) (picked_skip k c cs r _ d ∙ a) (picked_skip k c cs v vs d ∙ b) (entry_tail c cs v vs k d ∙ e)
 
+-- each row has nothing at column k, or its entry
 at_column : (k r low n : ℕ) (cs vs : List ℕ) → length cs ≡ length vs → Ascends low n cs → AtColumn k r cs vs
 at_column k r low n [] vs e a = none refl refl refl
 at_column k r low n (c ∷ cs) [] e a = absurd (omega arith)
