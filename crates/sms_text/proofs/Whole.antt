@@ -1,18 +1,16 @@
 -- A text read line by line as a matrix.
-use Rattle.std.proofs.Common.{ℕ, Bool, ◌≡◌, ◌+◌, ◌<◌, ◌≤◌, ◌%◌, ◌&&◌, List, [], ◌∷◌, ◌++◌, map, Option, None, Some, Result, Ok, Err, refl, sym, ap, ◌∙◌, subst, inl, inr, arith, append_assoc}
+use Rattle.std.proofs.Common.{ℕ, ◌≡◌, ◌+◌, ◌<◌, ◌≤◌, ◌&&◌, List, [], ◌∷◌, ◌++◌, map, Option, None, Some, Result, Ok, Err, refl, sym, ap, ◌∙◌, subst, inl, inr, arith, append_assoc}
 use Rattle.std.proofs.lemmas.List.{map-append}
 use Rattle.std.specs.Prelude.{◌==◌, if◌then◌else◌}
-use Rattle.residue_words.specs.Matrix.{Matrix}
 use Rattle.sparse_rows.specs.Rows.{ResidueMatrix, Building, Triple, sum_at, built}
-use Rattle.sms_text.specs.declared.kind.Kind.{Kind}
 use Rattle.sms_text.specs.declared.kind.TextError.{TextError}
 use Rattle.sms_text.specs.declared.kind.TextError.TheVariants as error
 use Rattle.sms_text.specs.declared.reader.Entry.{Entry}
 use Rattle.sms_text.specs.declared.reader.Head.{Head}
 use Rattle.sms_text.specs.Lines.{lines}
-use Rattle.sms_text.specs.Text.{Due, Header, Body, Item, Sizes, Value, Closing, Judged, Fault, Short, read, with_item, value_at, matrix_of, matrices}
-use Rattle.sms_text.specs.Reading.{ReaderState, MayFollow, Moves, Takes, LineDid, Repeats, HasCause, One, one, IsInside, LeavesOpen, header_judged, entry_judged, with_items}
-use Rattle.sms_text.specs.Whole.{open_at, IsBetween, IsNoMatrix, IsWhole, ReadsRows, RowsDid}
+use Rattle.sms_text.specs.Text.{Due, Header, Body, Item, Sizes, Value, Closing, Judged, read, value_at, matrices}
+use Rattle.sms_text.specs.Reading.{ReaderState, Moves, Takes, LineDid, Repeats, HasCause, One, one, LeavesOpen, header_judged, entry_judged, with_items}
+use Rattle.sms_text.specs.Whole.{open_at, IsBetween, IsNoMatrix, ReadsRows, RowsDid}
 use Rattle.sms_text.proofs.Falling.{takes_room}
 use Rattle.sms_text.proofs.Moving.{moves_follow, moves_reach, moves_on, rose_from}
 use Rattle.sms_text.proofs.Runs.{after_one, read_one, line_takes, with_items_push, with_items_fault, with_items_short}

@@ -1,8 +1,6 @@
 -- The header line and the lines of the rows before i were added.
-use Rattle.std.proofs.Common.{[], ◌++◌, ◌-◌}
-use Rattle.std.specs.List.{flat_map, range_with_len}
-use Rattle.sms_text.specs.Written.{end_line, text_of}
-use Rattle.sms_text.specs.Whole.{row_text}
+use Rattle.std.proofs.Common.{[]}
+use Rattle.sms_text.specs.Written.{text_of}
 use Rattle.sms_text.proofs.WrittenRows.{IsAdded, rows_from}
 use Rattle.sms_text.proofs.to_text.write_rows.Given as goal
 
