@@ -3,10 +3,10 @@
 
 use spasm_run::{Open, run};
 use std::alloc::{AllocError, Global};
-use std::process::ExitCode;
-use std::thread::Threads;
 use std::env;
 use std::io::{self, Read, Write};
+use std::process::ExitCode;
+use std::thread::Threads;
 use std_edge::{FromRead, ToWrite};
 
 // The exit status where memory for the words was refused, and where a word isn't UTF-8.
@@ -45,14 +45,6 @@ fn answer<R: Threads + Sync, I: Read + Drop, O: Write + Drop, E: Write + Drop>(
     let mut source = FromRead::new(input);
     let mut out = ToWrite::new(output);
     let mut err = ToWrite::new(errors);
-    let status = run(
-        rt,
-        alloc,
-        &words,
-        &mut source,
-        &mut out,
-        &mut err,
-        &Open,
-    );
+    let status = run(rt, alloc, &words, &mut source, &mut out, &mut err, &Open);
     Ok(status.code())
 }
