@@ -1,0 +1,3 @@
+pub mod Loops
+pub mod Stored
+pub mod Spread
