@@ -1,2 +1,4 @@
+pub mod Fold
 pub mod Matrix
+pub mod Reciprocal
 pub mod Residues

@@ -1,15 +1,69 @@
 // Residues modulo p.
-ghost use Rattle.std.specs.Prelude.{◌≡◌, ◌≢◌, ◌<◌, ◌≤◌, ◌+◌, ◌-◌, ◌*◌, ◌%◌, ◌^◌, ℕ};
+ghost use Rattle.residue_words.specs.Reciprocal.{reciprocal};
+ghost use Rattle.residue_words.specs.Residues.{IsPrime, inverse};
+ghost use Rattle.std.specs.Prelude.{◌≡◌, ◌≢◌, ◌<◌, ◌≤◌, ◌+◌, ◌-◌, ◌*◌, ◌/◌, ◌%◌, ◌^◌, ℕ};
 
 use std::marker::Model;
 
 // The products of residues below this fit 64 bits.
 const NARROW: u64 = 0x1_0000_0000;
 
+// The quotient of 2^64, or for a wide p of 2^96, by p: a product's quotient by p is, but for 1 or 2, the high half of the
+// product's high 64 bits times this.
+fn reciprocal_of(p: u64) -> u64
+    requires { 2 ≤ p }
+    ensures { result ≡ reciprocal p }
+{
+    if p <= NARROW {
+        ((1u128 << 64) / u128::from(p)) as u64
+    } else {
+        ((1u128 << 96) / u128::from(p)) as u64
+    }
+}
+
+// The high 64 bits of a product.
+fn high_half(a: u64, b: u64) -> u64
+    ensures { result ≡ a * b / 2 ^ 64 }
+{
+    (u128::from(a) * u128::from(b) >> 64) as u64
+}
+
+// The residue of a product below 2^64.
+fn narrow_residue(product: u64, p: u64, reciprocal_of_p: u64) -> u64
+    requires nonzero { p ≢ 0 }
+    requires quotient { reciprocal_of_p ≡ 2 ^ 64 / p }
+    ensures { result ≡ product % p }
+{
+    let quotient = high_half(product, reciprocal_of_p);
+    let rest = product - quotient * p;
+    if rest < p { rest } else { rest - p }
+}
+
+// The residue of a product below 2^96, for p above 2^32.
+fn wide_residue(product: u128, p: u64, reciprocal_of_p: u64) -> u64
+    requires large { 2 ^ 32 < p }
+    requires in_range { p < 2 ^ 48 }
+    requires product_in_range { product < 2 ^ 96 }
+    requires quotient { reciprocal_of_p ≡ 2 ^ 96 / p }
+    ensures { result ≡ product % p }
+{
+    let high = (product >> 32) as u64;
+    let quotient = high_half(high, reciprocal_of_p);
+    let rest = (product - u128::from(quotient) * u128::from(p)) as u64;
+    if rest < p {
+        rest
+    } else if rest - p < p {
+        rest - p
+    } else {
+        rest - p - p
+    }
+}
+
 /// A modulus p with `2 <= p < 2^48`, prime by the user's premise. Contracts see the number p.
 #[derive(Clone, Copy, Debug)]
 pub struct Modulus {
     p: u64,
+    reciprocal_of_p: u64,
 }
 
 impl Model for Modulus {
@@ -17,9 +71,11 @@ impl Model for Modulus {
 
     ghost view = { λ m. m.p };
 
-    ghost invariant = { λ m. (2 ≤ m.p) × (m.p < 2 ^ 48) };
+    ghost invariant = { λ m. (2 ≤ m.p) × (m.p < 2 ^ 48) × (m.reciprocal_of_p ≡ reciprocal m.p) };
 
-    ghost inverse = { λ n. record { p = n } };
+    ghost inverse = { λ n. record { p = n; reciprocal_of_p = reciprocal n } };
+
+    ghost inverse_ok = { λ m h. Prim.rw (← h.2) };
 }
 
 impl Modulus {
@@ -29,7 +85,10 @@ impl Modulus {
         requires in_range { p < 2 ^ 48 }
         ensures { result ≡ p }
     {
-        Modulus { p }
+        Modulus {
+            p,
+            reciprocal_of_p: reciprocal_of(p),
+        }
     }
 
     /// The number that the modulus was made of.
@@ -72,7 +131,7 @@ impl Modulus {
         if a == 0 { 0 } else { self.p - a }
     }
 
-    /// The residue of a b. The product goes by 64 bits where p is below 2^32, and by 128 elsewhere.
+    /// The residue of a b, by two or three products and no division.
     pub fn mul(&self, a: u64, b: u64) -> u64
         requires left { a < self.now }
         requires right { b < self.now }
@@ -80,9 +139,41 @@ impl Modulus {
         ensures residue { result < self.now }
     {
         if self.p <= NARROW {
-            a * b % self.p
+            narrow_residue(a * b, self.p, self.reciprocal_of_p)
         } else {
-            (u128::from(a) * u128::from(b) % u128::from(self.p)) as u64
+            wide_residue(u128::from(a) * u128::from(b), self.p, self.reciprocal_of_p)
         }
+    }
+
+    /// The inverse of a, by Euclid's algorithm: 0 where there is none, which a prime p leaves only to 0.
+    /// Takes a number of steps proportional to the digits of p.
+    pub fn inv(&self, a: u64) -> u64
+        requires nonzero { a ≢ 0 }
+        requires residue { a < self.now }
+        ensures value { result ≡ inverse self.now a }
+        ensures inverse { IsPrime self.now → (a * result) % self.now ≡ 1 }
+        ensures in_range { result < self.now }
+    {
+        let p = self.p;
+        let mut before = p;
+        let mut rest = a;
+        let mut factor_before = 0;
+        let mut factor = 1;
+        // a times factor is rest, or where this is set -rest; a times factor_before is before with the other sign.
+        let mut negative = false;
+        while rest > 1 {
+            let quotient = before / rest;
+            let next_rest = before % rest;
+            let next_factor = factor_before + quotient * factor;
+            before = rest;
+            rest = next_rest;
+            factor_before = factor;
+            factor = next_factor;
+            negative = !negative;
+        }
+        if rest == 0 {
+            return 0;
+        }
+        if negative { p - factor } else { factor }
     }
 }

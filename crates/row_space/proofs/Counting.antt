@@ -1,5 +1,5 @@
 -- Lists of n residues are the numbers below p ^ n, so independent rows are no more than those that span them.
-use Rattle.std.proofs.Common.{ℕ, zero, suc, ◌≡◌, ◌≢◌, ◌+◌, ◌*◌, ◌-◌, ◌/◌, ◌%◌, ◌^◌, ◌<◌, ◌≤◌, inl, inr, cond, eqb, List, [], ◌∷◌, slice_index, sym, refl, ap, ap₂, ◌∙◌, arith, mod-lt, eq-eqb, ne_eqb, pow-suc, mul-le-mul_left, suc-le-suc, le_antisymm}
+use Rattle.std.proofs.Common.{ℕ, zero, suc, ◌≡◌, ◌≢◌, ◌+◌, ◌*◌, ◌-◌, ◌/◌, ◌%◌, ◌^◌, ◌<◌, ◌≤◌, ◌⊎◌, inl, inr, cond, eqb, List, [], ◌∷◌, slice_index, sym, refl, ap, ap₂, ◌∙◌, arith, mod-lt, eq-eqb, ne_eqb, pow-suc, mul-le-mul_left, suc-le-suc, le_antisymm}
 use native.Mathlib.Nat.{one-le-pow, pow-le-pow_right, div-add-mod', pow-zero}
 use Rattle.std.proofs.lemmas.Bool.{cases_eq, cases_lt, cond-true, cond-false}
 use Rattle.std.proofs.lemmas.Nat.{same_from_place, mul-add-lt, div_below}
@@ -21,6 +21,20 @@ moved_off : (m v t : ℕ) → t ≢ m → moved m v t ≡ t
 unfolding moved
 moved_off m v t d = cond-false (eqb t m) v t (ne_eqb t m d)
 
+-- it is one to one away from v
+moved_apart : (m v a b : ℕ) → a ≢ v → b ≢ v → moved m v a ≡ moved m v b → a ≡ b
+moved_apart m v a b na nb same =
+    elim (cases_eq a m) [
+      | inl e ↦ elim (cases_eq b m) [
+        | inl g ↦ e ∙ sym g
+        | inr d ↦ absurd (nb (sym (moved_off m v b d) ∙ sym same ∙ moved_at m v a e))
+      ]
+      | inr c ↦ elim (cases_eq b m) [
+        | inl g ↦ absurd (na (sym (moved_off m v a c) ∙ same ∙ moved_at m v b g))
+        | inr d ↦ sym (moved_off m v a c) ∙ same ∙ moved_off m v b d
+      ]
+    ]
+
 -- no map of n numbers to fewer is one to one
 pub pigeonhole : (n m : ℕ) (f : ℕ → ℕ) → ((x : ℕ) → x < n → f x < m) → ((x y : ℕ) → x < n → y < n → f x ≡ f y → x ≡ y) → n ≤ m
 pigeonhole zero m f small one = omega arith
@@ -34,16 +48,7 @@ pigeonhole (suc n) (suc m) f small one =
       | inl e ↦ omega (arith, moved_at m v (f x) e, apart x l)
       | inr d ↦ omega (arith, moved_off m v (f x) d, small x (omega arith))
     ])
-    (λ x y lx ly same. one x y (omega arith) (omega arith) (elim (cases_eq (f x) m) [
-      | inl e ↦ elim (cases_eq (f y) m) [
-        | inl g ↦ e ∙ sym g
-        | inr d ↦ absurd (apart y ly (sym (moved_off m v (f y) d) ∙ sym same ∙ moved_at m v (f x) e))
-      ]
-      | inr c ↦ elim (cases_eq (f y) m) [
-        | inl g ↦ absurd (apart x lx (sym (moved_off m v (f x) c) ∙ same ∙ moved_at m v (f y) g))
-        | inr d ↦ sym (moved_off m v (f x) c) ∙ same ∙ moved_off m v (f y) d
-      ]
-    ])))
+    (λ x y lx ly same. one x y (omega arith) (omega arith) (moved_apart m v (f x) (f y) (apart x lx) (apart y ly) same)))
 
 -- the digits of x to the base p, and the number of a list of digits
 abbrev digits : ℕ → ℕ → ℕ → List ℕ
@@ -116,19 +121,70 @@ independent_apart p A y z two free vy vz same =
     difference_zero p q (slice_index y j) (slice_index z j) two next (vy.residues j l) (vz.residues j l)
     (sym (at_mix p A.height 1 q y z j l) ∙ ap (λ u. slice_index u j) none ∙ at_zeros A.height j l))
 
--- independent rows in a row space are no more than the rows that span it
-pub independent_height : (p : ℕ) (A B : Matrix) → 2 ≤ p → IsIndependent p A → ((v : List ℕ) → IsCombination p A v → IsCombination p B v) → A.height ≤ B.height
-independent_height p A B two free within =
-    let pos : 0 < p = omega arith in
-    let y : ℕ → List ℕ = digits p A.height in
-    let image : (x : ℕ) → IsCombination p B (combine p (y x) A) = λ x. within (combine p (y x) A) (y x, digits_vector p A.height x pos, refl) in
-    power_order p A.height B.height two (pigeonhole (p ^ A.height) (p ^ B.height) (λ x. number p (image x).0)
-    (λ x l. number_below p B.height (image x).0 (image x).1)
-    (λ w x lw lx same.
-    let coefficients : (image w).0 ≡ (image x).0 = number_apart p B.height (image w).0 (image x).0 (image w).1 (image x).1 same in
-    let values : combine p (y w) A ≡ combine p (y x) A = (image w).2 ∙ ap (λ u. combine p u B) coefficients ∙ sym (image x).2 in
-    let equal : y w ≡ y x = independent_apart p A (y w) (y x) two free (digits_vector p A.height w pos) (digits_vector p A.height x pos) values in
-    sym (number_digits p A.height w pos lw) ∙ ap (number p) equal ∙ number_digits p A.height x pos lx))
+-- whether a map of n numbers hits k
+hits : (n k : ℕ) (f : ℕ → ℕ) → ((x : ℕ) × (x < n) × (f x ≡ k)) ⊎ ((x : ℕ) → x < n → f x ≢ k)
+hits zero k f = inr (λ x l. absurd (omega arith))
+hits (suc n) k f =
+    elim (cases_eq (f n) k) [
+      | inl e ↦ inl (n, omega arith, e)
+      | inr d ↦ elim (hits n k f) [
+        | inl w ↦ inl (w.0, omega (arith, w.1), w.2)
+        | inr none ↦ inr (λ x l. elim (cases_eq x n) [ inl e ↦ λ same. d (ap f (sym e) ∙ same) | inr c ↦ none x (omega arith) ])
+      ]
+    ]
+
+-- a one to one map of n numbers to no more than n numbers hits each of them
+pub onto : (n m : ℕ) (f : ℕ → ℕ) → m ≤ n → ((x : ℕ) → x < n → f x < m) → ((x y : ℕ) → x < n → y < n → f x ≡ f y → x ≡ y) →
+    (k : ℕ) → k < m → (x : ℕ) × (x < n) × (f x ≡ k)
+onto n zero f le small one k l = absurd (omega arith)
+onto n (suc m) f le small one k l =
+    elim (hits n k f) [
+      | inl w ↦ w
+      | inr none ↦
+          let fewer : n ≤ m = pigeonhole n m (λ x. moved m k (f x))
+          (λ x o. elim (cases_eq (f x) m) [
+            | inl e ↦ omega (arith, moved_at m k (f x) e, none x o)
+            | inr d ↦ omega (arith, moved_off m k (f x) d, small x o)
+          ])
+          (λ x y lx ly same. one x y lx ly (moved_apart m k (f x) (f y) (none x lx) (none y ly) same)) in
+          absurd (omega arith)
+    ]
+
+module _ (p : ℕ) (A B : Matrix) (two : 2 ≤ p) (free : IsIndependent p A) (within : (v : List ℕ) → IsCombination p A v → IsCombination p B v) where
+  -- the coefficients in B of the combination of A with the digits of x, and their number
+  image : (x : ℕ) → IsCombination p B (combine p (digits p A.height x) A)
+  image x = within (combine p (digits p A.height x) A) (digits p A.height x, digits_vector p A.height x (omega arith), refl)
+
+  image_number : ℕ → ℕ
+  image_number x = number p (image x).0
+
+  image_below : (x : ℕ) → image_number x < p ^ B.height
+  unfolding image_number
+  image_below x = number_below p B.height (image x).0 (image x).1
+
+  image_apart : (w x : ℕ) → w < p ^ A.height → x < p ^ A.height → image_number w ≡ image_number x → w ≡ x
+  unfolding image_number
+  image_apart w x lw lx same =
+      let pos : 0 < p = omega arith in
+      let y : ℕ → List ℕ = digits p A.height in
+      let coefficients : (image w).0 ≡ (image x).0 = number_apart p B.height (image w).0 (image x).0 (image w).1 (image x).1 same in
+      let values : combine p (y w) A ≡ combine p (y x) A = (image w).2 ∙ ap (λ u. combine p u B) coefficients ∙ sym (image x).2 in
+      let equal : y w ≡ y x = independent_apart p A (y w) (y x) two free (digits_vector p A.height w pos) (digits_vector p A.height x pos) values in
+      sym (number_digits p A.height w pos lw) ∙ ap (number p) equal ∙ number_digits p A.height x pos lx
+
+  -- independent rows in a row space are no more than the rows that span it
+  pub independent_height : A.height ≤ B.height
+  independent_height = power_order p A.height B.height two (pigeonhole (p ^ A.height) (p ^ B.height) image_number (λ x l. image_below x) image_apart)
+
+  -- independent rows in a row space span it where they are no fewer than the rows that do
+  pub spanned_back : B.height ≤ A.height → (v : List ℕ) → IsCombination p B v → IsCombination p A v
+  unfolding image_number
+  spanned_back le v c =
+      let pos : 0 < p = omega arith in
+      let hit = onto (p ^ A.height) (p ^ B.height) image_number (pow-le-pow_right pos le) (λ x l. image_below x) image_apart (number p c.0) (number_below p B.height c.0 c.1) in
+      let x : ℕ = hit.0 in
+      let same : (image x).0 ≡ c.0 = number_apart p B.height (image x).0 c.0 (image x).1 c.1 hit.2 in
+      (digits p A.height x, digits_vector p A.height x pos, c.2 ∙ ap (λ u. combine p u B) (sym same) ∙ sym (image x).2)
 
 pub span_height : SpanFixesHeight
 span_height p A B two ma mb width fa fb s =

@@ -2,8 +2,12 @@ pub mod Counting
 pub mod Ends
 pub mod Example
 pub mod Exists
-pub mod Solvable
+pub mod FactorLaws
+pub mod KernelLaws
 pub mod ReadOff
 pub mod Refuting
+pub mod Rows
+pub mod Solvable
 pub mod Spans
+pub mod Triangular
 pub mod Unique

@@ -1,5 +1,5 @@
 -- Factors of a matrix with their pivots, and the certificates that are made of them (the PLUQ form of Bouillaguet, Delaplace and Voge, PASCO 2017).
-use Rattle.std.specs.Prelude.{◌≡◌, ◌≢◌, ◌<◌, ◌≤◌, ◌+◌, ℕ, List, length, map, slice_index}
+use Rattle.std.specs.Prelude.{◌≡◌, ◌≢◌, ◌<◌, ◌+◌, ℕ, List, length, map, slice_index}
 use Rattle.residue_words.specs.declared.plain.Pair.{Pair}
 use Rattle.residue_words.specs.Matrix.{Matrix, IsMatrix, combine, entry, list_of, row}
 use Rattle.row_space.specs.Echelon.{HasLeads, HasRank, IsRref}

@@ -3,4 +3,5 @@ pub mod Example
 pub mod Factors
 pub mod Kernel
 pub mod Laws
+pub mod Rows
 pub mod Solution
