@@ -1,5 +1,5 @@
 // A dense row of sums, and where in it something may stand.
-ghost use Rattle.std.specs.Prelude.{◌≡◌, ◌≢◌, ◌<◌, ◌+◌, ◌*◌, ◌%◌, ℕ, length, slice_index, slice_set, IfOk, OnOk, OnErr, IfSome, OnNone};
+ghost use Rattle.std.specs.Prelude.{◌≡◌, ◌≢◌, ◌<◌, ◌+◌, ◌*◌, ◌%◌, ℕ, length, slice_index, slice_set, IfOk, OnOk, OnErr, IfSome, IfNone};
 ghost use Rattle.residue_words.specs.Matrix.{IsVector, zeros};
 ghost use Rattle.sparse_rows.specs.Stored.{IsSparse, entry_at};
 ghost use Rattle.triangular_solve.specs.Columns.{AllZero, TakesFirst};
@@ -74,7 +74,7 @@ impl Columns {
     // Takes the first sum that is not 0, with its column, in time logarithmic in the columns touched.
     pub(crate) fn pop(&mut self) -> Option<(u32, u64)>
         ensures some { IfSome result (λ taken. TakesFirst self.old self.new taken.0 taken.1) }
-        ensures none { OnNone result ((self.new ≡ self.old) × AllZero self.old) }
+        ensures none { IfNone result ((self.new ≡ self.old) × AllZero self.old) }
     {
         while let Some(Reverse(column)) = self.touched.pop() {
             let sum = self.sums[column as usize];

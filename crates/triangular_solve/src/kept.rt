@@ -1,5 +1,5 @@
 // The rows that are kept, and how a row is reduced by them.
-ghost use Rattle.std.specs.Prelude.{◌≡◌, ◌≢◌, ◌<◌, ◌≤◌, ◌+◌, ◌*◌, ◌%◌, ◌^◌, ℕ, List, [], ◌∷◌, ◌++◌, length, slice_index, slice_set, IfOk, OnOk, OnErr, IfSome, OnNone, MatchOption, MatchResult};
+ghost use Rattle.std.specs.Prelude.{◌≡◌, ◌≢◌, ◌<◌, ◌≤◌, ◌+◌, ◌*◌, ◌%◌, ◌^◌, ℕ, List, [], ◌∷◌, ◌++◌, length, slice_index, slice_set, IfOk, OnOk, OnErr, IfSome, IfNone, MatchOption, MatchResult};
 ghost use Rattle.residue_words.specs.Matrix.{IsVector, zeros};
 ghost use Rattle.sparse_rows.specs.Rows.{support, nonzeros};
 ghost use Rattle.triangular_solve.specs.Columns.{AllZero};
@@ -177,7 +177,7 @@ impl Kept {
         requires width { length rest.now.row ≡ self.old.matrix.width }
         requires zero_at_leads { (k : ℕ) → k < self.old.matrix.height → slice_index rest.now.row (slice_index self.old.leads k) ≡ 0 }
         ensures some { IfOk result (λ lead. IfSome lead (λ c. Extends self.old self.new rest.now.row c)) }
-        ensures none { IfOk result (λ lead. OnNone lead ((self.new ≡ self.old) × AllZero rest.now.row)) }
+        ensures none { IfOk result (λ lead. IfNone lead ((self.new ≡ self.old) × AllZero rest.now.row)) }
         ensures err { OnErr result (self.new ≡ self.old) }
     {
         let cols = rest.cols();

@@ -1,5 +1,5 @@
 // Rows that are kept, as callers see them.
-ghost use Rattle.std.specs.Prelude.{◌≡◌, ◌<◌, ◌≤◌, ℕ, List, [], length, slice_index, IfOk, IfSome, OnNone, OnErr, ◌↔◌};
+ghost use Rattle.std.specs.Prelude.{◌≡◌, ◌<◌, ◌≤◌, ℕ, List, [], length, slice_index, IfOk, IfSome, IfNone, OnErr, ◌↔◌};
 ghost use Rattle.residue_words.specs.Matrix.{IsVector, IsCombination, zeros};
 ghost use Rattle.triangular_solve.specs.Leads.{IsSound, IsSparse, IsRest, IsSettled, Appends};
 
@@ -109,8 +109,8 @@ impl Leads {
     pub fn insert(&mut self, cols: &[u32], vals: &[u64]) -> Result<Option<u32>, AllocError>
         requires { (v : List ℕ) × IsSparse self.old.modulus self.old.matrix.width cols.now vals.now v }
         ensures some { (v : List ℕ) → IsSparse self.old.modulus self.old.matrix.width cols.now vals.now v → IfOk result (λ lead. IfSome lead (λ c. Appends self.old.modulus self.old self.new v c)) }
-        ensures none { (v : List ℕ) → IsSparse self.old.modulus self.old.matrix.width cols.now vals.now v → IfOk result (λ lead. OnNone lead (IsCombination self.old.modulus self.old.matrix v)) }
-        ensures unchanged { IfOk result (λ lead. OnNone lead (self.new ≡ self.old)) }
+        ensures none { (v : List ℕ) → IsSparse self.old.modulus self.old.matrix.width cols.now vals.now v → IfOk result (λ lead. IfNone lead (IsCombination self.old.modulus self.old.matrix v)) }
+        ensures unchanged { IfOk result (λ lead. IfNone lead (self.new ≡ self.old)) }
         ensures err { OnErr result (self.new ≡ self.old) }
     {
         let rest = self.kept.rest(self.alloc, cols, vals, &mut self.scratch)?;
