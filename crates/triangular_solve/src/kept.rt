@@ -3,7 +3,7 @@ ghost use Rattle.std.specs.Prelude.{◌≡◌, ◌≢◌, ◌<◌, ◌≤◌, �
 ghost use Rattle.residue_words.specs.Matrix.{IsVector, zeros};
 ghost use Rattle.sparse_rows.specs.Rows.{support, nonzeros};
 ghost use Rattle.triangular_solve.specs.Columns.{AllZero};
-ghost use Rattle.triangular_solve.specs.Kept.{Drains, Extends, IsBehind, IsTailOf};
+ghost use Rattle.triangular_solve.specs.Kept.{Drains, Extends, IsBehind, IsTailOf, LeadsAt};
 ghost use Rattle.triangular_solve.specs.Leads.{IsSound, IsSparse, IsRest, IsSettled};
 
 use crate::columns::Columns;
@@ -86,7 +86,7 @@ impl Kept {
     // The row that leads at column c.
     fn find(&self, c: u32) -> Option<&Led>
         requires { c < self.now.matrix.width }
-        ensures { MatchOption result ((k : ℕ) → k < self.now.matrix.height → slice_index self.now.leads k ≢ c) (λ r. (r.now.lead ≡ c) × (k : ℕ) × (k < self.now.matrix.height) × (slice_index self.now.leads k ≡ c)) }
+        ensures { MatchOption result ((k : ℕ) → k < self.now.matrix.height → slice_index self.now.leads k ≢ c) (λ r. LeadsAt self.now r.now c) }
     {
         let k = self.row_at[c as usize];
         if k == NONE {
@@ -99,11 +99,11 @@ impl Kept {
     fn drain(&self, columns: &mut Columns, rest: &mut Sparse) -> Result<(), AllocError>
         requires residues { IsVector self.now.modulus self.now.matrix.width columns.old }
         requires modulus { rest.old.modulus ≡ self.now.modulus }
-        requires width { length rest.old.row ≡ self.now.matrix.width }
+        requires rest { IsVector self.now.modulus self.now.matrix.width rest.old.row }
         requires behind { IsBehind self.now.matrix.width columns.old rest.old.row }
         ensures columns { length columns.new ≡ length columns.old }
         ensures modulus { rest.new.modulus ≡ rest.old.modulus }
-        ensures width { length rest.new.row ≡ length rest.old.row }
+        ensures residues { IsVector self.now.modulus self.now.matrix.width rest.new.row }
         ensures rest { IfOk result (λ _. Drains self.now columns.old rest.old.row rest.new.row) }
     {
         while let Some((c, value)) = columns.pop() {
@@ -124,11 +124,11 @@ impl Kept {
         requires columns { length columns.old ≡ self.now.matrix.width }
         requires zero { AllZero columns.old }
         requires modulus { rest.old.modulus ≡ self.now.modulus }
-        requires width { length rest.old.row ≡ self.now.matrix.width }
+        requires rest { IsVector self.now.modulus self.now.matrix.width rest.old.row }
         requires behind { (v : List ℕ) → IsSparse self.now.modulus self.now.matrix.width cols.now vals.now v → IsBehind self.now.matrix.width v rest.old.row }
         ensures columns { length columns.new ≡ length columns.old }
         ensures modulus { rest.new.modulus ≡ rest.old.modulus }
-        ensures width { length rest.new.row ≡ length rest.old.row }
+        ensures residues { IsVector self.now.modulus self.now.matrix.width rest.new.row }
         ensures rest { (v : List ℕ) → IsSparse self.now.modulus self.now.matrix.width cols.now vals.now v → IfOk result (λ _. Drains self.now v rest.old.row rest.new.row) }
     {
         columns.add_multiple(&self.modulus, 1, cols, vals)?;
@@ -140,6 +140,7 @@ impl Kept {
         requires sparse { (v : List ℕ) × IsSparse self.now.modulus self.now.matrix.width cols.now vals.now v }
         requires scratch { scratch.old ≡ self.now.matrix.width }
         ensures scratch { scratch.new ≡ scratch.old }
+        ensures sound { IsSound self.now }
         ensures modulus { IfOk result (λ s. s.modulus ≡ self.now.modulus) }
         ensures residues { IfOk result (λ s. IsVector self.now.modulus self.now.matrix.width s.row) }
         ensures rest { (v : List ℕ) → IsSparse self.now.modulus self.now.matrix.width cols.now vals.now v → IfOk result (λ s. IsRest self.now.modulus self.now.matrix self.now.leads v s.row) }
@@ -148,7 +149,6 @@ impl Kept {
         let done = self.reduce(cols, vals, &mut scratch.columns, &mut rest);
         scratch.columns.clear();
         done?;
-        let _ = rest.width();
         Ok(rest)
     }
 
@@ -167,7 +167,6 @@ impl Kept {
         let done = self.reduce(row.tail.cols(), row.tail.vals(), &mut scratch.columns, &mut rest);
         scratch.columns.clear();
         done?;
-        let _ = rest.width();
         Ok(rest)
     }
 
