@@ -1,5 +1,7 @@
 pub mod Adding
+pub mod Appending
 pub mod Combining
+pub mod Dividing
 pub mod Draining
 pub mod Extent
 pub mod LedRows

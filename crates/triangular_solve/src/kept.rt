@@ -173,7 +173,7 @@ impl Kept {
     // Appends what is left of a row, divided by its first entry, and answers where that stands; None for the zero row.
     pub(crate) fn append(&mut self, alloc: Global, rest: &Sparse) -> Result<Option<u32>, AllocError>
         requires modulus { rest.now.modulus ≡ self.old.modulus }
-        requires width { length rest.now.row ≡ self.old.matrix.width }
+        requires residues { IsVector self.old.modulus self.old.matrix.width rest.now.row }
         requires zero_at_leads { (k : ℕ) → k < self.old.matrix.height → slice_index rest.now.row (slice_index self.old.leads k) ≡ 0 }
         ensures some { IfOk result (λ lead. IfSome lead (λ c. Extends self.old self.new rest.now.row c)) }
         ensures none { IfOk result (λ lead. IfNone lead ((self.new ≡ self.old) × AllZero rest.now.row)) }
