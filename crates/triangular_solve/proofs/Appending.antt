@@ -12,11 +12,12 @@ use Rattle.row_space.specs.Echelon.{SameSpan}
 use Rattle.row_space.specs.Rows.{DiffersBy, of_rows}
 use Rattle.row_space.proofs.Rows as Rows
 use Rattle.row_space.proofs.Rows.{span_with_scaled}
-use Rattle.sparse_rows.specs.Rows.{ResidueRow}
+use Rattle.sparse_rows.specs.Rows.{ResidueRow, support}
 use Rattle.triangular_solve.specs.Leads.{KeptRows, IsSound, IsRest, Appends, with_row}
 use Rattle.triangular_solve.specs.Kept.{IsKept, IsLed, IsTailOf, Extends, whole, whole_matrix, leads_of}
 use Rattle.triangular_solve.specs.declared.kept.Led.{Led}
-use Rattle.triangular_solve.proofs.LedRows.{no_led, led, kept_rows}
+use Rattle.triangular_solve.proofs.LedRows.{no_led, led, lead_at, kept_rows}
+use Rattle.triangular_solve.proofs.Dividing.{IsListed, listed, listed_before}
 use Rattle.triangular_solve.proofs.Draining.{set_vector}
 use Rattle.triangular_solve.proofs.Combining.{rest_decides}
 
@@ -134,3 +135,42 @@ led_of_tail {p} {n} {w} {c} tail modulus vector inside t = record {
   lead = inside;
   behind = t.behind;
 }
+
+-- what is left of a row, with its tail, before it is appended
+pub record IsToKeep (kept : KeptRows) (w : List ℕ) (tail : ResidueRow) : Type 0 where
+  pub vector : IsVector kept.modulus kept.matrix.width w
+  pub some : 0 < length (support w)
+  pub zero_at_leads : (k : ℕ) → k < kept.matrix.height → slice_index w (slice_index kept.leads k) ≡ 0
+  pub modulus : tail.modulus ≡ kept.modulus
+  pub is_tail : IsTailOf kept.modulus w (slice_index (support w) 0) tail.row
+
+appended_here : {p n : ℕ} {rows : List Led} {row_at : List ℕ} → IsKept p n rows row_at → (w : List ℕ) (tail : ResidueRow) → IsToKeep (kept_rows p n rows) w tail →
+    let c = slice_index (support w) 0 in let r : Led = record { lead = c; tail = tail } in
+    IsKept p n (rows ++ r ∷ []) (slice_set row_at c (length rows)) × Extends (kept_rows p n rows) (kept_rows p n (rows ++ r ∷ [])) w c
+appended_here {p} {n} {rows} {row_at} kept w tail t =
+    let s : IsListed p w = listed t.vector in
+    let c : ℕ = slice_index (support w) 0 in
+    let r : Led = record { lead = c; tail = tail } in
+    let inside : c < n = omega (arith, s.below 0 t.some, t.vector.len) in
+    (kept_more kept r (led_of_tail tail t.modulus t.vector inside t.is_tail)
+        (λ k l e. s.nonzero 0 t.some (ap (slice_index w) (sym (lead_at rows k l ∙ e)) ∙ t.zero_at_leads k (omega (arith, length-map rows whole)))),
+    record {
+      tail = tail.row;
+      inside = inside;
+      first = s.nonzero 0 t.some;
+      before = listed_before s;
+      is_tail = t.is_tail;
+      modulus = refl;
+      matrix = whole_more n rows r;
+      leads = leads_more rows r;
+    })
+
+-- the same of the fields as the code has them
+pub appended : {p n : ℕ} {rows : List Led} {row_at : List ℕ} → IsKept p n rows row_at → {kept : KeptRows} → kept_rows p n rows ≡ kept → {w cols : List ℕ} {tail : ResidueRow} → cols ≡ support w →
+    IsToKeep kept w tail → {rows' : List Led} {k : ℕ} → rows' ≡ rows ++ record { lead = slice_index cols 0; tail = tail } ∷ [] → k ≡ length rows →
+    IsKept p n rows' (slice_set row_at (slice_index cols 0) k) × Extends kept (kept_rows p n rows') w (slice_index cols 0)
+appended {p} {n} {rows} {row_at} fields {kept} e {w} {cols} {tail} ce t {rows'} {k} re ke =
+    let rows_are : rows' ≡ rows ++ record { lead = slice_index (support w) 0; tail = tail } ∷ [] = re ∙ ap (λ u. rows ++ record { lead = slice_index u 0; tail = tail } ∷ []) ce in
+    rw (ce, rows_are, ke) (subst (λ (K : KeptRows). IsToKeep K w tail →
+        IsKept p n (rows ++ record { lead = slice_index (support w) 0; tail = tail } ∷ []) (slice_set row_at (slice_index (support w) 0) (length rows))
+        × Extends K (kept_rows p n (rows ++ record { lead = slice_index (support w) 0; tail = tail } ∷ [])) w (slice_index (support w) 0)) e (appended_here fields w tail) t)
