@@ -1,5 +1,5 @@
 -- Combinations of rows with distinct leads.
-use Rattle.std.proofs.Common.{ℕ, zero, suc, ◌≡◌, ◌≢◌, ◌+◌, ◌-◌, ◌*◌, ◌%◌, ◌<◌, ◌≤◌, ◌↔◌, List, length, slice_index, inl, inr, sym, refl, ap, subst, ◌∙◌, arith, mod-eq_of_lt, mul-one, mul-zero, zero-mul}
+use Rattle.std.proofs.Common.{ℕ, zero, suc, ◌≡◌, ◌≢◌, ◌+◌, ◌-◌, ◌*◌, ◌%◌, ◌<◌, ◌≤◌, ◌↔◌, Result, Ok, Err, IfOk, List, length, slice_index, inl, inr, sym, refl, ap, subst, ◌∙◌, arith, mod-eq_of_lt, mul-one, mul-zero, zero-mul}
 use native.Mathlib.Nat.{mod-mod}
 use Rattle.std.proofs.lemmas.Bool.{cases_eq, cases_lt}
 use Rattle.residue_words.specs.Residues.{sum_below}
@@ -9,6 +9,7 @@ use Rattle.residue_words.proofs.Sums.{sum_single, sum_zero}
 use Rattle.residue_words.proofs.Vectors.{at_combine, at_mix, at_zeros, combination_mix, length_list_of, list_equal, mix}
 use Rattle.row_space.specs.Rows.{DiffersBy}
 use Rattle.row_space.proofs.Rows.{differs_by_zero}
+use Rattle.sparse_rows.specs.Rows.{ResidueRow}
 use Rattle.triangular_solve.specs.Leads.{KeptRows, HasDistinctLeads, IsRest, IsSound}
 
 -- w + u less u
@@ -70,3 +71,10 @@ rest_decides {kept} {v} {w} sound vv wv rest = (
     (λ c. combination_none kept.modulus kept.matrix kept.leads w sound.two_or_more sound.leads wv
     (differs_combination kept.modulus kept.matrix v w sound.two_or_more c wv rest.differs) rest.zero_at_leads),
 )
+
+-- the same of a result
+pub result_decides : {E : Type 0} {kept : KeptRows} {v : List ℕ} → IsSound kept → IsVector kept.modulus kept.matrix.width v → (r : Result ResidueRow E) →
+    IfOk r (λ s. IsVector kept.modulus kept.matrix.width s.row) → IfOk r (λ s. IsRest kept.modulus kept.matrix kept.leads v s.row) →
+    IfOk r (λ s. (s.row ≡ zeros kept.matrix.width) ↔ IsCombination kept.modulus kept.matrix v)
+result_decides sound vector (Ok s) residues rest = rest_decides sound vector residues rest
+result_decides sound vector (Err e) residues rest = tt
