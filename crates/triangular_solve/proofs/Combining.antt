@@ -40,17 +40,17 @@ none_before p K leads h y vector none (suc c) k l less =
     elim (cases_lt (lead k) c) [
       | inl low ↦ before k l low
       | inr here ↦
-        let alone : sum_below K.height (λ i. slice_index y i * entry K i (lead k)) ≡ slice_index y k * entry K k (lead k) =
-            sum_single K.height (λ i. slice_index y i * entry K i (lead k)) k l (λ i li d.
-            elim (cases_lt (lead i) (lead k)) [
-              | inl low ↦ ap (λ t. t * entry K i (lead k)) (before i li (omega arith)) ∙ zero-mul (entry K i (lead k))
-              | inr high ↦ ap (λ t. slice_index y i * t) (h.left i (lead k) li (elim (cases_eq (lead i) (lead k)) [
-                  | inl same ↦ absurd (elim (cases_lt i k) [ inl a ↦ h.distinct i k a l same | inr b ↦ h.distinct k i (omega arith) li (sym same) ])
-                  | inr apart ↦ omega arith
-                ])) ∙ mul-zero (slice_index y i)
-            ]) in
-        sym (mod-eq_of_lt (vector.residues k l)) ∙ ap (λ t. t % p) (sym (mul-one (slice_index y k)) ∙ ap (λ t. slice_index y k * t) (sym (h.one k l)) ∙ sym alone)
-        ∙ sym (at_combine p y K (lead k) (h.inside k l)) ∙ none k l
+          let alone : sum_below K.height (λ i. slice_index y i * entry K i (lead k)) ≡ slice_index y k * entry K k (lead k) =
+          sum_single K.height (λ i. slice_index y i * entry K i (lead k)) k l (λ i li d.
+          elim (cases_lt (lead i) (lead k)) [
+            | inl low ↦ ap (λ t. t * entry K i (lead k)) (before i li (omega arith)) ∙ zero-mul (entry K i (lead k))
+            | inr high ↦ ap (λ t. slice_index y i * t) (h.left i (lead k) li (elim (cases_eq (lead i) (lead k)) [
+              | inl same ↦ absurd (elim (cases_lt i k) [ inl a ↦ h.distinct i k a l same | inr b ↦ h.distinct k i (omega arith) li (sym same) ])
+              | inr apart ↦ omega arith
+            ])) ∙ mul-zero (slice_index y i)
+          ]) in
+          sym (mod-eq_of_lt (vector.residues k l)) ∙ ap (λ t. t % p) (sym (mul-one (slice_index y k)) ∙ ap (λ t. slice_index y k * t) (sym (h.one k l)) ∙ sym alone)
+          ∙ sym (at_combine p y K (lead k) (h.inside k l)) ∙ none k l
     ]
 
 -- so it is the zero row
@@ -67,9 +67,9 @@ combination_none p K leads w two h wv (y, vector, is) none =
 pub rest_decides : {kept : KeptRows} {v w : List ℕ} → IsSound kept → IsVector kept.modulus kept.matrix.width v → IsVector kept.modulus kept.matrix.width w →
     IsRest kept.modulus kept.matrix kept.leads v w → (w ≡ zeros kept.matrix.width) ↔ IsCombination kept.modulus kept.matrix v
 rest_decides {kept} {v} {w} sound vv wv rest = (
-    (λ e. differs_by_zero kept.modulus kept.matrix v w sound.two_or_more vv rest.differs (λ j l. ap (λ u. slice_index u j) e ∙ at_zeros kept.matrix.width j l)),
-    (λ c. combination_none kept.modulus kept.matrix kept.leads w sound.two_or_more sound.leads wv
-    (differs_combination kept.modulus kept.matrix v w sound.two_or_more c wv rest.differs) rest.zero_at_leads),
+  (λ e. differs_by_zero kept.modulus kept.matrix v w sound.two_or_more vv rest.differs (λ j l. ap (λ u. slice_index u j) e ∙ at_zeros kept.matrix.width j l)),
+  (λ c. combination_none kept.modulus kept.matrix kept.leads w sound.two_or_more sound.leads wv
+      (differs_combination kept.modulus kept.matrix v w sound.two_or_more c wv rest.differs) rest.zero_at_leads),
 )
 
 -- the same of a result

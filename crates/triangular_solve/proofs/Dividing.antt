@@ -24,7 +24,7 @@ pub listed : {p n : ℕ} {w : List ℕ} → IsVector p n w → IsListed p w
 listed {p} {n} {w} vector =
     let s = support_sparse vector in
     let value : (k : ℕ) → k < length (support w) → slice_index w (slice_index (support w) k) ≡ slice_index (nonzeros w) k =
-        λ k l. sym (entry_support w (slice_index (support w) k)) ∙ entry_here (support w) (nonzeros w) s.long s.rising k l in
+    λ k l. sym (entry_support w (slice_index (support w) k)) ∙ entry_here (support w) (nonzeros w) s.long s.rising k l in
     record {
       rising = s.rising;
       below = λ k l. omega (arith, s.below k l, vector.len);
@@ -46,9 +46,9 @@ pub listed_before : {p : ℕ} {w : List ℕ} → IsListed p w → (j : ℕ) → 
 listed_before {p} {w} s j less = elim (s.cover j) [
   | inl z ↦ z
   | inr (k, l, e) ↦ absurd (elim (cases_eq k 0) [
-      | inl first ↦ let same : slice_index (support w) k ≡ slice_index (support w) 0 = ap (slice_index (support w)) first in omega arith
-      | inr later ↦ let up : slice_index (support w) 0 < slice_index (support w) k = s.rising 0 k (omega arith) l in omega arith
-    ])
+    | inl first ↦ let same : slice_index (support w) k ≡ slice_index (support w) 0 = ap (slice_index (support w)) first in omega arith
+    | inr later ↦ let up : slice_index (support w) 0 < slice_index (support w) k = s.rising 0 k (omega arith) l in omega arith
+  ])
 ]
 
 -- the entries from 1 to k are divided, the others are 0
@@ -79,7 +79,7 @@ dividing_put {p} {w} {factor} {k} {tail} two s d some l v e = record {
     | inl same ↦ ap (λ t. slice_index (slice_set tail c v) (slice_index (support w) t)) same ∙ get_or-set_same tail c v 0 (omega (arith, s.below k l, d.vector.len))
         ∙ e ∙ ap (λ x. (factor * x) % p) (sym (s.value k l)) ∙ ap (λ t. (factor * slice_index w (slice_index (support w) t)) % p) (sym same)
     | inr apart ↦
-      get_or-set_other tail c (slice_index (support w) t) v 0 (λ z. let up : slice_index (support w) t < slice_index (support w) k = s.rising t k (omega arith) l in absurd (omega arith)) ∙ d.done t a (omega arith)
+        get_or-set_other tail c (slice_index (support w) t) v 0 (λ z. let up : slice_index (support w) t < slice_index (support w) k = s.rising t k (omega arith) l in absurd (omega arith)) ∙ d.done t a (omega arith)
   ];
   left = λ j lj none. get_or-set_other tail c j v 0 (λ z. none k some (omega arith) (sym z)) ∙ d.left j lj (λ t a b. none t a (omega arith));
 }
@@ -109,10 +109,10 @@ dividing_all {p} {w} {factor} {tail} two s d some inverse = record {
   after = λ j less lj. elim (s.cover j) [
     | inl z ↦ d.left j lj (λ t a b e. s.nonzero t b (ap (slice_index w) e ∙ z)) ∙ sym (ap (λ x. (factor * x) % p) z ∙ ap (λ x. x % p) (mul-zero factor) ∙ zero-mod p)
     | inr (k, l, e) ↦
-      let later : 0 < k = elim (cases_eq k 0) [
+        let later : 0 < k = elim (cases_eq k 0) [
           | inl first ↦ absurd (let same : slice_index (support w) k ≡ slice_index (support w) 0 = ap (slice_index (support w)) first in omega arith)
           | inr later ↦ omega arith
         ] in
-      ap (slice_index tail) (sym e) ∙ d.done k later l ∙ ap (λ j. (factor * slice_index w j) % p) e
+        ap (slice_index tail) (sym e) ∙ d.done k later l ∙ ap (λ j. (factor * slice_index w j) % p) e
   ];
 }

@@ -87,26 +87,32 @@ draining_kept {kept} {s0} {w0} {s} {w} {s1} {c} {v} two d t none = record {
   where
     n : ℕ
     n = kept.matrix.width
+
     p : ℕ
     p = kept.modulus
+
     inside : c < n
     inside = omega (arith, t.inside, d.sums.len)
+
     small : v < p
     small = omega (arith, t.value, d.sums.residues c inside)
+
     here : slice_index (slice_set w c v) c ≡ v
     here = get_or-set_same w c v 0 (omega (arith, inside, d.rest.len))
+
     other : (j : ℕ) → j ≢ c → slice_index (slice_set w c v) j ≡ slice_index w j
     other j d = get_or-set_other w c j v 0 d
+
     same : both p n s w ≡ both p n s1 (slice_set w c v)
     same = list_of_equal n (λ j. (slice_index s j + slice_index w j) % p) (λ j. (slice_index s1 j + slice_index (slice_set w c v) j) % p) (λ j l. ap (λ x. x % p) (elim (cases_eq j c) [
-        | inl e ↦
+      | inl e ↦
           let a : slice_index w j ≡ 0 = ap (slice_index w) e ∙ d.behind c c inside (first_nonzero t) (omega arith) inside in
           let b : slice_index s1 j ≡ 0 = ap (slice_index s1) e ∙ after_here t in
           let f : slice_index (slice_set w c v) j ≡ v = ap (slice_index (slice_set w c v)) e ∙ here in
           let g : slice_index s j ≡ v = ap (slice_index s) e ∙ sym t.value in
           omega arith
-        | inr d ↦ let a = after_other t j d in let b = other j d in omega (arith, a, b)
-      ]))
+      | inr d ↦ let a = after_other t j d in let b = other j d in omega (arith, a, b)
+    ]))
 
 -- v and a sum with f times x are the sum, where f is -v: the step of an entry
 step_entry : (p s w f v x : ℕ) → (f + v) % p ≡ 0 → (s + w) % p ≡ (((s + f * x) % p + w) % p + v * x) % p
@@ -155,29 +161,34 @@ draining_eliminated {kept} {s0} {w0} {s} {w} {s1} {s2} {k} {c} {v} sound d t e =
   where
     n : ℕ
     n = kept.matrix.width
+
     p : ℕ
     p = kept.modulus
+
     two : 2 ≤ p
     two = sound.two_or_more
+
     inside : c < n
     inside = omega (arith, t.inside, d.sums.len)
+
     gone : (j : ℕ) → j ≤ c → slice_index s2 j ≡ 0
     gone = eliminated_zero two d.sums.len t e
+
     step : (j : ℕ) → j < n → (slice_index s j + slice_index w j) % p ≡ ((slice_index s2 j + slice_index w j) % p + v * entry kept.matrix k j) % p
     step j l = elim (cases_eq j c) [
       | inl same ↦
-        let a : slice_index w j ≡ 0 = ap (slice_index w) same ∙ d.behind c c inside (first_nonzero t) (omega arith) inside in
-        let b : slice_index s2 j ≡ 0 = gone j (omega arith) in
-        let f : entry kept.matrix k j ≡ 1 = ap (entry kept.matrix k) same ∙ e.one in
-        let g : slice_index s j ≡ v = ap (slice_index s) same ∙ sym t.value in
-        let low : (slice_index s2 j + slice_index w j) % p ≡ 0 = ap (λ x. x % p) (let z : slice_index s2 j + slice_index w j ≡ 0 = omega arith in z) ∙ mod-eq_of_lt (omega arith) in
-        ap (λ x. x % p) (let z : slice_index s j + slice_index w j ≡ (slice_index s2 j + slice_index w j) % p + v * 1 = omega arith in z)
-        ∙ ap (λ x. ((slice_index s2 j + slice_index w j) % p + v * x) % p) (sym f)
+          let a : slice_index w j ≡ 0 = ap (slice_index w) same ∙ d.behind c c inside (first_nonzero t) (omega arith) inside in
+          let b : slice_index s2 j ≡ 0 = gone j (omega arith) in
+          let f : entry kept.matrix k j ≡ 1 = ap (entry kept.matrix k) same ∙ e.one in
+          let g : slice_index s j ≡ v = ap (slice_index s) same ∙ sym t.value in
+          let low : (slice_index s2 j + slice_index w j) % p ≡ 0 = ap (λ x. x % p) (let z : slice_index s2 j + slice_index w j ≡ 0 = omega arith in z) ∙ mod-eq_of_lt (omega arith) in
+          ap (λ x. x % p) (let z : slice_index s j + slice_index w j ≡ (slice_index s2 j + slice_index w j) % p + v * 1 = omega arith in z)
+          ∙ ap (λ x. ((slice_index s2 j + slice_index w j) % p + v * x) % p) (sym f)
       | inr apart ↦
-        step_entry p (slice_index s j) (slice_index w j) e.factor v (slice_index e.tail j) e.negative
-        ∙ ap (λ x. (((x + e.factor * slice_index e.tail j) % p + slice_index w j) % p + v * slice_index e.tail j) % p) (sym (after_other t j apart))
-        ∙ ap (λ x. ((x + slice_index w j) % p + v * slice_index e.tail j) % p) (sym (e.sums j l))
-        ∙ ap (λ x. ((slice_index s2 j + slice_index w j) % p + v * x) % p) (sym (e.other j apart))
+          step_entry p (slice_index s j) (slice_index w j) e.factor v (slice_index e.tail j) e.negative
+          ∙ ap (λ x. (((x + e.factor * slice_index e.tail j) % p + slice_index w j) % p + v * slice_index e.tail j) % p) (sym (after_other t j apart))
+          ∙ ap (λ x. ((x + slice_index w j) % p + v * slice_index e.tail j) % p) (sym (e.sums j l))
+          ∙ ap (λ x. ((slice_index s2 j + slice_index w j) % p + v * x) % p) (sym (e.other j apart))
     ]
 
 -- once all sums are 0, what was put aside is the rest
@@ -190,8 +201,10 @@ draining_all {kept} {s0} {w0} {s} {w} d none = record {
   where
     n : ℕ
     n = kept.matrix.width
+
     p : ℕ
     p = kept.modulus
+
     same : both p n s w ≡ w
     same = list_equal n (both p n s w) w (length_list_of n _) d.rest.len (λ j l.
         let z : slice_index s j + slice_index w j ≡ slice_index w j = omega (arith, none j (omega (arith, d.sums.len))) in
@@ -223,17 +236,18 @@ eliminated {kept} {r} {s} {s1} {s2} {c} {v} sound vector t at q f e fe {cols} {v
   other = λ j d. ap (λ u. slice_index u j) at.is_row ∙ whole_other r j (λ z. d (z ∙ at.lead));
   left = λ j l. at.led.behind j (omega (arith, at.lead));
   negative =
-    let p : ℕ = kept.modulus in
-    let small : v < p = omega (arith, t.value, vector.residues c (omega (arith, t.inside, vector.len))) in
-    let is : f ≡ (p - v) % p = fe ∙ ap (λ p. (p - v) % p) e in
-    let turn : p - v + v ≡ 1 * p = omega arith in
-    add_same p f (p - v) v v (ap (λ x. x % p) is ∙ mod-mod (p - v) p) refl ∙ ap (λ x. x % p) turn ∙ multiple_zero p 1;
+      let p : ℕ = kept.modulus in
+      let small : v < p = omega (arith, t.value, vector.residues c (omega (arith, t.inside, vector.len))) in
+      let is : f ≡ (p - v) % p = fe ∙ ap (λ p. (p - v) % p) e in
+      let turn : p - v + v ≡ 1 * p = omega arith in
+      add_same p f (p - v) v v (ap (λ x. x % p) is ∙ mod-mod (p - v) p) refl ∙ ap (λ x. x % p) turn ∙ multiple_zero p 1;
   vector = subst (λ n. IsVector kept.modulus n s2) long both_facts.0;
   sums = λ j l. both_facts.1 j (omega (arith, long));
 }
   where
     long : length s1 ≡ kept.matrix.width
     long = ap length t.after ∙ length-set s c 0 ∙ vector.len
+
     both_facts : IsVector kept.modulus (length s1) s2 × ((j : ℕ) → j < length s1 → slice_index s2 j ≡ (slice_index s1 j + f * slice_index r.tail.row j) % kept.modulus)
     both_facts = adds_entries f r.tail.row s1 s2 e ca va adds
 

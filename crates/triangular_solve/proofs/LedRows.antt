@@ -87,16 +87,18 @@ pub found_some : {p n : ℕ} {rows : List Led} {row_at : List ℕ} → IsKept p 
     (k < length rows) × ((r : Led) → r ≡ slice_index_or rows k r → LeadsAt (kept_rows p n rows) r c)
 found_some {p} {n} {rows} {row_at} kept c l k e some =
     let only = kept.only c no_led l (λ z. some (e ∙ z)) in
-    let inside : k < length rows = subst (λ k. k < length rows) (sym e) only.0 in
-    (inside, λ r is.
-    let same : led rows k ≡ r = get_or_default rows k no_led r inside ∙ sym is in
-    record {
-      k = k;
-      inside = omega (arith, length-map rows whole);
-      lead = subst (λ (r : Led). r.lead ≡ c) same (subst (λ k. (led rows k).lead ≡ c) (sym e) only.1);
-      led = subst (IsLed p n) same (kept.each k no_led inside);
-      is_row = whole_at n rows k inside ∙ ap whole same;
-    })
+    let inside : k < length rows = subst (λ k. k < length rows) (sym e) only.0 in (
+      inside,
+      λ r is.
+          let same : led rows k ≡ r = get_or_default rows k no_led r inside ∙ sym is in
+          record {
+            k = k;
+            inside = omega (arith, length-map rows whole);
+            lead = subst (λ (r : Led). r.lead ≡ c) same (subst (λ k. (led rows k).lead ≡ c) (sym e) only.1);
+            led = subst (IsLed p n) same (kept.each k no_led inside);
+            is_row = whole_at n rows k inside ∙ ap whole same;
+          },
+    )
 
 -- what a read of the rows gives
 pub record IsAt (kept : KeptRows) (k : ℕ) (r : Led) : Type 0 where

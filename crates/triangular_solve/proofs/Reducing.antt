@@ -68,14 +68,14 @@ both_unit {p} {n} {r} two led =
     at_list_of n (λ j. (slice_index r.tail.row j + slice_index (slice_set (zeros n) r.lead 1) j) % p) j l
     ∙ elim (cases_eq j r.lead) [
       | inl e ↦
-        let a : slice_index r.tail.row j ≡ 0 = led.behind j (omega arith) in
-        let b : slice_index (slice_set (zeros n) r.lead 1) j ≡ 1 = ap (slice_index (slice_set (zeros n) r.lead 1)) e ∙ unit_lead n r.lead led.lead in
-        let plain : slice_index r.tail.row j + slice_index (slice_set (zeros n) r.lead 1) j ≡ 1 = omega arith in
-        ap (λ x. x % p) plain ∙ mod-eq_of_lt (omega arith) ∙ sym (ap (slice_index (whole r)) e ∙ whole_lead led)
+          let a : slice_index r.tail.row j ≡ 0 = led.behind j (omega arith) in
+          let b : slice_index (slice_set (zeros n) r.lead 1) j ≡ 1 = ap (slice_index (slice_set (zeros n) r.lead 1)) e ∙ unit_lead n r.lead led.lead in
+          let plain : slice_index r.tail.row j + slice_index (slice_set (zeros n) r.lead 1) j ≡ 1 = omega arith in
+          ap (λ x. x % p) plain ∙ mod-eq_of_lt (omega arith) ∙ sym (ap (slice_index (whole r)) e ∙ whole_lead led)
       | inr d ↦
-        let b : slice_index (slice_set (zeros n) r.lead 1) j ≡ 0 = unit_at n r.lead j l d in
-        let plain : slice_index r.tail.row j + slice_index (slice_set (zeros n) r.lead 1) j ≡ slice_index r.tail.row j = omega arith in
-        ap (λ x. x % p) plain ∙ mod-eq_of_lt (led.vector.residues j l) ∙ sym (whole_other r j d)
+          let b : slice_index (slice_set (zeros n) r.lead 1) j ≡ 0 = unit_at n r.lead j l d in
+          let plain : slice_index r.tail.row j + slice_index (slice_set (zeros n) r.lead 1) j ≡ slice_index r.tail.row j = omega arith in
+          ap (λ x. x % p) plain ∙ mod-eq_of_lt (led.vector.residues j l) ∙ sym (whole_other r j d)
     ])
 
 pub settled_of_drained : {kept : KeptRows} {r : Led} {w : List ℕ} {k : ℕ} → IsSound kept → IsAt kept k r → IsVector kept.modulus kept.matrix.width w →

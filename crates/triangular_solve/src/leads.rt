@@ -13,7 +13,7 @@ use std::marker::Model;
 /// Rows with distinct leads: the first nonzero entry of each stands at its lead, and is 1. Contracts see the modulus, the
 /// matrix of the rows and the list of their leads.
 ///
-/// It takes 12 to 24 bytes an entry and 88 bytes a row, and 12 bytes a column.
+/// It takes at most 24 bytes an entry, about 90 bytes a row, and 12 bytes a column.
 #[derive(Drop)]
 pub struct Leads {
     alloc: Global,

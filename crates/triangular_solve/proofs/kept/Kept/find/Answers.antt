@@ -12,7 +12,7 @@ returns-then-k c =
     rw (← c.self.view_is) (found_none c.self.invariant c.args.c (sym (get_or_default c.self.inside.row_at.items c.args.c _ 0 inside) ∙ sym c.index-k.ensures ∙ c.if-k.true))
 
 pub index-requires : goal.index-requires
-index-requires c = 
+index-requires c =
     let within : c.args.c < c.self.inside.width = subst (λ (K : KeptRows). c.args.c < K.matrix.width) (sym c.self.view_is) c.requires in
     let inside : c.args.c < length c.self.inside.row_at.items = subst (λ n. c.args.c < n) (sym c.self.invariant.columns) within in
     let some = found_some c.self.invariant c.args.c within c.index-k.result.now (c.index-k.ensures ∙ get_or_default c.self.inside.row_at.items c.args.c _ 0 inside) c.if-k.false in
@@ -20,7 +20,7 @@ index-requires c =
     omega arith
 
 pub returns : goal.returns
-returns c = 
+returns c =
     let within : c.args.c < c.self.inside.width = subst (λ (K : KeptRows). c.args.c < K.matrix.width) (sym c.self.view_is) c.requires in
     let inside : c.args.c < length c.self.inside.row_at.items = subst (λ n. c.args.c < n) (sym c.self.invariant.columns) within in
     let some = found_some c.self.invariant c.args.c within c.index-k.result.now (c.index-k.ensures ∙ get_or_default c.self.inside.row_at.items c.args.c _ 0 inside) c.if-k.false in

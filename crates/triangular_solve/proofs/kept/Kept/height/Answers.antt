@@ -9,7 +9,7 @@ overflow_cast-result c =
     omega (arith, c.self.invariant.width_small)
 
 pub returns-clause-bound : goal.returns-clause-bound
-returns-clause-bound c = 
+returns-clause-bound c =
     let short : length c.self.inside.rows.items ≤ c.self.inside.width = kept_short c.self.invariant in
     rw (← c.self.view_is) (omega arith)
 
