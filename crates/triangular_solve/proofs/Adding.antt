@@ -1,9 +1,8 @@
 -- A multiple of a row that comes to sums entry by entry.
-use Rattle.std.proofs.Common.{ℕ, zero, suc, ◌≡◌, ◌≢◌, ◌+◌, ◌*◌, ◌%◌, ◌<◌, ◌≤◌, List, length, slice_index, slice_set, inl, inr, sym, refl, ap, ◌∙◌, arith, mod-eq_of_lt, mul-zero, add-zero}
+use Rattle.std.proofs.Common.{ℕ, ◌≡◌, ◌≢◌, ◌+◌, ◌*◌, ◌%◌, ◌<◌, List, length, slice_index, slice_set, inl, inr, sym, refl, ap, ◌∙◌, arith, mod-eq_of_lt, mul-zero, add-zero}
 use native.Mathlib.Nat.{mod-mod}
 use Rattle.std.proofs.lemmas.List.{length-set, get_or-set_same, get_or-set_other}
 use Rattle.std.proofs.lemmas.Bool.{cases_eq}
-use Rattle.std.proofs.lemmas.Nat.{mul-mod_second}
 use Rattle.residue_words.specs.Matrix.{IsVector}
 use Rattle.residue_words.proofs.Residues.{add_same}
 use Rattle.sparse_rows.specs.Stored.{IsSparse, entry_at}

@@ -3,7 +3,7 @@ use Rattle.std.proofs.lemmas.Option.{IfSome_then}
 use Rattle.std.proofs.lemmas.Result.{IfOk-weaker}
 use Rattle.residue_words.specs.Matrix.{IsCombination, zeros}
 use Rattle.residue_words.proofs.Vectors.{at_zeros, length_list_of, list_equal}
-use Rattle.triangular_solve.specs.Leads.{Appends, KeptRows, IsRest, IsSparse}
+use Rattle.triangular_solve.specs.Leads.{Appends, KeptRows, IsSparse}
 use Rattle.triangular_solve.proofs.Appending.{appends_of_rest}
 use Rattle.triangular_solve.proofs.Combining.{rest_decides}
 use Rattle.triangular_solve.proofs.leads.Leads.insert.Goals as goal
