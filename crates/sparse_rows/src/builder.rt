@@ -103,6 +103,7 @@ impl RowsBuilder {
             sum_cells(&cells, &mut row)?;
             made.append(&row)?;
         }
+        made.shrink();
         Ok(made)
     }
 }
@@ -110,9 +111,9 @@ impl RowsBuilder {
 // Makes `cells` the pairs of these columns and values, by ascending columns.
 fn sort_cells(cols: &[u32], vals: &[u64], cells: &mut Vec<(u32, u64)>) -> Result<(), AllocError>
     requires { length vals.now ≡ length cols.now }
-    ensures sorted { IfOk result (λ _. IsNonDecreasingBy (λ c. c.0) cells.new.items) }
-    ensures weights { IfOk result (λ _. (j : ℕ) → weight j cells.new.items ≡ weight j (zip cols.now vals.now)) }
-    ensures within { (p n : ℕ) → IfOk result (λ _. All (IsCell p n) (zip cols.now vals.now) → All (IsCell p n) cells.new.items) }
+    ensures sorted { OnOk result (IsNonDecreasingBy (λ c. c.0) cells.new.items) }
+    ensures weights { OnOk result ((j : ℕ) → weight j cells.new.items ≡ weight j (zip cols.now vals.now)) }
+    ensures within { (p n : ℕ) → OnOk result (All (IsCell p n) (zip cols.now vals.now) → All (IsCell p n) cells.new.items) }
 {
     cells.clear();
     for k in 0..cols.len() {
@@ -128,7 +129,7 @@ fn sum_cells(cells: &[(u32, u64)], row: &mut Sparse) -> Result<(), AllocError>
     requires within { All (IsCell row.old.modulus (length row.old.row)) cells.now }
     requires sorted { IsNonDecreasingBy (λ c. c.0) cells.now }
     ensures modulus { row.new.modulus ≡ row.old.modulus }
-    ensures sums { IfOk result (λ _. row.new.row ≡ list_of (length row.old.row) (λ j. weight j cells.now % row.old.modulus)) }
+    ensures sums { OnOk result (row.new.row ≡ list_of (length row.old.row) (λ j. weight j cells.now % row.old.modulus)) }
     ensures length { length row.new.row ≡ length row.old.row }
 {
     let modulus = row.modulus();

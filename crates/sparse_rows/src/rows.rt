@@ -6,7 +6,7 @@ ghost use Rattle.sparse_rows.specs.Rows.{beside, entry_count, identity, nonzeros
 ghost use Rattle.sparse_rows.specs.Stored.{IsSparse, spread, with_row};
 
 use crate::group::group;
-use crate::parts::part;
+use crate::parts::{part, part_numbers};
 use crate::sparse::Sparse;
 use residue_words::Modulus;
 use std::alloc::{AllocError, Global};
@@ -86,6 +86,14 @@ impl Rows {
         self.append_slices(row.cols(), row.vals())
     }
 
+    // Gives back the room that no entry needs.
+    pub(crate) fn shrink(&mut self)
+        ensures { self.new ≡ self.old }
+    {
+        self.cols.shrink_to_fit();
+        self.vals.shrink_to_fit();
+    }
+
     /// The identity matrix of n rows.
     pub fn identity(alloc: Global, n: u32, p: &Modulus) -> Result<Rows, AllocError>
         requires { n ≤ 2147483648 }
@@ -163,7 +171,7 @@ impl Rows {
         ensures modulus { IfOk result (λ rows. rows.modulus ≡ self.now.modulus) }
         ensures matrix { IfOk result (λ rows. rows.matrix ≡ transposed self.now.matrix) }
     {
-        let rows = self.rows_of_entries(alloc)?;
+        let rows = part_numbers(alloc, &self.starts)?;
         let grouped = group(alloc, self.width, &self.cols, &rows, &self.vals)?;
         Ok(Rows {
             modulus: self.modulus,
@@ -183,7 +191,7 @@ impl Rows {
         ensures matrix { IfOk result (λ rows. rows.matrix ≡ beside self.now.matrix right.now.matrix) }
     {
         let width = self.width + right.width;
-        let entries = (self.entries() + right.entries()) as usize;
+        let entries = self.cols.len().saturating_add(right.cols.len());
         let mut rows = Rows::with_room(alloc, self.modulus, width, self.height(), entries)?;
         let mut row = Sparse::new(alloc, width, self.modulus);
         for i in 0..self.height() {
@@ -246,26 +254,19 @@ impl Rows {
         sum
     }
 
-    // The row of each entry.
-    fn rows_of_entries(&self, alloc: Global) -> Result<Vec<u32>, AllocError> {
-        let mut rows = Vec::with_capacity(alloc, self.entries() as usize)?;
-        for i in 0..self.height() {
-            rows.resize(self.starts[i as usize + 1], i)?;
-        }
-        Ok(rows)
-    }
-
     // Sets the entries of `to` from `by` on to those of row i: `to` is 0 there and behind.
     fn copy_shifted(&self, i: u32, by: u32, to: &mut Sparse) -> Result<(), AllocError>
         requires row { i < self.now.matrix.height }
         requires modulus { to.old.modulus ≡ self.now.modulus }
         requires width { by + self.now.matrix.width ≤ length to.old.row }
+        requires narrow { by + self.now.matrix.width ≤ 2147483648 }
+        requires sound { IsMatrix self.now.modulus self.now.matrix }
         requires behind { (j : ℕ) → by ≤ j → j < length to.old.row → slice_index to.old.row j ≡ 0 }
         ensures modulus { to.new.modulus ≡ to.old.modulus }
         ensures length { length to.new.row ≡ length to.old.row }
-        ensures before { IfOk result (λ _. (j : ℕ) → j < by → slice_index to.new.row j ≡ slice_index to.old.row j) }
-        ensures inside { IfOk result (λ _. (j : ℕ) → j < self.now.matrix.width → slice_index to.new.row (by + j) ≡ entry self.now.matrix i j) }
-        ensures after { IfOk result (λ _. (j : ℕ) → by + self.now.matrix.width ≤ j → j < length to.old.row → slice_index to.new.row j ≡ 0) }
+        ensures before { OnOk result ((j : ℕ) → j < by → slice_index to.new.row j ≡ slice_index to.old.row j) }
+        ensures inside { OnOk result ((j : ℕ) → j < self.now.matrix.width → slice_index to.new.row (by + j) ≡ entry self.now.matrix i j) }
+        ensures after { OnOk result ((j : ℕ) → by + self.now.matrix.width ≤ j → j < length to.old.row → slice_index to.new.row j ≡ 0) }
     {
         let cols = self.cols(i);
         let vals = self.vals(i);
