@@ -30,9 +30,9 @@ adding_more {p} {n} {by} {cols} {vals} {before} {sums} {k} pos sparse long a l v
   ];
   residues = λ j lj. elim (cases_eq j c) [
     | inl same ↦
-      let small : ((slice_index sums c + v) % p) < p = omega arith in
-      let is : slice_index new j ≡ (slice_index sums c + v) % p = ap (slice_index new) same ∙ get_or-set_same sums c _ 0 inside in
-      omega arith
+        let small : ((slice_index sums c + v) % p) < p = omega arith in
+        let is : slice_index new j ≡ (slice_index sums c + v) % p = ap (slice_index new) same ∙ get_or-set_same sums c _ 0 inside in
+        omega arith
     | inr d ↦ let is : slice_index new j ≡ slice_index sums j = get_or-set_other sums c j _ 0 d in let small : slice_index sums j < p = a.residues j lj in omega arith
   ];
   left = λ j none. get_or-set_other sums c j _ 0 (λ z. none k (omega arith) (sym z)) ∙ a.left j (λ t lt. none t (omega arith));
@@ -40,12 +40,16 @@ adding_more {p} {n} {by} {cols} {vals} {before} {sums} {k} pos sparse long a l v
   where
     c : ℕ
     c = slice_index cols k
+
     new : List ℕ
     new = slice_set sums c ((slice_index sums c + v) % p)
+
     inside : c < length sums
     inside = omega (arith, a.len, long, sparse.below k l)
+
     old : slice_index sums c ≡ slice_index before c
     old = a.left c (λ t lt z. let r : slice_index cols t < slice_index cols k = sparse.rising t k lt l in absurd (omega arith))
+
     here : slice_index new c ≡ (slice_index before c + by * slice_index vals k) % p
     here = get_or-set_same sums c _ 0 inside ∙ ap (λ t. (t + v) % p) old
         ∙ add_same p (slice_index before c) (slice_index before c) v (by * slice_index vals k) refl (ap (λ t. t % p) e ∙ mod-mod (by * slice_index vals k) p)
@@ -56,11 +60,11 @@ pub adding_all : {p n by : ℕ} {cols vals before sums : List ℕ} → IsSparse 
 adding_all {p} {n} {by} {cols} {vals} {before} {sums} sparse vector a j l =
     elim (entry_cover cols vals j) [
       | inl none ↦
-        a.left j (λ t lt z. let v : entry_at cols vals (slice_index cols t) ≡ slice_index vals t = entry_here cols vals sparse.long sparse.rising t lt in
-            let pos : 0 < slice_index vals t = sparse.positive t (omega (arith, sparse.long)) in
-            absurd (omega (arith, sym v ∙ ap (entry_at cols vals) z ∙ none)))
-        ∙ sym (ap (λ t. (slice_index before j + by * t) % p) none ∙ ap (λ t. (slice_index before j + t) % p) (mul-zero by) ∙ ap (λ t. t % p) (add-zero (slice_index before j)) ∙ mod-eq_of_lt (vector.residues j l))
+          a.left j (λ t lt z. let v : entry_at cols vals (slice_index cols t) ≡ slice_index vals t = entry_here cols vals sparse.long sparse.rising t lt in
+          let pos : 0 < slice_index vals t = sparse.positive t (omega (arith, sparse.long)) in
+          absurd (omega (arith, sym v ∙ ap (entry_at cols vals) z ∙ none)))
+          ∙ sym (ap (λ t. (slice_index before j + by * t) % p) none ∙ ap (λ t. (slice_index before j + t) % p) (mul-zero by) ∙ ap (λ t. t % p) (add-zero (slice_index before j)) ∙ mod-eq_of_lt (vector.residues j l))
       | inr (t, lt, e) ↦
-        ap (slice_index sums) (sym e) ∙ a.done t lt ∙ ap (λ u. (slice_index before (slice_index cols t) + by * u) % p) (sym (entry_here cols vals sparse.long sparse.rising t lt))
-        ∙ ap (λ j. (slice_index before j + by * entry_at cols vals j) % p) e
+          ap (slice_index sums) (sym e) ∙ a.done t lt ∙ ap (λ u. (slice_index before (slice_index cols t) + by * u) % p) (sym (entry_here cols vals sparse.long sparse.rising t lt))
+          ∙ ap (λ j. (slice_index before j + by * entry_at cols vals j) % p) e
     ]

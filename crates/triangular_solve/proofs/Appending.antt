@@ -43,27 +43,29 @@ kept_more {p} {n} {rows} {row_at} kept r is_led apart = record {
   found = λ k d l. elim (cases_eq k (length rows)) [
     | inl e ↦ ap (λ (s : Led). slice_index new_at s.lead) (ap (λ k. slice_index_or (rows ++ r ∷ []) k d) e ∙ at_last rows r d) ∙ here ∙ sym e
     | inr old ↦
-      let inside : k < length rows = omega (arith, long) in
-      let lead : (led rows k).lead ≡ (slice_index_or rows k d).lead = ap (λ (s : Led). s.lead) (get_or_default rows k no_led d inside) in
-      ap (λ (s : Led). slice_index new_at s.lead) (before_last rows r k d inside)
-      ∙ get_or-set_other row_at r.lead (slice_index_or rows k d).lead (length rows) 0 (λ z. apart k inside (lead ∙ z)) ∙ kept.found k d inside
+        let inside : k < length rows = omega (arith, long) in
+        let lead : (led rows k).lead ≡ (slice_index_or rows k d).lead = ap (λ (s : Led). s.lead) (get_or_default rows k no_led d inside) in
+        ap (λ (s : Led). slice_index new_at s.lead) (before_last rows r k d inside)
+        ∙ get_or-set_other row_at r.lead (slice_index_or rows k d).lead (length rows) 0 (λ z. apart k inside (lead ∙ z)) ∙ kept.found k d inside
   ];
   only = λ c d l some. elim (cases_eq c r.lead) [
     | inl e ↦
-      let at : slice_index new_at c ≡ length rows = ap (slice_index new_at) e ∙ here in
-      (omega (arith, at, long), ap (λ k. (slice_index_or (rows ++ r ∷ []) k d).lead) at ∙ ap (λ (s : Led). s.lead) (at_last rows r d) ∙ sym e)
+        let at : slice_index new_at c ≡ length rows = ap (slice_index new_at) e ∙ here in
+        (omega (arith, at, long), ap (λ k. (slice_index_or (rows ++ r ∷ []) k d).lead) at ∙ ap (λ (s : Led). s.lead) (at_last rows r d) ∙ sym e)
     | inr other ↦
-      let at : slice_index new_at c ≡ slice_index row_at c = get_or-set_other row_at r.lead c (length rows) 0 other in
-      let old = kept.only c d l (λ z. some (at ∙ z)) in
-      let inside : slice_index row_at c < length rows = old.0 in
-      (omega (arith, at, long), ap (λ k. (slice_index_or (rows ++ r ∷ []) k d).lead) at ∙ ap (λ (s : Led). s.lead) (before_last rows r (slice_index row_at c) d inside) ∙ old.1)
+        let at : slice_index new_at c ≡ slice_index row_at c = get_or-set_other row_at r.lead c (length rows) 0 other in
+        let old = kept.only c d l (λ z. some (at ∙ z)) in
+        let inside : slice_index row_at c < length rows = old.0 in
+        (omega (arith, at, long), ap (λ k. (slice_index_or (rows ++ r ∷ []) k d).lead) at ∙ ap (λ (s : Led). s.lead) (before_last rows r (slice_index row_at c) d inside) ∙ old.1)
   ];
 }
   where
     new_at : List ℕ
     new_at = slice_set row_at r.lead (length rows)
+
     long : length (rows ++ r ∷ []) ≡ length rows + 1
     long = length-append rows (r ∷ [])
+
     here : slice_index new_at r.lead ≡ length rows
     here = get_or-set_same row_at r.lead (length rows) 0 (omega (arith, is_led.lead, kept.columns))
 
@@ -88,13 +90,13 @@ appended_scaled : {old new : KeptRows} {w : List ℕ} {c : ℕ} → 2 ≤ old.mo
 appended_scaled {old} {new} {w} {c} two vector e prime j l =
     elim (cases_eq j c) [
       | inl same ↦ ap (slice_index (slice_set e.tail c 1)) same ∙ get_or-set_same e.tail c 1 0 (omega (arith, e.inside, vector.len, e.is_tail.vector.len))
-        ∙ sym (ap (λ j. (e.is_tail.factor * slice_index w j) % old.modulus) same ∙ ap (λ x. x % old.modulus) (let turn : e.is_tail.factor * slice_index w c ≡ slice_index w c * e.is_tail.factor = omega arith in turn) ∙ e.is_tail.inverse prime)
+          ∙ sym (ap (λ j. (e.is_tail.factor * slice_index w j) % old.modulus) same ∙ ap (λ x. x % old.modulus) (let turn : e.is_tail.factor * slice_index w c ≡ slice_index w c * e.is_tail.factor = omega arith in turn) ∙ e.is_tail.inverse prime)
       | inr d ↦ get_or-set_other e.tail c j 1 0 d ∙ elim (cases_lt c j) [
-          | inl past ↦ e.is_tail.after j past (omega (arith, vector.len))
-          | inr before ↦
+        | inl past ↦ e.is_tail.after j past (omega (arith, vector.len))
+        | inr before ↦
             e.is_tail.behind j before
             ∙ sym (ap (λ x. (e.is_tail.factor * x) % old.modulus) (e.before j (omega arith)) ∙ ap (λ x. x % old.modulus) (mul-zero e.is_tail.factor) ∙ zero-mod old.modulus)
-        ]
+      ]
     ]
 
 -- So appending what is left of a row appends the row, as callers are told.
@@ -107,10 +109,10 @@ appends_of_rest {old} {new} {v} {w} {c} sound vv wv rest e = record {
   leads = e.leads;
   span = λ prime.
       let same : SameSpan p (with_row A v) (with_row A x) =
-          subst (λ B. SameSpan p B (with_row A x)) (with_own_row p A v sound.matrix)
-          (subst (λ B. SameSpan p (Rows.with_row A.width A.rows v) B) (with_own_row p A x sound.matrix)
-          (span_with_scaled p A.width (slice_index w c) e.is_tail.factor A.rows A.rows v w x sound.two_or_more (e.is_tail.inverse prime) own own vv added_vector (λ u. ((λ i. i), (λ i. i)))
-          (subst (λ B. DiffersBy p B v w) (sym (of_own_rows p A sound.matrix)) rest.differs) (appended_scaled sound.two_or_more wv e prime))) in
+      subst (λ B. SameSpan p B (with_row A x)) (with_own_row p A v sound.matrix)
+      (subst (λ B. SameSpan p (Rows.with_row A.width A.rows v) B) (with_own_row p A x sound.matrix)
+      (span_with_scaled p A.width (slice_index w c) e.is_tail.factor A.rows A.rows v w x sound.two_or_more (e.is_tail.inverse prime) own own vv added_vector (λ u. ((λ i. i), (λ i. i)))
+      (subst (λ B. DiffersBy p B v w) (sym (of_own_rows p A sound.matrix)) rest.differs) (appended_scaled sound.two_or_more wv e prime))) in
       λ u. subst (λ B. IsCombination p B u ↔ IsCombination p (with_row A v) u) (sym e.matrix) ((same u).1, (same u).0);
   independent = λ combination.
       e.first (ap (λ u. slice_index u c) ((rest_decides sound vv wv rest).1 combination) ∙ at_zeros A.width c e.inside);
@@ -118,12 +120,16 @@ appends_of_rest {old} {new} {v} {w} {c} sound vv wv rest e = record {
   where
     p : ℕ
     p = old.modulus
+
     A : Matrix
     A = old.matrix
+
     x : List ℕ
     x = slice_set e.tail c 1
+
     own : IsMatrix p (of_rows A.width A.rows)
     own = subst (IsMatrix p) (sym (of_own_rows p A sound.matrix)) sound.matrix
+
     added_vector : IsVector p A.width x
     added_vector = set_vector (subst (λ n. IsVector p n e.tail) wv.len e.is_tail.vector) c 1 (omega (arith, sound.two_or_more))
 
@@ -151,19 +157,20 @@ appended_here {p} {n} {rows} {row_at} kept w tail t =
     let s : IsListed p w = listed t.vector in
     let c : ℕ = slice_index (support w) 0 in
     let r : Led = record { lead = c; tail = tail } in
-    let inside : c < n = omega (arith, s.below 0 t.some, t.vector.len) in
-    (kept_more kept r (led_of_tail tail t.modulus t.vector inside t.is_tail)
-        (λ k l e. s.nonzero 0 t.some (ap (slice_index w) (sym (lead_at rows k l ∙ e)) ∙ t.zero_at_leads k (omega (arith, length-map rows whole)))),
-    record {
-      tail = tail.row;
-      inside = inside;
-      first = s.nonzero 0 t.some;
-      before = listed_before s;
-      is_tail = t.is_tail;
-      modulus = refl;
-      matrix = whole_more n rows r;
-      leads = leads_more rows r;
-    })
+    let inside : c < n = omega (arith, s.below 0 t.some, t.vector.len) in (
+      kept_more kept r (led_of_tail tail t.modulus t.vector inside t.is_tail)
+          (λ k l e. s.nonzero 0 t.some (ap (slice_index w) (sym (lead_at rows k l ∙ e)) ∙ t.zero_at_leads k (omega (arith, length-map rows whole)))),
+      record {
+        tail = tail.row;
+        inside = inside;
+        first = s.nonzero 0 t.some;
+        before = listed_before s;
+        is_tail = t.is_tail;
+        modulus = refl;
+        matrix = whole_more n rows r;
+        leads = leads_more rows r;
+      },
+    )
 
 -- the same of the fields as the code has them
 pub appended : {p n : ℕ} {rows : List Led} {row_at : List ℕ} → IsKept p n rows row_at → {kept : KeptRows} → kept_rows p n rows ≡ kept → {w cols : List ℕ} {tail : ResidueRow} → cols ≡ support w →
@@ -172,5 +179,5 @@ pub appended : {p n : ℕ} {rows : List Led} {row_at : List ℕ} → IsKept p n 
 appended {p} {n} {rows} {row_at} fields {kept} e {w} {cols} {tail} ce t {rows'} {k} re ke =
     let rows_are : rows' ≡ rows ++ record { lead = slice_index (support w) 0; tail = tail } ∷ [] = re ∙ ap (λ u. rows ++ record { lead = slice_index u 0; tail = tail } ∷ []) ce in
     rw (ce, rows_are, ke) (subst (λ (K : KeptRows). IsToKeep K w tail →
-        IsKept p n (rows ++ record { lead = slice_index (support w) 0; tail = tail } ∷ []) (slice_set row_at (slice_index (support w) 0) (length rows))
-        × Extends K (kept_rows p n (rows ++ record { lead = slice_index (support w) 0; tail = tail } ∷ [])) w (slice_index (support w) 0)) e (appended_here fields w tail) t)
+    IsKept p n (rows ++ record { lead = slice_index (support w) 0; tail = tail } ∷ []) (slice_set row_at (slice_index (support w) 0) (length rows))
+    × Extends K (kept_rows p n (rows ++ record { lead = slice_index (support w) 0; tail = tail } ∷ [])) w (slice_index (support w) 0)) e (appended_here fields w tail) t)

@@ -28,8 +28,8 @@ contains_cases y xs x (suc k, l, e) = inr (k, omega arith, e)
 top_first : (heap : List (Reverse ℕ)) (x : Reverse ℕ) (j : ℕ) → IsUpperBound (λ (x : Reverse ℕ) (y : Reverse ℕ). nat_cmp y.0 x.0) x heap → Contains heap (record { 0 = j }) → x.0 ≤ j
 top_first heap x j bound here =
     let not_less : is_lt (nat_cmp j x.0) ≡ false =
-        All-contains (λ (y : Reverse ℕ). is_lt (nat_cmp y.0 x.0) ≡ false) heap (record { 0 = j })
-        (All-from_recursion (λ (y : Reverse ℕ). is_lt (nat_cmp y.0 x.0) ≡ false) heap bound) here in
+    All-contains (λ (y : Reverse ℕ). is_lt (nat_cmp y.0 x.0) ≡ false) heap (record { 0 = j })
+    (All-from_recursion (λ (y : Reverse ℕ). is_lt (nat_cmp y.0 x.0) ≡ false) heap bound) here in
     grind (arith, nat_tests)
 
 -- a sum at a column that the heap holds may change
@@ -46,11 +46,14 @@ touched_set {sums} {heap} t j v l here = record {
 -- a column comes onto the heap
 pub touched_push : {sums : List ℕ} {heap new : List (Reverse ℕ)} → IsTouched sums heap → (j : ℕ) → j < length sums → IsPermutation (record { 0 = j } ∷ heap) new →
     (IsHeap (λ (x : Reverse ℕ) (y : Reverse ℕ). nat_cmp y.0 x.0) heap → IsHeap (λ (x : Reverse ℕ) (y : Reverse ℕ). nat_cmp y.0 x.0) new) → IsTouched sums new × Contains new (record { 0 = j })
-touched_push {sums} {heap} {new} t j l p keeps = (record {
-  ordered = keeps t.ordered;
-  inside = All-permutation (λ (c : Reverse ℕ). c.0 < length sums) _ _ p (All-cons (λ (c : Reverse ℕ). c.0 < length sums) (record { 0 = j }) heap l t.inside);
-  covers = λ k lk n. Contains-permutation _ _ (record { 0 = k }) p (contains_behind _ _ _ (t.covers k lk n));
-}, Contains-permutation _ _ (record { 0 = j }) p (contains_head _ _))
+touched_push {sums} {heap} {new} t j l p keeps = (
+  record {
+    ordered = keeps t.ordered;
+    inside = All-permutation (λ (c : Reverse ℕ). c.0 < length sums) _ _ p (All-cons (λ (c : Reverse ℕ). c.0 < length sums) (record { 0 = j }) heap l t.inside);
+    covers = λ k lk n. Contains-permutation _ _ (record { 0 = k }) p (contains_behind _ _ _ (t.covers k lk n));
+  },
+  Contains-permutation _ _ (record { 0 = j }) p (contains_head _ _),
+)
 
 -- what the top of the heap says, and what is true when it is taken
 pub record IsTop (sums : List ℕ) (heap new : List (Reverse ℕ)) (c : ℕ) : Type 0 where
@@ -82,8 +85,10 @@ touched_pop {sums} {heap} {new} x t p pops = record {
   where
     moved : All (λ (c : Reverse ℕ). c.0 < length sums) (x ∷ new)
     moved = All-permutation (λ (c : Reverse ℕ). c.0 < length sums) _ _ p t.inside
+
     inside : x.0 < length sums
     inside = All-head (λ (c : Reverse ℕ). c.0 < length sums) x new moved
+
     others : (k : ℕ) → k ≢ x.0 → Contains heap (record { 0 = k }) → Contains new (record { 0 = k })
     others k d here = elim (contains_cases x new (record { 0 = k }) (Contains-permutation heap (x ∷ new) (record { 0 = k }) p here)) [
       | inl e ↦ absurd (d (sym (ap (λ (y : Reverse ℕ). y.0) e)))

@@ -58,7 +58,13 @@ impl Columns {
     }
 
     // Adds a multiple of a row, which stands in these columns and values. What came before a refusal stays added.
-    pub(crate) fn add_multiple(&mut self, p: &Modulus, by: u64, cols: &[u32], vals: &[u64]) -> Result<(), AllocError>
+    pub(crate) fn add_multiple(
+        &mut self,
+        p: &Modulus,
+        by: u64,
+        cols: &[u32],
+        vals: &[u64],
+    ) -> Result<(), AllocError>
         requires sparse { IsSparse p.now (length self.old) cols.now vals.now }
         requires residues { IsVector p.now (length self.old) self.old }
         requires factor { by < p.now }

@@ -119,7 +119,13 @@ impl Kept {
     }
 
     // Adds the row of these columns and values to the sums, and drains them into `rest`.
-    fn reduce(&self, cols: &[u32], vals: &[u64], columns: &mut Columns, rest: &mut Sparse) -> Result<(), AllocError>
+    fn reduce(
+        &self,
+        cols: &[u32],
+        vals: &[u64],
+        columns: &mut Columns,
+        rest: &mut Sparse,
+    ) -> Result<(), AllocError>
         requires sparse { (v : List ℕ) × IsSparse self.now.modulus self.now.matrix.width cols.now vals.now v }
         requires columns { length columns.old ≡ self.now.matrix.width }
         requires zero { AllZero columns.old }
@@ -136,7 +142,13 @@ impl Kept {
     }
 
     // What is left of a row.
-    pub(crate) fn rest(&self, alloc: Global, cols: &[u32], vals: &[u64], scratch: &mut Scratch) -> Result<Sparse, AllocError>
+    pub(crate) fn rest(
+        &self,
+        alloc: Global,
+        cols: &[u32],
+        vals: &[u64],
+        scratch: &mut Scratch,
+    ) -> Result<Sparse, AllocError>
         requires sparse { (v : List ℕ) × IsSparse self.now.modulus self.now.matrix.width cols.now vals.now v }
         requires scratch { scratch.old ≡ self.now.matrix.width }
         ensures scratch { scratch.new ≡ scratch.old }
@@ -153,7 +165,12 @@ impl Kept {
     }
 
     // Row k, reduced by the others.
-    pub(crate) fn settle(&self, alloc: Global, k: u32, scratch: &mut Scratch) -> Result<Sparse, AllocError>
+    pub(crate) fn settle(
+        &self,
+        alloc: Global,
+        k: u32,
+        scratch: &mut Scratch,
+    ) -> Result<Sparse, AllocError>
         requires row { k < self.now.matrix.height }
         requires scratch { scratch.old ≡ self.now.matrix.width }
         ensures scratch { scratch.new ≡ scratch.old }
@@ -164,7 +181,12 @@ impl Kept {
         let row = &self.rows[k as usize];
         let mut rest = Sparse::new(alloc, self.width, self.modulus);
         rest.push(row.lead, 1)?;
-        let done = self.reduce(row.tail.cols(), row.tail.vals(), &mut scratch.columns, &mut rest);
+        let done = self.reduce(
+            row.tail.cols(),
+            row.tail.vals(),
+            &mut scratch.columns,
+            &mut rest,
+        );
         scratch.columns.clear();
         done?;
         Ok(rest)

@@ -1,4 +1,8 @@
-//! Elimination with sparse rows.
+//! Elimination with sparse rows: rows are kept with distinct leads, and other rows are reduced by them.
+//!
+//! The cost of a reduction is the entries of the kept rows that it uses, times a logarithm; nothing walks over the width.
+//! For any modulus what is left of a row differs from it by a combination of the kept rows; only that a row which is
+//! inserted spans, with the kept rows, what they span afterwards needs a prime one.
 #![tactic(auto)]
 
 mod columns;
@@ -18,7 +22,9 @@ mod tests {
 
     // The rows 2 4 1, 1 2 0 and 3 6 1 of residues modulo 7.
     const COLS: [&[u32]; 3] = [&[0, 1, 2], &[0, 1], &[0, 1, 2]];
+
     const VALS: [&[u64]; 3] = [&[2, 4, 1], &[1, 2], &[3, 6, 1]];
+
     const LEADS: [Option<u32>; 3] = [Some(0), Some(2), None];
 
     #[test]

@@ -8,6 +8,6 @@ loop-k-preserved c =
     (adding_more (omega arith) c.requires.sparse refl c.loop-k.invariant c.loop-k-test.true c.mul.result c.mul.ensures.value)
 
 pub returns-clause-sums : goal.returns-clause-sums
-returns-clause-sums c = 
+returns-clause-sums c =
     let all : c.loop-k.k ≡ length c.args.cols.now = omega arith in
     adding_all c.requires.sparse c.requires.residues (rw (← all) c.loop-k.invariant)

@@ -10,7 +10,7 @@ use Rattle.triangular_solve.proofs.kept.Kept.settle.Goals as goal
 pub push-requires-clause-column : goal.push-requires-clause-column
 push-requires-clause-column c =
     let at : IsAt c.args.self.now c.args.k c.index-row.result.now = subst (λ (K : KeptRows). IsAt K c.args.k c.index-row.result.now) c.self.view_is
-        (read_led c.self.invariant c.args.k (subst (λ (K : KeptRows). c.args.k < K.matrix.height) (sym c.self.view_is) c.requires.row) c.index-row.result.now c.index-row.ensures) in
+    (read_led c.self.invariant c.args.k (subst (λ (K : KeptRows). c.args.k < K.matrix.height) (sym c.self.view_is) c.requires.row) c.index-row.result.now c.index-row.ensures) in
     let none : c.new-rest.result.row ≡ zeros c.args.self.now.matrix.width = c.new-rest.ensures.row ∙ ap (λ (K : KeptRows). zeros K.matrix.width) c.self.view_is in
     subst (λ u. c.index-row.result.now.lead < length u) (sym none) (omega (arith, at.led.lead, length_list_of c.args.self.now.matrix.width (λ j. 0)))
 
@@ -23,7 +23,7 @@ pub reduce-done-requires-clause-rest : goal.reduce-done-requires-clause-rest
 reduce-done-requires-clause-rest c =
     let sound : IsSound c.args.self.now = subst IsSound c.self.view_is (kept_sound c.self.invariant) in
     let at : IsAt c.args.self.now c.args.k c.index-row.result.now = subst (λ (K : KeptRows). IsAt K c.args.k c.index-row.result.now) c.self.view_is
-        (read_led c.self.invariant c.args.k (subst (λ (K : KeptRows). c.args.k < K.matrix.height) (sym c.self.view_is) c.requires.row) c.index-row.result.now c.index-row.ensures) in
+    (read_led c.self.invariant c.args.k (subst (λ (K : KeptRows). c.args.k < K.matrix.height) (sym c.self.view_is) c.requires.row) c.index-row.result.now c.index-row.ensures) in
     let none : c.new-rest.result.row ≡ zeros c.args.self.now.matrix.width = c.new-rest.ensures.row ∙ ap (λ (K : KeptRows). zeros K.matrix.width) c.self.view_is in
     let pushed : c.push.new.self.row ≡ slice_set (zeros c.args.self.now.matrix.width) c.index-row.result.now.lead 1 = c.in_ok-push.ensures.ok ∙ ap (λ u. slice_set u c.index-row.result.now.lead 1) none in
     subst (IsVector c.args.self.now.modulus c.args.self.now.matrix.width) (sym pushed) (unit_vector c.index-row.result.now.lead sound.two_or_more at.led.lead)
@@ -31,23 +31,23 @@ reduce-done-requires-clause-rest c =
 pub reduce-done-requires-clause-behind : goal.reduce-done-requires-clause-behind
 reduce-done-requires-clause-behind c = λ v given.
     let at : IsAt c.args.self.now c.args.k c.index-row.result.now = subst (λ (K : KeptRows). IsAt K c.args.k c.index-row.result.now) c.self.view_is
-        (read_led c.self.invariant c.args.k (subst (λ (K : KeptRows). c.args.k < K.matrix.height) (sym c.self.view_is) c.requires.row) c.index-row.result.now c.index-row.ensures) in
+    (read_led c.self.invariant c.args.k (subst (λ (K : KeptRows). c.args.k < K.matrix.height) (sym c.self.view_is) c.requires.row) c.index-row.result.now c.index-row.ensures) in
     let none : c.new-rest.result.row ≡ zeros c.args.self.now.matrix.width = c.new-rest.ensures.row ∙ ap (λ (K : KeptRows). zeros K.matrix.width) c.self.view_is in
     let pushed : c.push.new.self.row ≡ slice_set (zeros c.args.self.now.matrix.width) c.index-row.result.now.lead 1 = c.in_ok-push.ensures.ok ∙ ap (λ u. slice_set u c.index-row.result.now.lead 1) none in
     let tail : IsSparse c.args.self.now.modulus c.args.self.now.matrix.width c.cols.result.now c.vals.result.now c.index-row.result.now.tail.row =
-        record { vector = at.led.vector; cols_are = c.cols.ensures.support; vals_are = c.vals.ensures.values } in
+    record { vector = at.led.vector; cols_are = c.cols.ensures.support; vals_are = c.vals.ensures.values } in
     let tail_behind : IsBehind c.args.self.now.matrix.width v (slice_set (zeros c.args.self.now.matrix.width) c.index-row.result.now.lead 1) =
-        subst (λ u. IsBehind c.args.self.now.matrix.width u (slice_set (zeros c.args.self.now.matrix.width) c.index-row.result.now.lead 1)) (same_sparse tail given) (unit_behind at.led) in
+    subst (λ u. IsBehind c.args.self.now.matrix.width u (slice_set (zeros c.args.self.now.matrix.width) c.index-row.result.now.lead 1)) (same_sparse tail given) (unit_behind at.led) in
     subst (IsBehind c.args.self.now.matrix.width v) (sym pushed) tail_behind
 
 pub returns-clause-settled : goal.returns-clause-settled
 returns-clause-settled c =
     let sound : IsSound c.args.self.now = subst IsSound c.self.view_is (kept_sound c.self.invariant) in
     let at : IsAt c.args.self.now c.args.k c.index-row.result.now = subst (λ (K : KeptRows). IsAt K c.args.k c.index-row.result.now) c.self.view_is
-        (read_led c.self.invariant c.args.k (subst (λ (K : KeptRows). c.args.k < K.matrix.height) (sym c.self.view_is) c.requires.row) c.index-row.result.now c.index-row.ensures) in
+    (read_led c.self.invariant c.args.k (subst (λ (K : KeptRows). c.args.k < K.matrix.height) (sym c.self.view_is) c.requires.row) c.index-row.result.now c.index-row.ensures) in
     let none : c.new-rest.result.row ≡ zeros c.args.self.now.matrix.width = c.new-rest.ensures.row ∙ ap (λ (K : KeptRows). zeros K.matrix.width) c.self.view_is in
     let pushed : c.push.new.self.row ≡ slice_set (zeros c.args.self.now.matrix.width) c.index-row.result.now.lead 1 = c.in_ok-push.ensures.ok ∙ ap (λ u. slice_set u c.index-row.result.now.lead 1) none in
     let tail : IsSparse c.args.self.now.modulus c.args.self.now.matrix.width c.cols.result.now c.vals.result.now c.index-row.result.now.tail.row =
-        record { vector = at.led.vector; cols_are = c.cols.ensures.support; vals_are = c.vals.ensures.values } in
+    record { vector = at.led.vector; cols_are = c.cols.ensures.support; vals_are = c.vals.ensures.values } in
     settled_of_drained sound at c.reduce-done.ensures.residues
     (subst (λ w0. Drains c.args.self.now c.index-row.result.now.tail.row w0 c.reduce-done.new.rest.row) pushed (c.in_ok-done.ensures.rest c.index-row.result.now.tail.row tail))

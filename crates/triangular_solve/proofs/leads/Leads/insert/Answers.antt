@@ -15,7 +15,7 @@ none_then (Some x) f h = tt
 pub returns-clause-some : goal.returns-clause-some
 returns-clause-some c = λ v given.
     let here : IsSparse c.self.inside.kept.modulus c.self.inside.kept.matrix.width c.args.cols.now c.args.vals.now v =
-        subst (λ (K : KeptRows). IsSparse K.modulus K.matrix.width c.args.cols.now c.args.vals.now v) (sym c.self.view_is) given in
+    subst (λ (K : KeptRows). IsSparse K.modulus K.matrix.width c.args.cols.now c.args.vals.now v) (sym c.self.view_is) given in
     IfOk-weaker c.append.result _ _ (λ lead h. IfSome_then lead h (λ at e.
     subst (λ (K : KeptRows). Appends K.modulus K c.append.new.self v at) c.self.view_is
     (appends_of_rest c.rest.ensures.sound here.vector c.in_ok-rest.ensures.residues (c.in_ok-rest.ensures.rest v here) e))) c.append.ensures.some
@@ -23,7 +23,7 @@ returns-clause-some c = λ v given.
 pub returns-clause-none : goal.returns-clause-none
 returns-clause-none c = λ v given.
     let here : IsSparse c.self.inside.kept.modulus c.self.inside.kept.matrix.width c.args.cols.now c.args.vals.now v =
-        subst (λ (K : KeptRows). IsSparse K.modulus K.matrix.width c.args.cols.now c.args.vals.now v) (sym c.self.view_is) given in
+    subst (λ (K : KeptRows). IsSparse K.modulus K.matrix.width c.args.cols.now c.args.vals.now v) (sym c.self.view_is) given in
     IfOk-weaker c.append.result _ _ (λ lead h. none_then lead (λ zero_row.
     subst (λ (K : KeptRows). IsCombination K.modulus K.matrix v) c.self.view_is
     ((rest_decides c.rest.ensures.sound here.vector c.in_ok-rest.ensures.residues (c.in_ok-rest.ensures.rest v here)).0
