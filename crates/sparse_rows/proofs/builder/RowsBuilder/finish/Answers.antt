@@ -1,7 +1,6 @@
-use Rattle.std.proofs.Common.{ℕ, ◌≡◌, ◌<◌, ◌≤◌, ◌+◌, ◌%◌, ◌∙◌, List, [], ◌∷◌, ◌++◌, ap, ap₂, arith, length, subst, sym}
+use Rattle.std.proofs.Common.{ℕ, ◌≡◌, ◌+◌, ◌%◌, ◌∙◌, List, [], ap, ap₂, arith, length, subst, sym}
 use Rattle.std.specs.List.{All, zip}
 use Rattle.std.proofs.lemmas.List.Elements.{All-same}
-use Rattle.residue_words.proofs.Vectors.{length_list_of}
 use Rattle.sparse_rows.specs.Rows.{Building, matrix_by, sum_at}
 use Rattle.sparse_rows.specs.Stored.{IsCell, picked, weight, with_row}
 use Rattle.residue_words.specs.Matrix.{list_of}
