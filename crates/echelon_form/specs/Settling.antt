@@ -1,6 +1,7 @@
 -- The kept rows by ascending leads, and what the workers make of them.
-use Rattle.std.specs.Prelude.{◌≡◌, ◌<◌, ◌/◌, ◌%◌, ℕ, List, Result, length, slice_index, slice_index_or, IfOk}
-use Rattle.residue_words.specs.Matrix.{Matrix, IsVector, row}
+use Rattle.std.specs.Prelude.{◌≡◌, ◌<◌, ◌/◌, ◌%◌, ℕ, List, Result, Vec, length, slice_index, slice_index_or, IfOk}
+use Rattle.std.specs.declared.alloc.Global.{Global}
+use Rattle.residue_words.specs.Matrix.{Matrix, IsMatrix, IsVector, row}
 use Rattle.triangular_solve.specs.Leads.{KeptRows, IsSettled}
 use Rattle.sparse_rows.specs.Rows.{ResidueRow}
 
@@ -23,11 +24,12 @@ pub record IsShare (kept : KeptRows) (order : List (ℕ × ℕ)) (worker workers
   pub each : (t : ℕ) (c : ℕ × ℕ) (d : ResidueRow) → t < length order → t % workers ≡ worker → IsSettledRow kept (slice_index_or order t c).1 (slice_index_or share (t / workers) d)
 
 -- the shares of the workers, in order
-abbrev pub AreShares : {E : Type 0} → KeptRows → List (ℕ × ℕ) → List (Result (List ResidueRow) E) → Type 0
-AreShares {E} kept order shares = (w : ℕ) (d : Result (List ResidueRow) E) → w < length shares → IfOk (slice_index_or shares w d) (λ share. IsShare kept order w (length shares) share)
+abbrev pub AreShares : {E : Type 0} → KeptRows → List (ℕ × ℕ) → List (Result (Vec ResidueRow Global) E) → Type 0
+AreShares {E} kept order shares = (w : ℕ) (d : Result (Vec ResidueRow Global) E) → w < length shares → IfOk (slice_index_or shares w d) (λ share. IsShare kept order w (length shares) share.items)
 
--- the rows are the settled ones by ascending leads
-pub record AreSettled (kept : KeptRows) (order : List (ℕ × ℕ)) (E : Matrix) : Type 0 where
-  pub height : E.height ≡ length order
+-- the rows are the first so many settled ones by ascending leads
+pub record AreSettled (kept : KeptRows) (order : List (ℕ × ℕ)) (count : ℕ) (E : Matrix) : Type 0 where
+  pub matrix : IsMatrix kept.modulus E
+  pub height : E.height ≡ count
   pub width : E.width ≡ kept.matrix.width
-  pub each : (t : ℕ) (c : ℕ × ℕ) → t < E.height → IsSettled kept.modulus kept.matrix kept.leads (slice_index_or order t c).1 (row E t)
+  pub each : (t : ℕ) (c : ℕ × ℕ) → t < count → IsSettled kept.modulus kept.matrix kept.leads (slice_index_or order t c).1 (row E t)

@@ -24,8 +24,8 @@ pub(crate) fn leads_of(alloc: Global, order: &[(u32, u32)]) -> Result<Vec<u32>, 
     ensures { IfOk result (λ leads. leads.items ≡ map (λ c. c.0) order.now) }
 {
     let mut leads = Vec::with_capacity(alloc, order.len())?;
-    for (lead, _) in order {
-        leads.push(*lead)?;
+    for c in order {
+        leads.push(c.0)?;
     }
     Ok(leads)
 }

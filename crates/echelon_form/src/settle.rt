@@ -67,7 +67,7 @@ pub(crate) fn merged(
     requires some { 1 ≤ length shares.now }
     requires shares { AreShares kept.now order.now shares.now }
     ensures modulus { IfOk result (λ rows. rows.modulus ≡ modulus) }
-    ensures settled { IfOk result (λ rows. AreSettled kept.now order.now rows.matrix) }
+    ensures settled { IfOk result (λ rows. AreSettled kept.now order.now (length order.now) rows.matrix) }
 {
     let mut rows = Rows::with_room(alloc, modulus, kept.width(), kept.height(), entries_of(shares))?;
     for t in 0..order.len() {

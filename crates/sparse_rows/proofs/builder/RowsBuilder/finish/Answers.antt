@@ -52,6 +52,9 @@ sum_cells-requires-clause-within c =
     (subst (λ t. All (IsCell f.modulus t) (zip (picked i f.rows.items f.cols.items) (picked i f.rows.items f.vals.items))) width all)) in
     All-same (IsCell p n) _ _ c.deref-in-loop-i-5.ensures.value (c.in_ok-sort_cells.ensures.within p n here)
 
+pub sum_cells-requires-clause-sorted : goal.sum_cells-requires-clause-sorted
+sum_cells-requires-clause-sorted c = rw c.deref-in-loop-i-5.ensures.value c.in_ok-sort_cells.ensures.sorted
+
 pub append-requires-clause-width : goal.append-requires-clause-width
 append-requires-clause-width c =
     c.sum_cells.ensures.length ∙ ap length c.clear.ensures.row ∙ length_zeros _ ∙ c.loop-i.invariant.row_length ∙ sym (ap (λ m. m.width) c.loop-i.invariant.matrix)
