@@ -1,12 +1,12 @@
 -- What a worker has settled so far.
-use Rattle.std.proofs.Common.{ℕ, ◌≡◌, ◌+◌, ◌*◌, ◌/◌, ◌%◌, ◌<◌, ◌≤◌, List, [], ◌∷◌, ◌++◌, length, slice_index_or, inl, inr, sym, ap, subst, ◌∙◌, arith, length-append}
+use Rattle.std.proofs.Common.{ℕ, ◌≡◌, ◌+◌, ◌*◌, ◌/◌, ◌%◌, ◌<◌, ◌≤◌, List, [], ◌∷◌, ◌++◌, Result, Ok, Vec, Global, IfOk, length, slice_index_or, inl, inr, sym, refl, ap, subst, ◌∙◌, arith, length-append, mod-lt}
 use Rattle.std.proofs.Math.ListN.{get_or-append}
 use Rattle.std.proofs.Math.Seq.{get_or-append_seam}
 use Rattle.std.proofs.Math.Nat.{lt_of_mul-lt-mul_right}
 use Rattle.std.proofs.lemmas.Bool.{cases_eq}
 use Rattle.sparse_rows.specs.Rows.{ResidueRow}
 use Rattle.triangular_solve.specs.Leads.{KeptRows}
-use Rattle.echelon_form.specs.Settling.{IsSettledRow, IsShare}
+use Rattle.echelon_form.specs.Settling.{AreShares, IsSettledRow, IsShare}
 
 -- the worker's next place is `next`
 pub record IsGathered (kept : KeptRows) (order : List (ℕ × ℕ)) (worker workers next : ℕ) (share : List ResidueRow) : Type 0 where
@@ -51,3 +51,12 @@ gathered_all {kept} {order} {worker} {workers} {next} {share} some h done = reco
 
     long : (t : ℕ) → t < length order → t % workers ≡ worker → t / workers < length share
     long t l e = lt_of_mul-lt-mul_right workers (omega (arith, place t e, h.place))
+
+-- the row that a share has for the place t
+pub shared_row : {E : Type 0} (kept : KeptRows) (order : List (ℕ × ℕ)) (shares : List (Result (Vec ResidueRow Global) E)) → 1 ≤ length shares → AreShares kept order shares →
+    (t : ℕ) → t < length order → (r : Result (Vec ResidueRow Global) E) (share : Vec ResidueRow Global) (s : ResidueRow) → r ≡ slice_index_or shares (t % length shares) r → r ≡ Ok share →
+    s ≡ slice_index_or share.items (t / length shares) s → (c : ℕ × ℕ) → IsSettledRow kept (slice_index_or order t c).1 s
+shared_row {E} kept order shares some all t l r share s at is read c =
+    let here : IsShare kept order (t % length shares) (length shares) share.items =
+    subst (λ (x : Result (Vec ResidueRow Global) E). IfOk x (λ v. IsShare kept order (t % length shares) (length shares) v.items)) (sym at ∙ is) (all (t % length shares) r (mod-lt t some)) in
+    subst (IsSettledRow kept (slice_index_or order t c).1) (sym read) (here.each t c s l refl)

@@ -4,16 +4,27 @@ use Rattle.std.proofs.Math.ListN.{get_or-append}
 use Rattle.std.proofs.Math.Seq.{get_or-append_seam}
 use Rattle.std.proofs.lemmas.Bool.{cases_eq, cases_lt}
 use Rattle.std.proofs.lemmas.List.{get_or-map, length-map}
+use Rattle.residue_words.specs.Residues.{IsPrime}
 use Rattle.residue_words.specs.Matrix.{Matrix, IsMatrix, IsVector, IsCombination, row, entry}
 use Rattle.residue_words.proofs.Vectors.{combination_through}
 use Rattle.row_space.specs.Echelon.{HasLeads, HasPlaces, SameSpan}
 use Rattle.row_space.proofs.Counting.{spanned_back}
-use Rattle.row_space.proofs.Spans.{places_independent}
+use Rattle.row_space.proofs.Spans.{places_independent, same_span_chained}
 use Rattle.sparse_rows.specs.Rows.{ResidueRow}
 use Rattle.sparse_rows.specs.Stored.{with_row}
 use Rattle.triangular_solve.specs.Leads.{KeptRows, IsSettled, IsSound}
+use Rattle.echelon_form.specs.Form.{Form, IsEchelon, IsFormOf}
 use Rattle.echelon_form.specs.Settling.{IsOrder, AreSettled, IsSettledRow}
 use Rattle.echelon_form.proofs.Keeping.{matrix_more}
+
+-- at first there is none
+pub settled_none : (kept : KeptRows) (order : List (ℕ × ℕ)) (E : Matrix) → E ≡ record { height = 0; width = kept.matrix.width; rows = [] } → AreSettled kept order 0 E
+settled_none kept order E e = record {
+  matrix = subst (IsMatrix kept.modulus) (sym e) (record { len = refl; each = λ i l. absurd (omega arith) });
+  height = ap (λ m. m.height) e;
+  width = ap (λ m. m.width) e;
+  each = λ t c l. absurd (omega arith);
+}
 
 -- a settled row behind those before it
 pub settled_more : {kept : KeptRows} {order : List (ℕ × ℕ)} {t : ℕ} {E : Matrix} (s : ResidueRow) → AreSettled kept order t E →
@@ -88,3 +99,32 @@ settled_span {kept} {order} {E} sound o s v =
           within (omega (arith, s.height, o.long)) v,
       within v,
     )
+
+-- so they and the leads are the form of the rows that the kept rows span
+pub form_of_settled : {p q : ℕ} {A E : Matrix} {kept : KeptRows} {order : List (ℕ × ℕ)} {leads : List ℕ} → IsSound kept → IsOrder kept order → AreSettled kept order (length order) E →
+    leads ≡ map (λ c. c.0) order → q ≡ p → kept.modulus ≡ p → kept.matrix.width ≡ A.width → (IsPrime p → SameSpan p A kept.matrix) →
+    IsFormOf p A (record { modulus = q; matrix = E; leads = leads })
+form_of_settled {p} {q} {A} {E} {kept} {order} {leads} sound o s named same modulus width span = record {
+  modulus = same;
+  matrix = matrix;
+  width = s.width ∙ width;
+  rank = ap length named ∙ length-map order (λ (c : ℕ × ℕ). c.0) ∙ sym s.height;
+  rref = λ prime. record {
+    matrix = matrix;
+    width = s.width ∙ width;
+    form = (map (λ c. c.0) order, settled_leads sound o s);
+    span = same_span_chained p A kept.matrix E (span prime) (subst (λ n. SameSpan n kept.matrix E) modulus (settled_span sound o s));
+  };
+  leads = λ prime. subst (HasLeads E) (sym named) (settled_leads sound o s);
+}
+  where
+    matrix : IsMatrix p E
+    matrix = subst (λ n. IsMatrix n E) modulus s.matrix
+
+-- the form of any matrix is one
+pub echelon_of_form : {p : ℕ} {A : Matrix} (f : Form) → IsFormOf p A f → IsEchelon f
+echelon_of_form {p} {A} f h = record {
+  matrix = subst (λ n. IsMatrix n f.matrix) (sym h.modulus) h.matrix;
+  rank = h.rank;
+  leads = λ prime. h.leads (subst IsPrime h.modulus prime);
+}
