@@ -18,3 +18,9 @@ pub record IsFormOf (p : ℕ) (A : Matrix) (f : Form) : Type 0 where
   pub rank : length f.leads ≡ f.matrix.height
   pub rref : IsPrime p → IsRref p A f.matrix
   pub leads : IsPrime p → HasLeads f.matrix f.leads
+
+-- what holds of each form: as many leads as rows, and for a prime modulus they are the leads
+pub record IsEchelon (f : Form) : Type 0 where
+  pub matrix : IsMatrix f.modulus f.matrix
+  pub rank : length f.leads ≡ f.matrix.height
+  pub leads : IsPrime f.modulus → HasLeads f.matrix f.leads

@@ -35,8 +35,8 @@ impl Model for Rows {
 }
 
 impl Rows {
-    // The matrix with no row, and room for these rows and entries.
-    pub(crate) fn with_room(
+    /// The matrix with no row, and room for these rows and entries.
+    pub fn with_room(
         alloc: Global,
         modulus: Modulus,
         width: u32,
@@ -75,8 +75,8 @@ impl Rows {
         Ok(())
     }
 
-    // Appends a row.
-    pub(crate) fn append(&mut self, row: &Sparse) -> Result<(), AllocError>
+    /// Appends a row.
+    pub fn append(&mut self, row: &Sparse) -> Result<(), AllocError>
         requires height_small { self.old.matrix.height < 2147483648 }
         requires modulus { row.now.modulus ≡ self.old.modulus }
         requires width { length row.now.row ≡ self.old.matrix.width }
