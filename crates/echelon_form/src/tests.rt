@@ -20,12 +20,33 @@ const KNOWN: [Known<'static>; 4] = [
     Known {
         sizes: (3, 3),
         modulus: 7,
-        entries: &[(0, 0, 2), (0, 1, 4), (0, 2, 1), (1, 0, 1), (1, 1, 2), (2, 0, 3), (2, 1, 6), (2, 2, 1)],
+        entries: &[
+            (0, 0, 2),
+            (0, 1, 4),
+            (0, 2, 1),
+            (1, 0, 1),
+            (1, 1, 2),
+            (2, 0, 3),
+            (2, 1, 6),
+            (2, 2, 1),
+        ],
         leads: &[0, 2],
         form: &[(0, 0, 1), (0, 1, 2), (1, 2, 1)],
     },
-    Known { sizes: (0, 5), modulus: 7, entries: &[], leads: &[], form: &[] },
-    Known { sizes: (2, 2), modulus: 2, entries: &[(0, 0, 1), (0, 1, 1), (1, 0, 1), (1, 1, 1)], leads: &[0], form: &[(0, 0, 1), (0, 1, 1)] },
+    Known {
+        sizes: (0, 5),
+        modulus: 7,
+        entries: &[],
+        leads: &[],
+        form: &[],
+    },
+    Known {
+        sizes: (2, 2),
+        modulus: 2,
+        entries: &[(0, 0, 1), (0, 1, 1), (1, 0, 1), (1, 1, 1)],
+        leads: &[0],
+        form: &[(0, 0, 1), (0, 1, 1)],
+    },
     Known {
         sizes: (1000000, 1000000),
         modulus: 7,
@@ -36,7 +57,12 @@ const KNOWN: [Known<'static>; 4] = [
 ];
 
 // The matrix of these sizes and entries.
-fn built(alloc: Global, sizes: (u32, u32), modulus: Modulus, entries: &[(u32, u32, u64)]) -> Result<Rows, AllocError>
+fn built(
+    alloc: Global,
+    sizes: (u32, u32),
+    modulus: Modulus,
+    entries: &[(u32, u32, u64)],
+) -> Result<Rows, AllocError>
     requires height { sizes.0 ≤ 2147483648 }
     requires width { sizes.1 ≤ 2147483648 }
 {
@@ -64,7 +90,12 @@ fn listed(alloc: Global, rows: &Rows) -> Result<Vec<(u32, u32, u64)>, AllocError
 fn known_forms(rt: HostRuntime) -> Result<(), Fail> {
     let alloc = rt.alloc();
     for known in &KNOWN {
-        let rows = built(alloc, known.sizes, Modulus::new(known.modulus), known.entries)?;
+        let rows = built(
+            alloc,
+            known.sizes,
+            Modulus::new(known.modulus),
+            known.entries,
+        )?;
         for workers in [1, 2, 8] {
             let form = Echelon::of(&rt, alloc, &rows, workers)?;
             assert_eq!(rt; form.leads(), known.leads);
