@@ -1,13 +1,11 @@
 -- Rows spread into plain ones.
-use Rattle.std.proofs.Common.{ℕ, Global, ◌≡◌, ◌+◌, ◌<◌, ◌≤◌, List, [], ◌∷◌, ◌++◌, Vec, vec_len, length, map, take, get_or, set, replicate, refl, sym, ap, ap₂, ◌∙◌, arith}
-use Rattle.std.proofs.lemmas.List.{take_more, take_all, length-take-le, length-replicate, get_or-take, get_or-replicate, map-append}
+use Rattle.std.proofs.Common.{ℕ, Global, ◌≡◌, ◌+◌, ◌<◌, ◌≤◌, List, [], Vec, vec_len, length, take, get_or, set, replicate, sym, ap, ap₂, ◌∙◌, arith}
+use Rattle.std.proofs.lemmas.List.{take_more, take_all, length-take-le, length-replicate, get_or-take, get_or-replicate}
 use Rattle.residue_words.specs.Matrix.{Matrix, IsMatrix, row, zeros}
 use Rattle.residue_words.proofs.Vectors.{length_list_of, at_list_of, list_equal}
 use Rattle.sparse_rows.specs.Rows.{support, nonzeros}
 use Rattle.sparse_rows.specs.Stored.{IsSparse, spread}
 use Rattle.sparse_rows.proofs.Spread.{length_spread, spread_none, spread_push, spread_support, support_sparse}
-use Rattle.row_space.specs.Rows.{of_rows}
-use Rattle.spasm_run.specs.Plain.{lists}
 
 -- so many zeros are a row of zeros
 pub spread_zeros : (n : ℕ) (v : List ℕ) → v ≡ replicate n 0 → v ≡ spread n [] []

@@ -1,6 +1,5 @@
 -- From what the parts of a run do to what it did.
-use Rattle.std.proofs.Common.{ℕ, Bool, true, false, ◌≡◌, List, [], ◌∷◌, ◌++◌, map, Option, None, Some, Result, Ok, Err, refl, sym, ap, ◌∙◌, subst, inl, inr, append-nil}
-use Rattle.residue_words.specs.Matrix.{Matrix}
+use Rattle.std.proofs.Common.{ℕ, Bool, true, false, ◌≡◌, List, [], ◌∷◌, ◌++◌, Option, None, Some, Ok, Err, refl, sym, ap, ◌∙◌, subst, inl, inr, append-nil}
 use Rattle.residue_words.specs.Residues.{IsPrime}
 use Rattle.row_space.specs.Echelon.{HasRank}
 use Rattle.sms_text.specs.declared.kind.TextError.{TextError}
@@ -13,7 +12,7 @@ use Rattle.sms_text.specs.Whole.{RowsDid, IsNoMatrix}
 use Rattle.sms_text.proofs.Moving.{stays_at}
 use Rattle.sms_text.proofs.Runs.{with_items_got}
 use Rattle.sparse_rows.specs.Rows.{ResidueMatrix}
-use Rattle.sms_text.specs.Text.{Header, Item, Closing, Got, Fault, matrices, matrix_of, read}
+use Rattle.sms_text.specs.Text.{Header, Got, Fault, read}
 use Rattle.sms_text.specs.Writing.{Writes}
 use Rattle.spasm_run.specs.declared.status.Status.{Status}
 use Rattle.spasm_run.specs.declared.status.Status.TheVariants as status
@@ -54,6 +53,7 @@ no_matrix_says p limit new taken f g (error.Bad line k) why = why.1 []
 no_matrix_says p limit new taken f g error.Read why = (why.1 [], why.2)
 no_matrix_says p limit new taken f g error.Memory why = tt
 
+-- no matrix was read
 pub rank_failed : (p limit : ℕ) (e : TextError) (old new : ReaderState) (told told' : Option (List ℕ)) (f g : ℕ) → old ≡ new_reader limit → RowsDid p old new told told' f g (Err e) →
     RankRead p limit told told' f g (Err e)
 rank_failed p limit e old new told told' f g begins did =
@@ -66,17 +66,11 @@ rank_failed p limit e old new told told' f g begins did =
       finds = no_matrix_says p limit new x.0 f g e x.2;
     }
 
--- memory was wanted for the rank, and before anything was read
-pub rank_wanted : (p limit : ℕ) (result : Result ResidueMatrix TextError) (old new : ReaderState) (told told' : Option (List ℕ)) (f g : ℕ) → old ≡ new_reader limit →
-    RowsDid p old new told told' f g result → RankRead p limit told told' f g (Err error.Memory)
-rank_wanted p limit result old new told told' f g begins did =
-    let P : ReaderState → Type 0 = λ o. RowsDid p o new told told' f g result in
-    let x = subst P begins did in record { bytes = x.0; ended = new.ended; taken = x.1.source; spent = λ e. x.1.spent e refl; finds = tt }
-
 before_nothing : (told : Option (List ℕ)) → told ≡ before [] told
 before_nothing None = refl
 before_nothing (Some bytes) = refl
 
+-- memory was wanted before anything was read
 pub rank_unread : (p limit : ℕ) (told : Option (List ℕ)) (f : ℕ) → RankRead p limit told told f f (Err error.Memory)
 rank_unread p limit told f = record { bytes = []; ended = false; taken = before_nothing told; spent = λ e. cc; finds = tt }
 

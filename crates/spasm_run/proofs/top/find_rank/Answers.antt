@@ -1,5 +1,5 @@
 -- The input is a text of this matrix.
-use Rattle.spasm_run.proofs.Whole.{rank_found, rank_failed, rank_wanted, rank_unread}
+use Rattle.spasm_run.proofs.Whole.{rank_found, rank_failed, rank_unread}
 use Rattle.spasm_run.proofs.top.find_rank.Goals as goal
 
 pub returns-in_default-clause-did : goal.returns-in_default-clause-did
