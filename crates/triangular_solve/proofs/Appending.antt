@@ -6,7 +6,7 @@ use Rattle.std.proofs.Math.Seq.{get_or-append_seam}
 use Rattle.std.proofs.lemmas.List.{length-map, length-set, get_or-set_same, get_or-set_other, get_or_default, map-append}
 use Rattle.std.proofs.lemmas.Bool.{cases_eq, cases_lt}
 use Rattle.residue_words.specs.Residues.{IsPrime}
-use Rattle.residue_words.specs.Matrix.{Matrix, IsVector, IsMatrix, IsCombination, zeros}
+use Rattle.residue_words.specs.Matrix.{Matrix, IsVector, IsMatrix, IsCombination}
 use Rattle.residue_words.proofs.Vectors.{at_zeros}
 use Rattle.row_space.specs.Echelon.{SameSpan}
 use Rattle.row_space.specs.Rows.{DiffersBy, of_rows}

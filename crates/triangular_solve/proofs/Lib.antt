@@ -3,6 +3,7 @@ pub mod Appending
 pub mod Combining
 pub mod Dividing
 pub mod Draining
+pub mod Examples
 pub mod Extent
 pub mod LedRows
 pub mod Reducing

@@ -1,5 +1,5 @@
 -- Sums by column, with a heap of the columns that may hold some.
-use Rattle.std.proofs.Common.{ℕ, zero, suc, ◌≡◌, ◌≢◌, ◌<◌, ◌≤◌, ◌⊎◌, Option, None, Some, IfSome, List, [], ◌∷◌, length, slice_index, slice_set, true, false, inl, inr, sym, refl, ap, subst, ◌∙◌, arith}
+use Rattle.std.proofs.Common.{ℕ, zero, suc, ◌≡◌, ◌≢◌, ◌<◌, ◌≤◌, ◌⊎◌, Option, None, Some, IfSome, List, ◌∷◌, length, slice_index, slice_set, true, false, inl, inr, sym, refl, ap, subst, ◌∙◌, arith}
 use Rattle.std.specs.List.{All, Contains}
 use Rattle.std.specs.List.Sorted.{IsPermutation}
 use Rattle.std.specs.Option.{is_some}
@@ -7,12 +7,12 @@ use Rattle.std.specs.Ordering.{nat_cmp, is_lt}
 use Rattle.std.specs.BinaryHeap.{IsHeap, IsUpperBound}
 use Rattle.std.specs.declared.cmp.Reverse.{Reverse}
 use Rattle.std.proofs.lemmas.List.{length-set, get_or-set_same, get_or-set_other}
-use Rattle.std.proofs.lemmas.Bool.{cases_eq, cases_lt}
+use Rattle.std.proofs.lemmas.Bool.{cases_eq}
 use Rattle.std.proofs.lemmas.Bool.Decides.{nat_tests}
 use Rattle.std.proofs.lemmas.List.Elements.{All-cons, All-tail, All-head, All-contains, All-from_recursion}
-use Rattle.std.proofs.lemmas.List.Sorted.{All-permutation, Contains-permutation, IsPermutation-sym}
+use Rattle.std.proofs.lemmas.List.Sorted.{All-permutation, Contains-permutation}
 use Rattle.triangular_solve.proofs.Extent.{extent, extent_falls}
-use Rattle.triangular_solve.specs.Columns.{AllZero, IsTouched, TakesFirst}
+use Rattle.triangular_solve.specs.Columns.{IsTouched, TakesFirst}
 
 contains_head : {X : Type 0} (x : X) (xs : List X) → Contains (x ∷ xs) x
 contains_head x xs = (0, omega arith, refl)
@@ -94,10 +94,6 @@ touched_pop {sums} {heap} {new} x t p pops = record {
       | inl e ↦ absurd (d (sym (ap (λ (y : Reverse ℕ). y.0) e)))
       | inr h ↦ h
     ]
-
--- where the heap is empty all sums are 0
-pub touched_none : {sums : List ℕ} {heap : List (Reverse ℕ)} → IsTouched sums heap → length heap ≡ 0 → AllZero sums
-touched_none {sums} {heap} t e j l = elim (cases_eq (slice_index sums j) 0) [ inl z ↦ z | inr n ↦ let here = t.covers j l n in absurd (omega (arith, here.1)) ]
 
 -- what is taken is less to come
 pub taken_falls : {old new : List ℕ} {c v : ℕ} → TakesFirst old new c v → extent new < extent old

@@ -197,6 +197,8 @@ impl Kept {
         requires modulus { rest.now.modulus ≡ self.old.modulus }
         requires residues { IsVector self.old.modulus self.old.matrix.width rest.now.row }
         requires zero_at_leads { (k : ℕ) → k < self.old.matrix.height → slice_index rest.now.row (slice_index self.old.leads k) ≡ 0 }
+        ensures modulus { self.new.modulus ≡ self.old.modulus }
+        ensures width { self.new.matrix.width ≡ self.old.matrix.width }
         ensures some { IfOk result (λ lead. IfSome lead (λ c. Extends self.old self.new rest.now.row c)) }
         ensures none { IfOk result (λ lead. IfNone lead ((self.new ≡ self.old) × AllZero rest.now.row)) }
         ensures err { OnErr result (self.new ≡ self.old) }

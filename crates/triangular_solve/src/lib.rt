@@ -17,22 +17,14 @@ pub use scratch::Scratch;
 mod tests {
     use super::Leads;
     use residue_words::Modulus;
-    use sparse_rows::Sparse;
     use std::test::Fail;
-
-    // The rows 2 4 1, 1 2 0 and 3 6 1 of residues modulo 7.
-    const COLS: [&[u32]; 3] = [&[0, 1, 2], &[0, 1], &[0, 1, 2]];
-
-    const VALS: [&[u64]; 3] = [&[2, 4, 1], &[1, 2], &[3, 6, 1]];
-
-    const LEADS: [Option<u32>; 3] = [Some(0), Some(2), None];
 
     #[test]
     fn rows_are_kept_reduced_and_settled(rt: HostRuntime) -> Result<(), Fail> {
         let mut kept = Leads::new(rt.alloc(), 3, &Modulus::new(7))?;
-        for i in 0..3 {
-            assert_eq!(rt; kept.insert(COLS[i], VALS[i])?, LEADS[i]);
-        }
+        assert_eq!(rt; kept.insert(&[0, 1, 2], &[2, 4, 1])?, Some(0));
+        assert_eq!(rt; kept.insert(&[0, 1], &[1, 2])?, Some(2));
+        assert_eq!(rt; kept.insert(&[0, 1, 2], &[3, 6, 1])?, None);
         assert_eq!(rt; kept.height(), 2);
         let rest = kept.rest(rt.alloc(), &[0], &[1])?;
         assert_eq!(rt; rest.cols(), [1].as_slice());

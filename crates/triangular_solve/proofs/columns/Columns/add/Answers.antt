@@ -1,4 +1,4 @@
-use Rattle.std.proofs.Common.{◌≡◌, ◌<◌, ℕ, length, sym, ◌∙◌}
+use Rattle.std.proofs.Common.{◌<◌, length, ◌∙◌}
 use Rattle.std.proofs.lemmas.List.{get_or_default}
 use Rattle.triangular_solve.proofs.Touched.{touched_push, touched_set}
 use Rattle.triangular_solve.proofs.columns.Columns.add.Goals as goal

@@ -1,4 +1,4 @@
-use Rattle.std.proofs.Common.{◌≡◌, ◌+◌, ◌<◌, ◌≤◌, ℕ, length, refl, arith, sym, subst}
+use Rattle.std.proofs.Common.{◌≡◌, ◌+◌, length, refl, arith, sym, subst}
 use Rattle.triangular_solve.proofs.Adding.{IsAdding, adding_more, adding_all}
 use Rattle.triangular_solve.proofs.columns.Columns.add_multiple.Goals as goal
 

@@ -1,4 +1,3 @@
-use Rattle.std.proofs.Common.{◌≡◌, ◌≢◌, ◌<◌, ◌+◌, ◌*◌, ◌%◌, ℕ, length, slice_index}
 use Rattle.triangular_solve.proofs.Adding.{IsAdding}
 use Rattle.triangular_solve.proofs.columns.Columns.add_multiple.Given as goal
 

@@ -1,4 +1,3 @@
-use Rattle.std.proofs.Common.{◌∙◌, sym}
 use Rattle.triangular_solve.proofs.Touched.{some_taken_falls}
 use Rattle.triangular_solve.proofs.columns.Columns.clear.Goals as goal
 

@@ -1,6 +1,6 @@
-use Rattle.std.proofs.Common.{◌≡◌, arith, sym, ◌∙◌}
+use Rattle.std.proofs.Common.{sym, ◌∙◌}
 use Rattle.std.proofs.lemmas.List.{get_or_default}
-use Rattle.triangular_solve.proofs.Touched.{touched_pop, touched_none}
+use Rattle.triangular_solve.proofs.Touched.{touched_pop}
 use Rattle.triangular_solve.proofs.columns.Columns.pop.Goals as goal
 
 pub invariant_of-self : goal.invariant_of-self

@@ -1,4 +1,4 @@
-use Rattle.std.proofs.Common.{◌≡◌, ℕ}
+use Rattle.std.proofs.Common.{◌≡◌}
 use Rattle.std.specs.BinaryHeap.{heap_items, heap_len}
 use Rattle.triangular_solve.specs.Columns.{IsTouched}
 use Rattle.triangular_solve.proofs.columns.Columns.pop.Given as goal

@@ -1,7 +1,6 @@
-use Rattle.std.proofs.Common.{◌≡◌, ◌<◌, ◌≢◌, ℕ, length, slice_index, subst, sym, ap, refl, ◌∙◌, arith}
+use Rattle.std.proofs.Common.{length, subst, sym, ap, refl, ◌∙◌}
 use Rattle.std.proofs.lemmas.List.{length-set}
 use Rattle.triangular_solve.specs.Leads.{KeptRows, IsSound}
-use Rattle.triangular_solve.specs.Kept.{whole_matrix}
 use Rattle.triangular_solve.proofs.LedRows.{kept_sound}
 use Rattle.triangular_solve.proofs.Touched.{taken_falls}
 use Rattle.triangular_solve.proofs.Draining.{IsDraining, draining_none, draining_kept, draining_eliminated, draining_all, eliminated, eliminated_falls, sparse_of}

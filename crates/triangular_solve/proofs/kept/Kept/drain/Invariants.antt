@@ -1,4 +1,4 @@
-use Rattle.std.proofs.Common.{◌≡◌, ◌≤◌}
+use Rattle.std.proofs.Common.{◌≡◌}
 use Rattle.triangular_solve.proofs.Draining.{IsDraining}
 use Rattle.triangular_solve.proofs.Extent.{extent}
 use Rattle.triangular_solve.proofs.kept.Kept.drain.Given as goal

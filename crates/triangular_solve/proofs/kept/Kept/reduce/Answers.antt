@@ -1,4 +1,4 @@
-use Rattle.std.proofs.Common.{◌≡◌, ap, subst, sym}
+use Rattle.std.proofs.Common.{ap, subst, sym}
 use Rattle.std.proofs.lemmas.Result.{IfOk-weaker}
 use Rattle.triangular_solve.specs.Leads.{KeptRows}
 use Rattle.triangular_solve.specs.Kept.{Drains, IsBehind}
