@@ -82,7 +82,7 @@ pub with_items_push : (items : List Item) (item : Item) (reading : Reading) → 
 with_items_push [] item reading = refl
 with_items_push (i ∷ items) item reading = ap (with_item i) (with_items_push items item reading)
 
-with_items_got : (items : List Item) (rest : List Line) → with_items items (Got [] rest) ≡ Got items rest
+pub with_items_got : (items : List Item) (rest : List Line) → with_items items (Got [] rest) ≡ Got items rest
 with_items_got [] rest = refl
 with_items_got (i ∷ items) rest = ap (with_item i) (with_items_got items rest)
 
