@@ -31,7 +31,7 @@ gathered_more {kept} {order} {worker} {workers} {next} {share} h s here =
             let same : worker + i * workers ≡ next = omega (arith, h.place, ap (λ n. n * workers) e) in
             let last : slice_index_or (share ++ s ∷ []) i d ≡ s = ap (λ k. slice_index_or (share ++ s ∷ []) k d) e ∙ get_or-append_seam share s [] d in
             subst (λ k. IsSettledRow kept (slice_index_or order k c).1 (slice_index_or (share ++ s ∷ []) i d)) (sym same)
-                (subst (IsSettledRow kept (slice_index_or order next c).1) (sym last) (here c))
+            (subst (IsSettledRow kept (slice_index_or order next c).1) (sym last) (here c))
         | inr n ↦
             let less : i < length share = omega arith in
             subst (IsSettledRow kept (slice_index_or order (worker + i * workers) c).1) (sym (get_or-append share (s ∷ []) d i less)) (h.each i c d less)

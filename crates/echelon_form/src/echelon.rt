@@ -35,7 +35,12 @@ impl Echelon {
     /// The rows are eliminated one after another by the caller, in the time of the entries that this makes; then each
     /// worker settles a share of the rows that are left, each with 8 bytes a column. Where a thread cannot be started the
     /// caller does its work.
-    pub fn of<R: Threads + Sync>(rt: &R, alloc: Global, rows: &Rows, workers: u32) -> Result<Echelon, AllocError>
+    pub fn of<R: Threads + Sync>(
+        rt: &R,
+        alloc: Global,
+        rows: &Rows,
+        workers: u32,
+    ) -> Result<Echelon, AllocError>
         requires some { 1 ≤ workers }
         requires few { workers ≤ 64 }
         ensures { IfOk result (λ e. IsFormOf rows.now.modulus rows.now.matrix e) }

@@ -27,7 +27,12 @@ pub(crate) fn shares_of<R: Threads + Sync>(
     ensures count { IfOk result (λ shares. length shares.items ≡ workers) }
     ensures shares { IfOk result (λ shares. AreShares kept.now order.now shares.items) }
 {
-    thread::map_indices(rt, alloc, workers, &|worker| share_of(alloc, kept, order, worker, workers))
+    thread::map_indices(
+        rt,
+        alloc,
+        workers,
+        &|worker| share_of(alloc, kept, order, worker, workers),
+    )
 }
 
 // The settled rows at the places worker, worker + workers, worker + 2 workers and so on.
@@ -69,7 +74,13 @@ pub(crate) fn merged(
     ensures modulus { IfOk result (λ rows. rows.modulus ≡ modulus) }
     ensures settled { IfOk result (λ rows. AreSettled kept.now order.now (length order.now) rows.matrix) }
 {
-    let mut rows = Rows::with_room(alloc, modulus, kept.width(), kept.height(), entries_of(shares))?;
+    let mut rows = Rows::with_room(
+        alloc,
+        modulus,
+        kept.width(),
+        kept.height(),
+        entries_of(shares),
+    )?;
     for t in 0..order.len() {
         match &shares[t % shares.len()] {
             Ok(share) => rows.append(&share[t / shares.len()])?,

@@ -9,7 +9,13 @@ use std::test::Fail;
 use std::thread::Threads;
 
 // The matrix with these rows, columns and values.
-fn built(alloc: Global, m: u32, n: u32, p: Modulus, triples: &[(u32, u32, u64)]) -> Result<Rows, AllocError>
+fn built(
+    alloc: Global,
+    m: u32,
+    n: u32,
+    p: Modulus,
+    triples: &[(u32, u32, u64)],
+) -> Result<Rows, AllocError>
     requires height { m ≤ 2147483648 }
     requires width { n ≤ 2147483648 }
 {
@@ -57,13 +63,58 @@ fn has_form<R: Threads + Sync>(
 fn known_forms(rt: HostRuntime) -> Result<(), Fail> {
     let alloc = rt.alloc();
     let seven = Modulus::new(7);
-    let x = built(alloc, 3, 3, seven, &[(0, 0, 2), (0, 1, 4), (0, 2, 1), (1, 0, 1), (1, 1, 2), (2, 0, 3), (2, 1, 6), (2, 2, 1)])?;
-    assert!(rt; has_form(&rt, alloc, &x, 8, &[0, 2], &[(0, 0, 1), (0, 1, 2), (1, 2, 1)])?);
+    let x = built(
+        alloc,
+        3,
+        3,
+        seven,
+        &[
+            (0, 0, 2),
+            (0, 1, 4),
+            (0, 2, 1),
+            (1, 0, 1),
+            (1, 1, 2),
+            (2, 0, 3),
+            (2, 1, 6),
+            (2, 2, 1),
+        ],
+    )?;
+    assert!(rt;
+        has_form(
+            &rt,
+            alloc,
+            &x,
+            8,
+            &[0, 2],
+            &[(0, 0, 1), (0, 1, 2), (1, 2, 1)]
+        )?
+    );
     let none = built(alloc, 0, 5, seven, &[])?;
     assert!(rt; has_form(&rt, alloc, &none, 8, &[], &[])?);
-    let twice = built(alloc, 2, 2, Modulus::new(2), &[(0, 0, 1), (0, 1, 1), (1, 0, 1), (1, 1, 1)])?;
+    let twice = built(
+        alloc,
+        2,
+        2,
+        Modulus::new(2),
+        &[(0, 0, 1), (0, 1, 1), (1, 0, 1), (1, 1, 1)],
+    )?;
     assert!(rt; has_form(&rt, alloc, &twice, 8, &[0], &[(0, 0, 1), (0, 1, 1)])?);
-    let wide = built(alloc, 1000000, 1000000, seven, &[(0, 999999, 3), (999999, 0, 2)])?;
-    assert!(rt; has_form(&rt, alloc, &wide, 2, &[0, 999999], &[(0, 0, 1), (1, 999999, 1)])?);
+    let wide = built(
+        alloc,
+        1000000,
+        1000000,
+        seven,
+        &[(0, 999999, 3), (999999, 0, 2)],
+    )?;
+    assert!(rt;
+        has_form(
+            &rt,
+            alloc,
+            &wide,
+            2,
+            &[0, 999999],
+            &[(0, 0, 1), (1, 999999, 1)]
+        )?
+    );
     Ok(())
 }
