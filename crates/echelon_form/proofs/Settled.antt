@@ -1,13 +1,13 @@
 -- The settled rows by ascending leads are the echelon form.
-use Rattle.std.proofs.Common.{ℕ, ◌≡◌, ◌≢◌, ◌+◌, ◌<◌, ◌≤◌, List, [], ◌∷◌, ◌++◌, length, map, slice_index, slice_index_or, inl, inr, sym, refl, ap, subst, ◌∙◌, arith}
+use Rattle.std.proofs.Common.{ℕ, ◌≡◌, ◌+◌, ◌<◌, List, [], ◌∷◌, length, map, slice_index, slice_index_or, inl, inr, sym, refl, ap, subst, ◌∙◌, arith}
 use Rattle.std.proofs.Math.ListN.{get_or-append}
 use Rattle.std.proofs.Math.Seq.{get_or-append_seam}
 use Rattle.std.proofs.lemmas.Bool.{cases_eq, cases_lt}
 use Rattle.std.proofs.lemmas.List.{get_or-map, length-map}
 use Rattle.residue_words.specs.Residues.{IsPrime}
-use Rattle.residue_words.specs.Matrix.{Matrix, IsMatrix, IsVector, IsCombination, row, entry}
+use Rattle.residue_words.specs.Matrix.{Matrix, IsMatrix, IsVector, IsCombination, row}
 use Rattle.residue_words.proofs.Vectors.{combination_through}
-use Rattle.row_space.specs.Echelon.{HasLeads, HasPlaces, SameSpan}
+use Rattle.row_space.specs.Echelon.{HasLeads, SameSpan}
 use Rattle.row_space.proofs.Counting.{spanned_back}
 use Rattle.row_space.proofs.Spans.{places_independent, same_span_chained}
 use Rattle.sparse_rows.specs.Rows.{ResidueRow}

@@ -1,5 +1,5 @@
 -- What callers see of an echelon form.
-use Rattle.std.specs.Prelude.{◌≡◌, ◌<◌, ◌≤◌, ℕ, List, length}
+use Rattle.std.specs.Prelude.{◌≡◌, ℕ, List, length}
 use Rattle.residue_words.specs.Residues.{IsPrime}
 use Rattle.residue_words.specs.Matrix.{Matrix, IsMatrix}
 use Rattle.row_space.specs.Echelon.{HasLeads, IsRref}

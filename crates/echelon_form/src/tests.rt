@@ -6,69 +6,22 @@ use residue_words::Modulus;
 use sparse_rows::{Rows, RowsBuilder};
 use std::alloc::{AllocError, Global};
 use std::test::Fail;
+use std::thread::Threads;
 
-// A matrix by its sizes, modulus and entries, and its form.
-struct Known<'a> {
-    sizes: (u32, u32),
-    modulus: u64,
-    entries: &'a [(u32, u32, u64)],
-    leads: &'a [u32],
-    form: &'a [(u32, u32, u64)],
-}
-
-const KNOWN: [Known<'static>; 4] = [
-    Known {
-        sizes: (3, 3),
-        modulus: 7,
-        entries: &[
-            (0, 0, 2),
-            (0, 1, 4),
-            (0, 2, 1),
-            (1, 0, 1),
-            (1, 1, 2),
-            (2, 0, 3),
-            (2, 1, 6),
-            (2, 2, 1),
-        ],
-        leads: &[0, 2],
-        form: &[(0, 0, 1), (0, 1, 2), (1, 2, 1)],
-    },
-    Known {
-        sizes: (0, 5),
-        modulus: 7,
-        entries: &[],
-        leads: &[],
-        form: &[],
-    },
-    Known {
-        sizes: (2, 2),
-        modulus: 2,
-        entries: &[(0, 0, 1), (0, 1, 1), (1, 0, 1), (1, 1, 1)],
-        leads: &[0],
-        form: &[(0, 0, 1), (0, 1, 1)],
-    },
-    Known {
-        sizes: (1000000, 1000000),
-        modulus: 7,
-        entries: &[(0, 999999, 3), (999999, 0, 2)],
-        leads: &[0, 999999],
-        form: &[(0, 0, 1), (1, 999999, 1)],
-    },
-];
-
-// The matrix of these sizes and entries.
+// The matrix with these rows, columns and values.
 fn built(
     alloc: Global,
-    sizes: (u32, u32),
-    modulus: Modulus,
-    entries: &[(u32, u32, u64)],
+    m: u32,
+    n: u32,
+    p: Modulus,
+    triples: &[(u32, u32, u64)],
 ) -> Result<Rows, AllocError>
-    requires height { sizes.0 ≤ 2147483648 }
-    requires width { sizes.1 ≤ 2147483648 }
+    requires height { m ≤ 2147483648 }
+    requires width { n ≤ 2147483648 }
 {
-    let mut builder = RowsBuilder::new(alloc, sizes.0, sizes.1, modulus)?;
-    for (i, j, v) in entries {
-        if *i < sizes.0 && *j < sizes.1 && *v < modulus.p() {
+    let mut builder = RowsBuilder::new(alloc, m, n, p)?;
+    for (i, j, v) in triples {
+        if *i < m && *j < n && *v < p.p() {
             builder.push(*i, *j, *v)?;
         }
     }
@@ -86,22 +39,82 @@ fn listed(alloc: Global, rows: &Rows) -> Result<Vec<(u32, u32, u64)>, AllocError
     Ok(list)
 }
 
+// Whether each number of workers up to `most` finds these leads and this form.
+fn has_form<R: Threads + Sync>(
+    rt: &R,
+    alloc: Global,
+    rows: &Rows,
+    most: u32,
+    leads: &[u32],
+    form: &[(u32, u32, u64)],
+) -> Result<bool, AllocError>
+    requires { most ≤ 64 }
+{
+    let mut same = true;
+    for workers in 1..=most {
+        let found = Echelon::of(rt, alloc, rows, workers)?;
+        same &= found.leads() == leads && found.rank() as usize == leads.len();
+        same &= listed(alloc, found.rows())?.as_slice() == form;
+    }
+    Ok(same)
+}
+
 #[test]
 fn known_forms(rt: HostRuntime) -> Result<(), Fail> {
     let alloc = rt.alloc();
-    for known in &KNOWN {
-        let rows = built(
+    let seven = Modulus::new(7);
+    let x = built(
+        alloc,
+        3,
+        3,
+        seven,
+        &[
+            (0, 0, 2),
+            (0, 1, 4),
+            (0, 2, 1),
+            (1, 0, 1),
+            (1, 1, 2),
+            (2, 0, 3),
+            (2, 1, 6),
+            (2, 2, 1),
+        ],
+    )?;
+    assert!(rt;
+        has_form(
+            &rt,
             alloc,
-            known.sizes,
-            Modulus::new(known.modulus),
-            known.entries,
-        )?;
-        for workers in [1, 2, 8] {
-            let form = Echelon::of(&rt, alloc, &rows, workers)?;
-            assert_eq!(rt; form.leads(), known.leads);
-            assert_eq!(rt; form.rank() as usize, known.leads.len());
-            assert_eq!(rt; listed(alloc, form.rows())?.as_slice(), known.form);
-        }
-    }
+            &x,
+            8,
+            &[0, 2],
+            &[(0, 0, 1), (0, 1, 2), (1, 2, 1)]
+        )?
+    );
+    let none = built(alloc, 0, 5, seven, &[])?;
+    assert!(rt; has_form(&rt, alloc, &none, 8, &[], &[])?);
+    let twice = built(
+        alloc,
+        2,
+        2,
+        Modulus::new(2),
+        &[(0, 0, 1), (0, 1, 1), (1, 0, 1), (1, 1, 1)],
+    )?;
+    assert!(rt; has_form(&rt, alloc, &twice, 8, &[0], &[(0, 0, 1), (0, 1, 1)])?);
+    let wide = built(
+        alloc,
+        1000000,
+        1000000,
+        seven,
+        &[(0, 999999, 3), (999999, 0, 2)],
+    )?;
+    assert!(rt;
+        has_form(
+            &rt,
+            alloc,
+            &wide,
+            2,
+            &[0, 999999],
+            &[(0, 0, 1), (1, 999999, 1)]
+        )?
+    );
     Ok(())
 }

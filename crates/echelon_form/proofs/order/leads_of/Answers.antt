@@ -1,4 +1,4 @@
-use Rattle.std.proofs.Common.{ℕ, ◌≡◌, ◌∙◌, [], ◌∷◌, ◌++◌, ap, map, slice_index_or, sym, take}
+use Rattle.std.proofs.Common.{ℕ, ◌∙◌, [], ◌∷◌, ◌++◌, ap, map, slice_index_or, sym, take}
 use Rattle.std.proofs.lemmas.List.{map_push, take_more}
 use Rattle.echelon_form.proofs.order.leads_of.Goals as goal
 

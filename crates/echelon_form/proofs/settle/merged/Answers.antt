@@ -1,4 +1,4 @@
-use Rattle.std.proofs.Common.{ℕ, ◌≡◌, ◌+◌, ◌∙◌, [], ap, arith, subst, sym}
+use Rattle.std.proofs.Common.{ℕ, ◌+◌, ◌∙◌, [], ap, arith, subst, sym}
 use Rattle.residue_words.specs.Matrix.{Matrix}
 use Rattle.echelon_form.specs.Settling.{AreSettled}
 use Rattle.echelon_form.proofs.Gathering.{shared_row}

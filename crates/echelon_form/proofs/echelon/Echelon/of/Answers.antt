@@ -1,7 +1,5 @@
-use Rattle.std.proofs.Common.{ℕ, ◌≡◌, ◌∙◌, List, ap, length, map, subst}
-use Rattle.residue_words.specs.Matrix.{Matrix}
+use Rattle.std.proofs.Common.{ℕ, ◌∙◌, List, ap, length, map, subst}
 use Rattle.echelon_form.specs.Settling.{AreSettled}
-use Rattle.echelon_form.specs.Form.{IsFormOf}
 use Rattle.echelon_form.proofs.Settled.{echelon_of_form, form_of_settled}
 use Rattle.echelon_form.proofs.echelon.Echelon.of.Goals as goal
 
