@@ -1,2 +1,16 @@
-//! Sparse matrices as compressed rows.
+//! Sparse matrices of residues as compressed rows: what builds them, what is made of them, and single rows.
+//!
+//! Rows and columns count from 0, at most 2,147,483,648 of each. A matrix takes 12 bytes an entry and 8 a row.
 #![tactic(auto)]
+
+mod builder;
+mod group;
+mod list;
+mod parts;
+mod rows;
+mod sparse;
+
+pub use builder::RowsBuilder;
+pub use list::List;
+pub use rows::Rows;
+pub use sparse::Sparse;

@@ -1,0 +1,31 @@
+// Parts of a list, one after another.
+ghost use Rattle.std.specs.Prelude.{◌≡◌, ◌<◌, ◌≤◌, ◌+◌, ◌-◌, length, slice_index, slice_range, IfOk};
+ghost use Rattle.sparse_rows.specs.Stored.{AreStarts, part_numbers};
+
+use std::alloc::{AllocError, Global};
+
+// The part at i of the items, where the parts begin at `starts`.
+pub(crate) fn part<'a, T>(items: &'a [T], starts: &[usize], i: usize) -> &'a [T]
+    requires inside { i + 1 < length starts.now }
+    requires rising { slice_index starts.now i ≤ slice_index starts.now (i + 1) }
+    requires within { slice_index starts.now (i + 1) ≤ length items.now }
+    ensures { result.now ≡ slice_range items.now (slice_index starts.now i) (slice_index starts.now (i + 1)) }
+{
+    let from = starts[i];
+    let to = starts[i + 1];
+    &items[from..to]
+}
+
+// Of each item the number of its part.
+pub(crate) fn part_numbers(alloc: Global, starts: &[usize]) -> Result<Vec<u32>, AllocError>
+    requires few { length starts.now ≤ 2147483649 }
+    requires parts { AreStarts (length starts.now - 1) (slice_index starts.now (length starts.now - 1)) starts.now }
+    ensures { IfOk result (λ numbers. numbers.items ≡ part_numbers (length starts.now - 1) starts.now) }
+{
+    let last = starts.len() - 1;
+    let mut numbers = Vec::with_capacity(alloc, starts[last])?;
+    for i in 0..last {
+        numbers.resize(starts[i + 1], i as u32)?;
+    }
+    Ok(numbers)
+}

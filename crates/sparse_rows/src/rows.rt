@@ -1,0 +1,286 @@
+// A matrix as compressed rows.
+ghost use Rattle.std.specs.Prelude.{◌≡◌, ◌<◌, ◌≤◌, ◌+◌, ◌*◌, ◌%◌, ◌^◌, ℕ, [], ◌∷◌, ◌++◌, length, slice_index, All, IfOk, OnOk};
+ghost use Rattle.residue_words.specs.Matrix.{IsMatrix, IsVector, apply, entry, row};
+ghost use Rattle.residue_words.specs.Residues.{sum_below};
+ghost use Rattle.sparse_rows.specs.Rows.{beside, entry_count, identity, nonzeros, selected, support, transposed};
+ghost use Rattle.sparse_rows.specs.Stored.{IsSparse, spread, with_row};
+
+use crate::group::group;
+use crate::parts::{part, part_numbers};
+use crate::sparse::Sparse;
+use residue_words::Modulus;
+use std::alloc::{AllocError, Global};
+use std::marker::Model;
+
+/// A matrix of residues as compressed rows: of each row the columns with a nonzero entry, ascending, and the entries there.
+/// Contracts see the plain matrix with its modulus. It takes 12 bytes an entry and 8 bytes a row.
+#[derive(Drop)]
+pub struct Rows {
+    modulus: Modulus,
+    width: u32,
+    starts: Vec<usize>,
+    cols: Vec<u32>,
+    vals: Vec<u64>,
+}
+
+impl Model for Rows {
+    ghost use Rattle.sparse_rows.specs.Rows.{ResidueMatrix};
+    ghost use Rattle.sparse_rows.specs.Stored.{IsStored, stored_matrix};
+
+    ghost Value = { ResidueMatrix };
+
+    ghost view = { λ r. record { modulus = r.modulus; matrix = stored_matrix r.width r.starts.items r.cols.items r.vals.items } };
+
+    ghost invariant = { λ r. IsStored r.modulus r.width r.starts.items r.cols.items r.vals.items };
+}
+
+impl Rows {
+    // The matrix with no row, and room for these rows and entries.
+    pub(crate) fn with_room(
+        alloc: Global,
+        modulus: Modulus,
+        width: u32,
+        height: u32,
+        entries: usize,
+    ) -> Result<Rows, AllocError>
+        requires width_small { width ≤ 2147483648 }
+        requires height_small { height ≤ 2147483648 }
+        ensures modulus { IfOk result (λ rows. rows.modulus ≡ modulus) }
+        ensures matrix { IfOk result (λ rows. rows.matrix ≡ record { height = 0; width = width; rows = [] }) }
+    {
+        let _ = modulus.p();
+        let mut starts = Vec::with_capacity(alloc, height as usize + 1)?;
+        starts.push(0)?;
+        Ok(Rows {
+            modulus,
+            width,
+            starts,
+            cols: Vec::with_capacity(alloc, entries)?,
+            vals: Vec::with_capacity(alloc, entries)?,
+        })
+    }
+
+    // Appends the row that these columns and values stand for. After an `Err` the matrix is as before.
+    fn append_slices(&mut self, cols: &[u32], vals: &[u64]) -> Result<(), AllocError>
+        requires height_small { self.old.matrix.height < 2147483648 }
+        requires sparse { IsSparse self.old.modulus self.old.matrix.width cols.now vals.now }
+        ensures modulus { self.new.modulus ≡ self.old.modulus }
+        ensures matrix { OnOk result (self.new.matrix ≡ with_row self.old.matrix (spread self.old.matrix.width cols.now vals.now)) }
+    {
+        self.starts.reserve(1)?;
+        self.vals.reserve(vals.len())?;
+        self.cols.extend_from_slice(cols)?;
+        self.vals.extend_from_slice(vals)?;
+        self.starts.push(self.cols.len())?;
+        Ok(())
+    }
+
+    // Appends a row.
+    pub(crate) fn append(&mut self, row: &Sparse) -> Result<(), AllocError>
+        requires height_small { self.old.matrix.height < 2147483648 }
+        requires modulus { row.now.modulus ≡ self.old.modulus }
+        requires width { length row.now.row ≡ self.old.matrix.width }
+        ensures modulus { self.new.modulus ≡ self.old.modulus }
+        ensures matrix { OnOk result (self.new.matrix ≡ with_row self.old.matrix row.now.row) }
+    {
+        self.append_slices(row.cols(), row.vals())
+    }
+
+    /// The identity matrix of n rows.
+    pub fn identity(alloc: Global, n: u32, p: &Modulus) -> Result<Rows, AllocError>
+        requires { n ≤ 2147483648 }
+        ensures modulus { IfOk result (λ rows. rows.modulus ≡ p.now) }
+        ensures matrix { IfOk result (λ rows. rows.matrix ≡ identity n) }
+    {
+        let mut rows = Rows::with_room(alloc, *p, n, n, n as usize)?;
+        let mut row = Sparse::new(alloc, n, *p);
+        for i in 0..n {
+            row.clear();
+            row.push(i, 1)?;
+            rows.append(&row)?;
+        }
+        Ok(rows)
+    }
+
+    /// How many rows the matrix has.
+    pub fn height(&self) -> u32
+        ensures value { result ≡ self.now.matrix.height }
+        ensures bound { result ≤ 2147483648 }
+        ensures sound { IsMatrix self.now.modulus self.now.matrix }
+    {
+        (self.starts.len() - 1) as u32
+    }
+
+    /// How many columns the matrix has.
+    pub fn width(&self) -> u32
+        ensures value { result ≡ self.now.matrix.width }
+        ensures bound { result ≤ 2147483648 }
+    {
+        self.width
+    }
+
+    /// The modulus of the residues.
+    pub fn modulus(&self) -> Modulus
+        ensures value { result ≡ self.now.modulus }
+        ensures two_or_more { 2 ≤ result }
+        ensures in_range { result < 2 ^ 48 }
+        ensures sound { IsMatrix self.now.modulus self.now.matrix }
+    {
+        self.modulus
+    }
+
+    /// How many entries are not 0.
+    pub fn entries(&self) -> u64
+        ensures { result ≡ entry_count self.now.matrix }
+    {
+        self.cols.len() as u64
+    }
+
+    /// The columns of the nonzero entries of row i, ascending.
+    pub fn cols(&self, i: u32) -> &[u32]
+        requires { i < self.now.matrix.height }
+        ensures support { result.now ≡ support (row self.now.matrix i) }
+        ensures same_length { length result.now ≡ length (nonzeros (row self.now.matrix i)) }
+        ensures below_width { (k : ℕ) → k < length result.now → slice_index result.now k < self.now.matrix.width }
+        ensures ascending { (k t : ℕ) → k < t → t < length result.now → slice_index result.now k < slice_index result.now t }
+    {
+        part(&self.cols, &self.starts, i as usize)
+    }
+
+    /// The nonzero entries of row i, by ascending columns.
+    pub fn vals(&self, i: u32) -> &[u64]
+        requires { i < self.now.matrix.height }
+        ensures values { result.now ≡ nonzeros (row self.now.matrix i) }
+        ensures same_length { length result.now ≡ length (support (row self.now.matrix i)) }
+        ensures positive { (k : ℕ) → k < length result.now → 0 < slice_index result.now k }
+        ensures residues { (k : ℕ) → k < length result.now → slice_index result.now k < self.now.modulus }
+    {
+        part(&self.vals, &self.starts, i as usize)
+    }
+
+    /// The transposed matrix, in time proportional to the entries, the width and the height.
+    pub fn transpose(&self, alloc: Global) -> Result<Rows, AllocError>
+        ensures modulus { IfOk result (λ rows. rows.modulus ≡ self.now.modulus) }
+        ensures matrix { IfOk result (λ rows. rows.matrix ≡ transposed self.now.matrix) }
+    {
+        let rows = part_numbers(alloc, &self.starts)?;
+        let grouped = group(alloc, self.width, &self.cols, &rows, &self.vals)?;
+        Ok(Rows {
+            modulus: self.modulus,
+            width: self.height(),
+            starts: grouped.starts,
+            cols: grouped.others,
+            vals: grouped.vals,
+        })
+    }
+
+    /// The rows of this matrix, each continued by the row of `right`.
+    pub fn beside(&self, alloc: Global, right: &Rows) -> Result<Rows, AllocError>
+        requires heights { self.now.matrix.height ≡ right.now.matrix.height }
+        requires moduli { self.now.modulus ≡ right.now.modulus }
+        requires widths { self.now.matrix.width + right.now.matrix.width ≤ 2147483648 }
+        ensures modulus { IfOk result (λ rows. rows.modulus ≡ self.now.modulus) }
+        ensures matrix { IfOk result (λ rows. rows.matrix ≡ beside self.now.matrix right.now.matrix) }
+    {
+        let width = self.width + right.width;
+        let entries = self.cols.len().saturating_add(right.cols.len());
+        let mut rows = Rows::with_room(alloc, self.modulus, width, self.height(), entries)?;
+        let mut row = Sparse::new(alloc, width, self.modulus);
+        for i in 0..self.height() {
+            row.clear();
+            self.copy_shifted(i, 0, &mut row)?;
+            right.copy_shifted(i, self.width, &mut row)?;
+            rows.append(&row)?;
+        }
+        Ok(rows)
+    }
+
+    /// The rows that are named, in that order.
+    pub fn select(&self, alloc: Global, rows: &[u32]) -> Result<Rows, AllocError>
+        requires many { length rows.now ≤ 2147483648 }
+        requires inside { All (λ i. i < self.now.matrix.height) rows.now }
+        ensures modulus { IfOk result (λ made. made.modulus ≡ self.now.modulus) }
+        ensures matrix { IfOk result (λ made. made.matrix ≡ selected self.now.matrix rows.now) }
+    {
+        let room = self.entries_of(rows);
+        let mut made = Rows::with_room(alloc, self.modulus, self.width, rows.len() as u32, room)?;
+        for i in rows {
+            made.append_slices(self.cols(*i), self.vals(*i))?;
+        }
+        Ok(made)
+    }
+
+    /// The product with a column x.
+    pub fn times(&self, alloc: Global, x: &[u64]) -> Result<Vec<u64>, AllocError>
+        requires { IsVector self.now.modulus self.now.matrix.width x.now }
+        ensures { IfOk result (λ y. y.items ≡ apply self.now.modulus self.now.matrix x.now) }
+    {
+        let mut y = Vec::with_capacity(alloc, self.height() as usize)?;
+        for i in 0..self.height() {
+            y.push(self.row_times(i, x))?;
+        }
+        Ok(y)
+    }
+
+    /// An equal matrix.
+    pub fn copy(&self, alloc: Global) -> Result<Rows, AllocError>
+        ensures { IfOk result (λ rows. rows ≡ self.now) }
+    {
+        Ok(Rows {
+            modulus: self.modulus,
+            width: self.width,
+            starts: Vec::from_slice(alloc, &self.starts)?,
+            cols: Vec::from_slice(alloc, &self.cols)?,
+            vals: Vec::from_slice(alloc, &self.vals)?,
+        })
+    }
+
+    // How many entries these rows have together.
+    fn entries_of(&self, rows: &[u32]) -> usize
+        requires { All (λ i. i < self.now.matrix.height) rows.now }
+    {
+        let mut sum: usize = 0;
+        for i in rows {
+            sum = sum.saturating_add(self.cols(*i).len());
+        }
+        sum
+    }
+
+    // Sets the entries of `to` from `by` on to those of row i: `to` is 0 there and behind.
+    fn copy_shifted(&self, i: u32, by: u32, to: &mut Sparse) -> Result<(), AllocError>
+        requires row { i < self.now.matrix.height }
+        requires modulus { to.old.modulus ≡ self.now.modulus }
+        requires width { by + self.now.matrix.width ≤ length to.old.row }
+        requires narrow { by + self.now.matrix.width ≤ 2147483648 }
+        requires sound { IsMatrix self.now.modulus self.now.matrix }
+        requires behind { (j : ℕ) → by ≤ j → j < length to.old.row → slice_index to.old.row j ≡ 0 }
+        ensures modulus { to.new.modulus ≡ to.old.modulus }
+        ensures length { length to.new.row ≡ length to.old.row }
+        ensures before { OnOk result ((j : ℕ) → j < by → slice_index to.new.row j ≡ slice_index to.old.row j) }
+        ensures inside { OnOk result ((j : ℕ) → j < self.now.matrix.width → slice_index to.new.row (by + j) ≡ entry self.now.matrix i j) }
+        ensures after { OnOk result ((j : ℕ) → by + self.now.matrix.width ≤ j → j < length to.old.row → slice_index to.new.row j ≡ 0) }
+    {
+        let cols = self.cols(i);
+        let vals = self.vals(i);
+        for k in 0..cols.len() {
+            to.push(by + cols[k], vals[k])?;
+        }
+        Ok(())
+    }
+
+    // The product of row i with a column x.
+    fn row_times(&self, i: u32, x: &[u64]) -> u64
+        requires row { i < self.now.matrix.height }
+        requires column { IsVector self.now.modulus self.now.matrix.width x.now }
+        ensures { result ≡ sum_below self.now.matrix.width (λ j. entry self.now.matrix i j * slice_index x.now j) % self.now.modulus }
+    {
+        let cols = self.cols(i);
+        let vals = self.vals(i);
+        let mut sum = 0;
+        for k in 0..cols.len() {
+            let product = self.modulus.mul(vals[k], x[cols[k] as usize]);
+            sum = self.modulus.add(sum, product);
+        }
+        sum
+    }
+}
