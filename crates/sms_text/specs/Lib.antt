@@ -1,6 +1,12 @@
+pub mod Buffered
+pub mod Feeding
+pub mod Laws
 pub mod Lines
+pub mod Memory
 pub mod Numbers
 pub mod Outside
 pub mod Reading
+pub mod Spelling
 pub mod Text
+pub mod Writing
 pub mod Written

@@ -1,5 +1,5 @@
 -- Texts: which lines are due, what a line says, and which line of an input is the first with a fault (this project's profile of the SMS format).
-use Rattle.std.specs.Prelude.{◌≡◌, ◌≢◌, ◌<◌, ◌+◌, ◌-◌, ◌%◌, ◌==◌, ◌||◌, ◌&&◌, nat_lt, Bool, true, false, not, if◌then◌else◌, ℕ, List, [], ◌∷◌, ◌++◌, Option, None, Some, Result, Ok, Err, map}
+use Rattle.std.specs.Prelude.{◌≡◌, ◌+◌, ◌-◌, ◌%◌, ◌==◌, ◌||◌, ◌&&◌, nat_lt, Bool, false, not, if◌then◌else◌, ℕ, List, [], ◌∷◌, ◌++◌, Result, Ok, Err, map}
 use Rattle.std.specs.List.{range_with_len}
 use Rattle.residue_words.specs.Matrix.{Matrix, list_of}
 use Rattle.sms_text.specs.declared.kind.Kind.{Kind}

@@ -1,8 +1,24 @@
 //! Matrices as texts in the SMS format: sources and sinks of bytes, a reader that names the first faulty line, and writers.
 #![tactic(auto)]
 
+mod blocks;
+mod buffer;
+mod gathered;
 mod kind;
+mod laws;
+mod memory;
+mod numbers;
 mod outside;
+mod reader;
+mod write;
+#[cfg(test)]
+mod write_tests;
 
+pub use blocks::Blocks;
 pub use kind::{Kind, TextError};
+pub use laws::written_text_reads_back;
+pub use memory::{MemorySink, MemorySource, SteadySink, SteadySource};
 pub use outside::{Pulled, Put, Sink, Source};
+pub use reader::line::Line;
+pub use reader::{Entry, Head, Reader};
+pub use write::{WriteFault, write_end, write_entry, write_head, write_number, write_text};

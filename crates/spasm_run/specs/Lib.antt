@@ -1,4 +1,8 @@
 pub mod Answers
+pub mod Faults
+pub mod Options
+pub mod Placed
 pub mod Plain
-pub mod Words
 pub mod Ran
+pub mod Texts
+pub mod Words

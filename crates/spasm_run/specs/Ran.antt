@@ -1,13 +1,12 @@
 -- What a run did: each status with its cause.
-use Rattle.std.specs.Prelude.{◌≡◌, ◌≢◌, ◌<◌, ◌≤◌, ◌+◌, ◌⊎◌, Bool, true, false, ℕ, List, [], ◌∷◌, ◌++◌, Option, None, Some, codes}
+use Rattle.std.specs.Prelude.{◌≡◌, ◌⊎◌, Bool, true, ℕ, List, [], ◌∷◌, ◌++◌, Option, Some, codes}
 use Rattle.std.specs.Fmt.{decimal}
 use Rattle.residue_words.specs.Residues.{IsPrime}
-use Rattle.residue_words.specs.Matrix.{Matrix}
 use Rattle.sms_text.specs.declared.kind.Kind.{Kind}
 use Rattle.sms_text.specs.declared.kind.Kind.TheVariants as kind
 use Rattle.sms_text.specs.Lines.{Line, lines}
 use Rattle.sms_text.specs.Outside.{before, behind, IsSpent, Rose}
-use Rattle.sms_text.specs.Text.{Item, matrices, read, Got, Fault, Short, Reads, FirstFault}
+use Rattle.sms_text.specs.Text.{Item, matrices, read, Short, Reads, FirstFault}
 use Rattle.spasm_run.specs.declared.status.Status.{Status}
 use Rattle.spasm_run.specs.declared.status.Status.TheVariants as status
 use Rattle.spasm_run.specs.declared.words.Command.{Command}

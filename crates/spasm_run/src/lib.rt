@@ -1,10 +1,19 @@
 //! The top call of the program: from words and bytes to an answer.
 #![tactic(auto)]
 
+mod gate;
+mod place;
 mod rank;
+mod read;
 mod status;
+mod tell;
+#[cfg(test)]
+mod tests;
+mod top;
 mod words;
 
+pub use gate::{Gate, Open, Point};
 pub use rank::rank_of;
 pub use status::Status;
-pub use words::{Command, Task};
+pub use top::{run, run_within};
+pub use words::{Command, Task, at_most_one_command, read_words};

@@ -1,4 +1,7 @@
 // How a run ends.
+ghost use Rattle.std.specs.Prelude.{◌≡◌};
+ghost use Rattle.spasm_run.specs.Ran.{code_of, kind_number};
+
 use sms_text::Kind;
 
 /// How a run ended. Each has a code, which is the program's exit status.
@@ -37,4 +40,43 @@ pub enum Status {
         /// Its width.
         width: u32,
     },
+}
+
+impl Status {
+    /// The program's exit status.
+    pub fn code(&self) -> u8
+        ensures { result ≡ code_of self.now }
+    {
+        match self {
+            Status::Done => 0,
+            Status::No => 1,
+            Status::Usage => 2,
+            Status::BadText { .. } => 3,
+            Status::Shape { .. } => 4,
+            Status::ReadFault => 6,
+            Status::WriteFault => 7,
+            Status::Memory => 8,
+            Status::Wide { .. } => 9,
+        }
+    }
+}
+
+// The number by which the fault line tells a kind.
+pub fn kind_number(kind: Kind) -> u64
+    ensures { result ≡ kind_number kind }
+{
+    match kind {
+        Kind::Words => 1,
+        Kind::Number => 2,
+        Kind::Size => 3,
+        Kind::Row => 4,
+        Kind::Column => 5,
+        Kind::NoHeader => 6,
+        Kind::NoEnd => 7,
+        Kind::Long => 8,
+        Kind::Certificate => 9,
+        Kind::Divisor => 10,
+        Kind::Trace => 11,
+        Kind::Script => 12,
+    }
 }

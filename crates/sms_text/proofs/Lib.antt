@@ -1,0 +1,15 @@
+pub mod Digits
+pub mod Feeding
+pub mod Filling
+pub mod Following
+pub mod Lining
+pub mod Moving
+pub mod Pulls
+pub mod Puts
+pub mod RoundTrip
+pub mod Runs
+pub mod Values
+pub mod Words
+pub mod WrittenLines
+pub mod WrittenNumbers
+pub mod WrittenValues

@@ -1,0 +1,153 @@
+-- From what the parts of a run do to what it did.
+use Rattle.std.proofs.Common.{ℕ, Bool, true, false, ◌≡◌, List, [], ◌∷◌, ◌++◌, map, Option, None, Some, Result, Ok, Err, refl, sym, ap, ◌∙◌, subst, inl, inr}
+use Rattle.residue_words.specs.Matrix.{Matrix}
+use Rattle.residue_words.specs.Residues.{IsPrime}
+use Rattle.row_space.specs.Echelon.{HasRank}
+use Rattle.sms_text.specs.declared.kind.TextError.{TextError}
+use Rattle.sms_text.specs.declared.kind.TextError.TheVariants as error
+use Rattle.sms_text.specs.declared.reader.Entry.{Entry}
+use Rattle.sms_text.specs.declared.write.WriteFault.{WriteFault}
+use Rattle.sms_text.specs.Lines.{lines}
+use Rattle.sms_text.specs.Outside.{before, behind, IsSpent}
+use Rattle.sms_text.specs.Reading.{FromStart}
+use Rattle.sms_text.specs.Text.{Header, Item, Closing, Got, Fault, matrices, matrix_of, read}
+use Rattle.sms_text.specs.Writing.{Writes}
+use Rattle.spasm_run.specs.declared.read.Text.{Text}
+use Rattle.spasm_run.specs.declared.status.Status.{Status}
+use Rattle.spasm_run.specs.declared.status.Status.TheVariants as status
+use Rattle.spasm_run.specs.declared.words.Command.{Command}
+use Rattle.spasm_run.specs.declared.words.Task.TheVariants.{Rank}
+use Rattle.spasm_run.specs.Answers.{rank_text, wanted}
+use Rattle.spasm_run.specs.Faults.{status_of}
+use Rattle.spasm_run.specs.Ran.{Ran, HasCause, HasAnswer, Completes}
+use Rattle.spasm_run.specs.Texts.{Finds, RankRead, text_items, value_item}
+use Rattle.spasm_run.specs.Words.{Accepted}
+use Rattle.spasm_run.proofs.Options.{one_command}
+use Rattle.spasm_run.proofs.Stays.{fault_of_all}
+
+-- one text is one matrix
+no_matrices : (p : ℕ) (es : List Entry) → matrices p (map value_item es ++ Closing ∷ []) ≡ []
+no_matrices p [] = refl
+no_matrices p (e ∷ es) = no_matrices p es
+
+one_matrix : (p : ℕ) (t : Text) → matrices p (text_items t) ≡ matrix_of p t.head.m t.head.n (text_items t) ∷ []
+one_matrix p t = ap (λ (l : List Matrix). matrix_of p t.head.m t.head.n (text_items t) ∷ l) (no_matrices p t.entries.items)
+
+-- the rank of the text's matrix is that of the input
+pub rank_found : (p limit : ℕ) (t : Text) (r : ℕ) (told told' : Option (List ℕ)) (f g : ℕ) → FromStart p limit (Header ∷ []) (Ok (text_items t)) told told' f g →
+    (IsPrime p → HasRank p (matrix_of p t.head.m t.head.n (text_items t)) r) → RankRead p limit told told' f g (Ok r)
+rank_found p limit t r told told' f g (bytes, (ended, taken, spent, (rest, reads))) ranks = record {
+  bytes = bytes;
+  ended = ended;
+  taken = taken;
+  spent = spent;
+  finds = (text_items t, rest, reads, λ prime. (matrix_of p t.head.m t.head.n (text_items t), one_matrix p t, ranks prime));
+}
+
+pub rank_failed : (p limit : ℕ) (e : TextError) (told told' : Option (List ℕ)) (f g : ℕ) → FromStart p limit (Header ∷ []) (Err e) told told' f g →
+    RankRead p limit told told' f g (Err e)
+rank_failed p limit e told told' f g (bytes, (ended, taken, spent, says)) = record { bytes = bytes; ended = ended; taken = taken; spent = spent; finds = says }
+
+pub rank_wanted : (p limit : ℕ) (result : Result (List Item) TextError) (told told' : Option (List ℕ)) (f g : ℕ) → FromStart p limit (Header ∷ []) result told told' f g →
+    RankRead p limit told told' f g (Err error.Memory)
+rank_wanted p limit result told told' f g (bytes, (ended, taken, spent, says)) = record { bytes = bytes; ended = ended; taken = taken; spent = spent; finds = tt }
+
+abbrev rank_command : ℕ → Command
+rank_command p = record { task = Rank; modulus = p }
+
+answer_found : (ws : List (List ℕ)) (p limit r : ℕ) (told told' : Option (List ℕ)) (f f' : ℕ) (found : RankRead p limit told told' f f' (Ok r)) →
+    HasAnswer (rank_command p) found.bytes found.ended limit (rank_text r)
+answer_found ws p limit r told told' f f' found = record {
+  items = found.finds.0;
+  rest = found.finds.1;
+  reads = found.finds.2;
+  answers = λ prime. let x = found.finds.3 prime in (x.0, r, x.1, x.2, refl);
+}
+
+before_nothing : (told : Option (List ℕ)) → told ≡ before [] told
+before_nothing None = refl
+before_nothing (Some bytes) = refl
+
+-- the rank was found and written, or not written; or no rank was found
+pub ran_done : (ws : List (List ℕ)) (q p limit r : ℕ) (told told' : Option (List ℕ)) (f f' : ℕ) (held held' : Option (List ℕ)) (g g' : ℕ) → q ≡ p → Accepted ws (rank_command p) →
+    RankRead q limit told told' f f' (Ok r) → held' ≡ behind held (rank_text r) → Ran ws limit told told' f f' held held' g g' status.Done
+ran_done ws q p limit r told told' f f' held held' g g' same accepted read_at written =
+    let P : ℕ → Type 0 = λ m. RankRead m limit told told' f f' (Ok r) in
+    let found = subst P same read_at in record {
+      bytes = found.bytes;
+      ended = found.ended;
+      taken = found.taken;
+      spent = found.spent;
+      cause = (rank_command p, rank_text r, accepted, answer_found ws p limit r told told' f f' found, written);
+    }
+
+pub ran_unwritten : (ws : List (List ℕ)) (q p limit r : ℕ) (told told' : Option (List ℕ)) (f f' : ℕ) (held held' : Option (List ℕ)) (g g' : ℕ) (fault : WriteFault) → q ≡ p → Accepted ws (rank_command p) →
+    RankRead q limit told told' f f' (Ok r) → Writes (Err fault) (rank_text r) held held' g g' → Ran ws limit told told' f f' held held' g g' status.WriteFault
+ran_unwritten ws q p limit r told told' f f' held held' g g' fault same accepted read_at (part, rest, cut, put, rose) =
+    let P : ℕ → Type 0 = λ m. RankRead m limit told told' f f' (Ok r) in
+    let found = subst P same read_at in record {
+      bytes = found.bytes;
+      ended = found.ended;
+      taken = found.taken;
+      spent = found.spent;
+      cause = (
+        rank_command p,
+        part,
+        rest,
+        accepted,
+        (let P : List ℕ → Type 0 = λ l. HasAnswer (rank_command p) found.bytes found.ended limit l in subst P cut (answer_found ws p limit r told told' f f' found)),
+        put,
+        rose,
+      );
+    }
+
+failed_cause : (ws : List (List ℕ)) (p limit : ℕ) (bytes : List ℕ) (ended : Bool) (f f' : ℕ) (held : Option (List ℕ)) (g g' : ℕ) (e : TextError) → Accepted ws (rank_command p) →
+    Finds p bytes ended limit f f' (Err e) → HasCause ws limit bytes ended f f' held held g g' (status_of e)
+failed_cause ws p limit bytes ended f f' held g g' (error.Bad line k) accepted finds = (rank_command p, accepted, finds, refl)
+failed_cause ws p limit bytes ended f f' held g g' error.Read accepted finds = (rank_command p, accepted, finds.0, finds.1, refl)
+failed_cause ws p limit bytes ended f f' held g g' error.Memory accepted finds = refl
+
+pub ran_unread : (ws : List (List ℕ)) (q p limit : ℕ) (told told' : Option (List ℕ)) (f f' : ℕ) (held : Option (List ℕ)) (g g' : ℕ) (e : TextError) (s : Status) → q ≡ p → Accepted ws (rank_command p) →
+    RankRead q limit told told' f f' (Err e) → s ≡ status_of e → Ran ws limit told told' f f' held held g g' s
+ran_unread ws q p limit told told' f f' held g g' e s same accepted read_at is =
+    let P : ℕ → Type 0 = λ m. RankRead m limit told told' f f' (Err e) in
+    let found = subst P same read_at in
+    let Q : Status → Type 0 = λ t. HasCause ws limit found.bytes found.ended f f' held held g g' t in record {
+      bytes = found.bytes;
+      ended = found.ended;
+      taken = found.taken;
+      spent = found.spent;
+      cause = subst Q (sym is) (failed_cause ws p limit found.bytes found.ended f f' held g g' e accepted found.finds);
+    }
+
+-- nothing was read where no command is accepted
+pub ran_refused : (ws : List (List ℕ)) (limit : ℕ) (told : Option (List ℕ)) (f : ℕ) (held : Option (List ℕ)) (g : ℕ) → ((c : Command) → ¬ Accepted ws c) →
+    Ran ws limit told told f f held held g g status.Usage
+ran_refused ws limit told f held g refused = record {
+  bytes = [];
+  ended = false;
+  taken = before_nothing told;
+  spent = λ e. cc;
+  cause = (refused, refl);
+}
+
+-- where a whole valid input was told and no count rose, the run was done or wanted memory
+completes_by : (ws : List (List ℕ)) (limit : ℕ) (told told' : Option (List ℕ)) (f f' : ℕ) (held held' : Option (List ℕ)) (g g' : ℕ) (s : Status) (taken : List ℕ) (ended : Bool) →
+    told ≡ before taken told' → (ended ≡ true → IsSpent told') → HasCause ws limit taken ended f f' held held' g g' s → Completes ws limit told f f' g g' s
+completes_by ws limit told told' f f' held held' g g' status.Done taken ended source spent cause = λ c bytes items rest accepted prime left reads nf ng. inl refl
+completes_by ws limit told told' f f' held held' g g' status.No taken ended source spent cause = λ c bytes items rest accepted prime left reads nf ng. absurd cause
+completes_by ws limit told told' f f' held held' g g' status.Usage taken ended source spent cause = λ c bytes items rest accepted prime left reads nf ng. absurd (cause.0 c accepted)
+completes_by ws limit told told' f f' held held' g g' (status.BadText line k) taken ended source spent cause = λ c bytes items rest accepted prime left reads nf ng. absurd (
+    let same : cause.0 ≡ c = one_command ws cause.0 c cause.1 accepted in
+    let P : Command → Type 0 = λ d. read d.modulus ended limit 1 (wanted d.task) (lines taken) ≡ Fault line k in
+    let fault = fault_of_all c.modulus limit 1 (wanted c.task) taken ended bytes told told' line k source spent left (subst P same cause.2) in
+    let both : Got items rest ≡ Fault line k = sym reads ∙ fault in cc)
+completes_by ws limit told told' f f' held held' g g' (status.Shape h w) taken ended source spent cause = λ c bytes items rest accepted prime left reads nf ng. absurd cause
+completes_by ws limit told told' f f' held held' g g' status.ReadFault taken ended source spent cause = λ c bytes items rest accepted prime left reads nf ng. absurd (nf cause.3)
+completes_by ws limit told told' f f' held held' g g' status.WriteFault taken ended source spent cause = λ c bytes items rest accepted prime left reads nf ng. absurd (ng cause.6)
+completes_by ws limit told told' f f' held held' g g' status.Memory taken ended source spent cause = λ c bytes items rest accepted prime left reads nf ng. inr refl
+completes_by ws limit told told' f f' held held' g g' (status.Wide h w) taken ended source spent cause = λ c bytes items rest accepted prime left reads nf ng. absurd cause
+
+pub completes : (ws : List (List ℕ)) (limit : ℕ) (told told' : Option (List ℕ)) (f f' : ℕ) (held held' : Option (List ℕ)) (g g' : ℕ) (s : Status) →
+    Ran ws limit told told' f f' held held' g g' s → Completes ws limit told f f' g g' s
+completes ws limit told told' f f' held held' g g' s ran = completes_by ws limit told told' f f' held held' g g' s ran.bytes ran.ended ran.taken ran.spent ran.cause

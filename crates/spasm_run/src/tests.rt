@@ -1,0 +1,359 @@
+// Runs on inputs whose answers are known from outside.
+ghost use Rattle.std.specs.Prelude.{◌<◌, ◌≤◌};
+
+use crate::gate::Open;
+use crate::status::Status;
+use crate::top::{run, run_within};
+use sms_text::{Kind, MemorySink, MemorySource, SteadySink, SteadySource};
+use std::alloc::{AllocError, Global};
+use std::test::Fail;
+use std::thread::Threads;
+
+// The third row is the sum of the first two.
+const X: &str = "3 3 M\n1 1 2\n1 2 4\n1 3 1\n2 1 1\n2 2 2\n3 1 3\n3 2 6\n3 3 1\n0 0 0\n";
+
+const LIMIT: u64 = 1_099_511_627_776;
+
+// What a run came to.
+#[derive(Drop)]
+struct Outcome {
+    status: Status,
+    out: MemorySink,
+    err: MemorySink,
+}
+
+// How the streams of a run behave: pieces, the pull that fails, and the put to the output that fails.
+#[derive(Drop)]
+struct Streams {
+    piece: usize,
+    pull: u64,
+    put_piece: usize,
+    put: u64,
+}
+
+// Streams that never fail.
+const CALM: Streams = Streams {
+    piece: 64,
+    pull: 0,
+    put_piece: 64,
+    put: 0,
+};
+
+fn list(alloc: Global, fails: u64) -> Result<Vec<u64>, AllocError> {
+    let mut list = Vec::new(alloc);
+    if fails > 0 {
+        list.push(fails)?;
+    }
+    Ok(list)
+}
+
+fn run_on<R: Threads + Sync>(
+    rt: &R,
+    alloc: Global,
+    words: &[&str],
+    text: &[u8],
+    limit: u64,
+    streams: &Streams,
+) -> Result<Outcome, AllocError>
+    requires limit { limit ≤ 1099511627776 }
+    requires piece { 0 < streams.now.piece }
+    requires put_piece { 0 < streams.now.put_piece }
+{
+    let text = Vec::from_slice(alloc, text)?;
+    let mut source = MemorySource::new(text, streams.piece, list(alloc, streams.pull)?);
+    let mut out = MemorySink::new(alloc, 64, streams.put_piece, list(alloc, streams.put)?)?;
+    let mut err = MemorySink::new(alloc, 64, 64, Vec::new(alloc))?;
+    let status = run_within(
+        rt,
+        alloc,
+        words,
+        &mut source,
+        &mut out,
+        &mut err,
+        &Open,
+        limit,
+    );
+    Ok(Outcome { status, out, err })
+}
+
+#[test]
+fn ranks_are_as_known(rt: HostRuntime) -> Result<(), Fail> {
+    let cases: [(&str, &str, &str); 8] = [
+        ("7", X, "rank 2\n"),
+        ("4294967311", X, "rank 2\n"),
+        ("7", "2 2 M\n1 1 14\n0 0 0\n", "rank 0\n"),
+        ("7", "1 1 M\n1 1 3\n1 1 4\n0 0 0\n", "rank 0\n"),
+        (
+            "2",
+            "2 2 M\n1 1 1\n1 2 1\n2 1 1\n2 2 1\n0 0 0\n",
+            "rank 1\n",
+        ),
+        ("7", "1 1 M\n1 1 1\n0 0 0\nanything\n\x00", "rank 1\n"),
+        ("7", "1 1 M\n1 1 0/5\n0 0 0\n", "rank 0\n"),
+        ("7", "1 1 M\n0 0 -00", "rank 0\n"),
+    ];
+    for (p, text, want) in cases {
+        let ran = run_on(
+            &rt,
+            rt.alloc(),
+            &["rank", "--modulus", p],
+            text.as_bytes(),
+            LIMIT,
+            &CALM,
+        )?;
+        assert_eq!(rt; ran.status, Status::Done, "at {text}");
+        assert_eq!(rt; ran.out.content(), want.as_bytes(), "at {text}");
+        assert_eq!(rt; ran.err.content().len(), 0, "at {text}");
+    }
+    Ok(())
+}
+
+#[test]
+fn the_first_fault_is_named(rt: HostRuntime) -> Result<(), Fail> {
+    let cases: [(&str, u64, Kind, &str); 19] = [
+        (
+            "2 2 M\n1 1 1\n1 2 1\n2 2 1\n",
+            5,
+            Kind::NoEnd,
+            "error 3 line 5 kind 7\n",
+        ),
+        (
+            "1 1 M\n0 0 7\n0 0 0\n",
+            2,
+            Kind::Row,
+            "error 3 line 2 kind 4\n",
+        ),
+        ("", 1, Kind::NoHeader, "error 3 line 1 kind 6\n"),
+        ("% only\n", 2, Kind::NoHeader, "error 3 line 2 kind 6\n"),
+        ("1 1\n", 1, Kind::Words, "error 3 line 1 kind 1\n"),
+        ("1 1 MM\n", 1, Kind::Words, "error 3 line 1 kind 1\n"),
+        ("+1 1 M\n", 1, Kind::Number, "error 3 line 1 kind 2\n"),
+        ("2147483648 1 M\n", 1, Kind::Size, "error 3 line 1 kind 3\n"),
+        ("2 2 M\n3 1 1\n", 2, Kind::Row, "error 3 line 2 kind 4\n"),
+        ("2 2 M\n1 3 1\n", 2, Kind::Column, "error 3 line 2 kind 5\n"),
+        (
+            "2 2 M\n99999999999999999999 1 1\n",
+            2,
+            Kind::Row,
+            "error 3 line 2 kind 4\n",
+        ),
+        (
+            "1 1 M\n1 1 3/7\n",
+            2,
+            Kind::Divisor,
+            "error 3 line 2 kind 10\n",
+        ),
+        (
+            "1 1 M\n1 1 0/0\n",
+            2,
+            Kind::Divisor,
+            "error 3 line 2 kind 10\n",
+        ),
+        (
+            "1 1 M\n1 1 1/\n",
+            2,
+            Kind::Number,
+            "error 3 line 2 kind 2\n",
+        ),
+        (
+            "1 1 M\n1 1 /2\n",
+            2,
+            Kind::Number,
+            "error 3 line 2 kind 2\n",
+        ),
+        (
+            "1 1 M\n1 1 1/-2\n",
+            2,
+            Kind::Number,
+            "error 3 line 2 kind 2\n",
+        ),
+        ("1 1 M\n0 0 0/1\n", 2, Kind::Row, "error 3 line 2 kind 4\n"),
+        ("1 1 M\n2 1 1/7\n", 2, Kind::Row, "error 3 line 2 kind 4\n"),
+        (
+            "3 3 M\n1 1 2\n0 0",
+            3,
+            Kind::Words,
+            "error 3 line 3 kind 1\n",
+        ),
+    ];
+    for (text, line, kind, told) in cases {
+        let ran = run_on(
+            &rt,
+            rt.alloc(),
+            &["rank", "--modulus=7"],
+            text.as_bytes(),
+            LIMIT,
+            &CALM,
+        )?;
+        assert_eq!(rt; ran.status, Status::BadText { line, kind }, "at {text}");
+        assert_eq!(rt; ran.err.content(), told.as_bytes(), "at {text}");
+        assert_eq!(rt; ran.out.content().len(), 0, "at {text}");
+    }
+    Ok(())
+}
+
+#[test]
+fn a_text_that_is_cut_or_too_long_is_refused(rt: HostRuntime) -> Result<(), Fail> {
+    let text = b"1 1 M\n1 1 1\n0 0 0\n".as_slice();
+    let cases: [(u64, u64); 6] = [(17, 3), (12, 3), (11, 2), (6, 2), (5, 1), (0, 1)];
+    for (limit, line) in cases {
+        assert!(rt; limit <= LIMIT);
+        let ran = run_on(&rt, rt.alloc(), &["rank"], text, limit, &CALM)?;
+        let want = Status::BadText {
+            line,
+            kind: Kind::Long,
+        };
+        assert_eq!(rt; ran.status, want, "at {limit}");
+    }
+    assert_eq!(rt;
+        run_on(&rt, rt.alloc(), &["rank"], text, 18, &CALM)?.status,
+        Status::Done
+    );
+    let cuts: [(usize, Status); 6] = [
+        (
+            6,
+            Status::BadText {
+                line: 2,
+                kind: Kind::NoEnd,
+            },
+        ),
+        (
+            30,
+            Status::BadText {
+                line: 6,
+                kind: Kind::NoEnd,
+            },
+        ),
+        (
+            54,
+            Status::BadText {
+                line: 10,
+                kind: Kind::NoEnd,
+            },
+        ),
+        (
+            57,
+            Status::BadText {
+                line: 10,
+                kind: Kind::Words,
+            },
+        ),
+        (59, Status::Done),
+        (60, Status::Done),
+    ];
+    for (length, want) in cuts {
+        let (front, _) = X.as_bytes().split_at(length.min(X.len()));
+        let ran = run_on(&rt, rt.alloc(), &["rank"], front, LIMIT, &CALM)?;
+        assert_eq!(rt; ran.status, want, "at {length}");
+    }
+    Ok(())
+}
+
+#[test]
+fn words_that_are_not_accepted_are_refused(rt: HostRuntime) -> Result<(), Fail> {
+    let cases: [&[&str]; 7] = [
+        &["rank", "--workers", "0"],
+        &["rank", "--modulus", "1"],
+        &["rank", "--modulus", "281474976710656"],
+        &["rank", "--modulus", "7", "--modulus=7"],
+        &["rang"],
+        &[],
+        &["--help"],
+    ];
+    for words in cases {
+        let ran = run_on(&rt, rt.alloc(), words, X.as_bytes(), LIMIT, &CALM)?;
+        assert_eq!(rt; ran.status, Status::Usage);
+        assert_eq!(rt; ran.err.content(), b"error 2 usage\n".as_slice());
+    }
+    Ok(())
+}
+
+#[test]
+fn a_source_that_fails_stops_the_run(rt: HostRuntime) -> Result<(), Fail> {
+    let cases: [(&str, usize, u64, Status); 8] = [
+        (X, 6, 1, Status::ReadFault),
+        (X, 6, 10, Status::ReadFault),
+        (X, 6, 11, Status::Done),
+        (
+            "1 1 M\n1 1 x\n0 0 0\n",
+            12,
+            2,
+            Status::BadText {
+                line: 2,
+                kind: Kind::Number,
+            },
+        ),
+        ("1 1 M\n1 1 x\n0 0 0\n", 8, 2, Status::ReadFault),
+        ("1 1 M\n1 1 x\n0 0 0\n", 6, 2, Status::ReadFault),
+        (
+            "1 1 M\n1 1 x\n0 0 0\n",
+            6,
+            3,
+            Status::BadText {
+                line: 2,
+                kind: Kind::Number,
+            },
+        ),
+        (
+            "1 1 M\n0 0 05\n0 0 0\n",
+            11,
+            0,
+            Status::BadText {
+                line: 2,
+                kind: Kind::Row,
+            },
+        ),
+    ];
+    for (text, piece, pull, want) in cases {
+        assert!(rt; 0 < piece);
+        let streams = Streams {
+            piece,
+            pull,
+            put_piece: 64,
+            put: 0,
+        };
+        let ran = run_on(
+            &rt,
+            rt.alloc(),
+            &["rank", "--modulus=7"],
+            text.as_bytes(),
+            LIMIT,
+            &streams,
+        )?;
+        assert_eq!(rt; ran.status, want, "at {text}");
+    }
+    Ok(())
+}
+
+#[test]
+fn an_output_that_fails_holds_what_it_took(rt: HostRuntime) -> Result<(), Fail> {
+    let answer = b"rank 2\n".as_slice();
+    for put in 1..8 {
+        let streams = Streams {
+            piece: 64,
+            pull: 0,
+            put_piece: 1,
+            put,
+        };
+        let ran = run_on(&rt, rt.alloc(), &["rank"], X.as_bytes(), LIMIT, &streams)?;
+        assert_eq!(rt; ran.status, Status::WriteFault, "at {put}");
+        assert_eq!(rt;
+            ran.out.content(),
+            answer.split_at(put as usize - 1).0,
+            "at {put}"
+        );
+    }
+    let alloc = rt.alloc();
+    let text = Vec::from_slice(alloc, X.as_bytes())?;
+    let status = run(
+        &rt,
+        alloc,
+        &["rank"],
+        &mut SteadySource::new(text, 7),
+        &mut SteadySink::new(),
+        &mut SteadySink::new(),
+        &Open,
+    );
+    assert_eq!(rt; status, Status::Done);
+    Ok(())
+}

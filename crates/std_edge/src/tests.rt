@@ -1,0 +1,69 @@
+use crate::{FromRead, ToWrite};
+use sms_text::{Pulled, Put, Sink, Source};
+use std::io;
+use std::io::{ErrorKind, Read, Write};
+use std::test::Fail;
+
+// Reads two bytes, then fails, then reads two more.
+#[derive(Drop)]
+struct Stutter {
+    calls: u32,
+}
+
+impl Read for Stutter {
+    fn read(&mut self, buf: &mut [u8]) -> io::Result<usize> {
+        self.calls = self.calls.saturating_add(1);
+        if self.calls == 2 {
+            return Err(ErrorKind::Interrupted.into());
+        }
+        Ok(buf.len().min(2))
+    }
+}
+
+#[test]
+fn a_reader_gives_what_it_reads_and_fails_where_it_fails(rt: HostRuntime) -> Result<(), Fail> {
+    let mut buffer = [0; 8];
+    let bytes = [3, 1, 4];
+    let mut source = FromRead::new(bytes.as_slice());
+    assert_eq!(rt; source.pull(&mut buffer), Pulled::Got(3));
+    assert_eq!(rt; source.pull(&mut buffer), Pulled::End);
+    let mut source = FromRead::new(Stutter { calls: 0 });
+    assert_eq!(rt; source.pull(&mut buffer), Pulled::Got(2));
+    assert_eq!(rt; source.pull(&mut buffer), Pulled::Failed);
+    assert_eq!(rt; source.pull(&mut buffer), Pulled::Got(2));
+    Ok(())
+}
+
+// Takes two bytes of a piece, and fails in its second flush.
+#[derive(Drop)]
+struct Sticky {
+    flushes: u32,
+}
+
+impl Write for Sticky {
+    fn write(&mut self, buf: &[u8]) -> io::Result<usize> {
+        Ok(buf.len().min(2))
+    }
+
+    fn flush(&mut self) -> io::Result<()> {
+        self.flushes = self.flushes.saturating_add(1);
+        if self.flushes == 2 {
+            return Err(ErrorKind::Other.into());
+        }
+        Ok(())
+    }
+}
+
+#[test]
+fn a_writer_gains_what_it_takes_and_fails_where_it_fails(rt: HostRuntime) -> Result<(), Fail> {
+    let mut written = Vec::new(rt.alloc());
+    assert_eq!(rt; ToWrite::new(&mut written).put(b"314"), Put::Took(3));
+    assert_eq!(rt; written.as_slice(), b"314".as_slice());
+    let mut sink = ToWrite::new(Sticky { flushes: 0 });
+    assert_eq!(rt; sink.put(b"314"), Put::Took(2));
+    assert_eq!(rt; sink.put(b"314"), Put::Failed);
+    assert_eq!(rt; sink.put(b"3"), Put::Took(1));
+    let mut full: &mut [u8] = &mut [];
+    assert_eq!(rt; ToWrite::new(&mut full).put(b"3"), Put::Failed);
+    Ok(())
+}
