@@ -103,6 +103,7 @@ impl RowsBuilder {
             sum_cells(&cells, &mut row)?;
             made.append(&row)?;
         }
+        made.shrink();
         Ok(made)
     }
 }

@@ -9,6 +9,8 @@ mod list;
 mod parts;
 mod rows;
 mod sparse;
+#[cfg(test)]
+mod tests;
 
 pub use builder::RowsBuilder;
 pub use list::List;

@@ -86,6 +86,14 @@ impl Rows {
         self.append_slices(row.cols(), row.vals())
     }
 
+    // Gives back the room that no entry needs.
+    pub(crate) fn shrink(&mut self)
+        ensures { self.new ≡ self.old }
+    {
+        self.cols.shrink_to_fit();
+        self.vals.shrink_to_fit();
+    }
+
     /// The identity matrix of n rows.
     pub fn identity(alloc: Global, n: u32, p: &Modulus) -> Result<Rows, AllocError>
         requires { n ≤ 2147483648 }

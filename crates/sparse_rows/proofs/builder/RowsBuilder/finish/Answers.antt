@@ -83,4 +83,4 @@ loop-i-preserved c =
     }
 
 pub returns-clause-matrix : goal.returns-clause-matrix
-returns-clause-matrix c = c.loop-i.invariant.matrix ∙ ap (λ h. matrix_by h c.args.self.width (λ i j. sum_at i j c.args.self.pushed % c.args.self.modulus)) (omega (arith, c.loop-i-test.false, ap (λ b. b.height) c.self.view_is))
+returns-clause-matrix c = ap (λ m. m.matrix) c.shrink.ensures ∙ c.loop-i.invariant.matrix ∙ ap (λ h. matrix_by h c.args.self.width (λ i j. sum_at i j c.args.self.pushed % c.args.self.modulus)) (omega (arith, c.loop-i-test.false, ap (λ b. b.height) c.self.view_is))
