@@ -1,0 +1,5 @@
+pub mod Basis
+pub mod Matrices
+pub mod Negated
+pub mod Places
+pub mod Read
