@@ -13,16 +13,14 @@ use Rattle.row_space.specs.Kernel.{HasEnds, IsKernel, IsNull}
 use Rattle.row_space.proofs.KernelLaws.{dot_turned, kernel_of_rank, null_orthogonal}
 use Rattle.kernel_solve.specs.Columns.{AreColumns, arranged, basis_of, negated}
 use Rattle.kernel_solve.proofs.Matrices.{arranged_left, arranged_right, beside_matrix, identity_matrix, identity_other, identity_same, negated_entry, negated_matrix, selected_entry, selected_matrix, transposed_entry, transposed_matrix}
-use Rattle.kernel_solve.proofs.Places.{apart, order_below}
+use Rattle.kernel_solve.proofs.Negated.{negative_zero}
+use Rattle.kernel_solve.proofs.Splitting.{apart, order_below}
 
 -- a residue and its negative
 negative_sum : (p x : ℕ) → x < p → (x + (p - x) % p) % p ≡ 0
 negative_sum p x l =
     add_same p x x ((p - x) % p) (p - x) refl (mod-mod _ p)
     ∙ ap (λ t. t % p) (let e : x + (p - x) ≡ 1 * p = omega arith in e) ∙ multiple_zero p 1
-
-negative_zero : (p : ℕ) → 0 < p → (p - 0) % p ≡ 0
-negative_zero p pos = ap (λ t. t % p) (let e : p - 0 ≡ 1 * p = omega arith in e) ∙ multiple_zero p 1
 
 module _ (p : ℕ) (E : Matrix) (leads free order : List ℕ) (two : 2 ≤ p) (m : IsMatrix p E) (long : length leads ≡ E.height) (c : AreColumns E.width leads free order) where
   abbrev picked : Matrix

@@ -1,5 +1,5 @@
 pub mod Basis
 pub mod Matrices
 pub mod Negated
-pub mod Places
+pub mod Splitting
 pub mod Read

@@ -72,8 +72,8 @@ identity_other n i j a b d = identity_entry n i j a b ∙ cond-false (eqb i j) 1
 
 pub identity_matrix : (p n : ℕ) → 2 ≤ p → IsMatrix p (identity n)
 identity_matrix p n two = is_matrix_of p n n (λ i j. cond (eqb i j) 1 0) (λ i j a b. elim (cases_eq i j) [
-  | inl e ↦ omega (arith, cond-true (eqb i j) 1 0 (eq-eqb i j e))
-  | inr d ↦ omega (arith, cond-false (eqb i j) 1 0 (ne_eqb i j d))
+  | inl e ↦ omega (arith, cond-true {A = ℕ} (eqb i j) 1 0 (eq-eqb i j e))
+  | inr d ↦ omega (arith, cond-false {A = ℕ} (eqb i j) 1 0 (ne_eqb i j d))
 ])
 
 -- the columns of [A | B] in an order

@@ -13,7 +13,7 @@ use Rattle.row_space.specs.Solution.{IsReducedSolution, IsSolution, beside as wi
 use Rattle.row_space.proofs.ReadOff.{last_lead, solution_read}
 use Rattle.kernel_solve.specs.Columns.{AreColumns, arranged, column}
 use Rattle.kernel_solve.proofs.Matrices.{arranged_left, arranged_right, beside_left, beside_matrix, beside_right, selected_entry, selected_matrix, transposed_entry, transposed_matrix}
-use Rattle.kernel_solve.proofs.Places.{order_below}
+use Rattle.kernel_solve.proofs.Splitting.{order_below}
 
 -- the matrix with one row
 abbrev pub one_of : List ℕ → Matrix

@@ -1,4 +1,4 @@
-use Rattle.kernel_solve.proofs.Places.{AreSoFar}
+use Rattle.kernel_solve.proofs.Splitting.{AreSoFar}
 use Rattle.kernel_solve.proofs.places.split_columns.Given as goal
 
 abbrev pub invariant-loop-j : goal.invariant-loop-j

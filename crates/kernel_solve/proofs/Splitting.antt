@@ -65,7 +65,7 @@ module _ (leads : List ℕ) (j k place : ℕ) (free order : List ℕ) (rising : 
 
   -- the next column is free
   pub free_more : ((k < length leads) × (slice_index leads k ≡ j) → ⊥) → AreSoFar leads (j + 1) k (place + 1) (free ++ j ∷ []) (order ++ place ∷ [])
-  free_more no =
+  free_more none =
       let old : (i : ℕ) → i < j → slice_index (order ++ place ∷ []) i ≡ slice_index order i = λ i o. get_or_append_left order (place ∷ []) 0 i (omega (arith, s.order_long)) in
       let new : slice_index (order ++ place ∷ []) j ≡ place = get_or_push order place 0 j s.order_long in
       let old_free : (g : ℕ) → g < length free → slice_index (free ++ j ∷ []) g ≡ slice_index free g = λ g o. get_or_append_left free (j ∷ []) 0 g o in
@@ -80,7 +80,7 @@ module _ (leads : List ℕ) (j k place : ℕ) (free order : List ℕ) (rising : 
         below = λ t o. omega (arith, s.below t o);
         beyond = λ t a b. elim (cases_eq t k) [
           | inl e ↦ elim (cases_eq (slice_index leads t) j) [
-            | inl q ↦ absurd (no (omega arith, ap (slice_index leads) (sym e) ∙ q))
+            | inl q ↦ absurd (none (omega arith, ap (slice_index leads) (sym e) ∙ q))
             | inr d ↦ omega (arith, s.beyond t a b)
           ]
           | inr d ↦ omega (arith, rising k t (omega arith) b, s.beyond k (omega arith) (omega arith))
@@ -117,6 +117,11 @@ module _ (leads : List ℕ) (j k place : ℕ) (free order : List ℕ) (rising : 
         free_rising = s.free_rising;
         each = λ i l. elim (s.each i l) [ inl w ↦ inl (w.0, omega (arith, w.1), w.2) | inr w ↦ inr w ];
       }
+
+-- the same of equal values
+pub so_far_same : (leads : List ℕ) (j k l place next : ℕ) (free more order longer : List ℕ) → l ≡ k → next ≡ place → more ≡ free → longer ≡ order →
+    AreSoFar leads j k place free order → AreSoFar leads j l next more longer
+so_far_same leads j k l place next free more order longer a b c d s = rw (a, b, c, d) s
 
 -- rising columns below n are no more than n
 pub rising_bound : (leads : List ℕ) (n : ℕ) → ((k : ℕ) → k < length leads → slice_index leads k < n) → ((s t : ℕ) → s < t → t < length leads → slice_index leads s < slice_index leads t) → length leads ≤ n
