@@ -177,3 +177,16 @@ pub basis_kernel : (p : ℕ) (A E : Matrix) (leads free order : List ℕ) → Is
 basis_kernel p A E leads free order prime rref has c =
     kernel_through p A E (basis_of p E free order) prime.two_or_more rref.width rref.span
     (form_kernel p E leads free order prime.two_or_more rref.matrix has.0 c has prime)
+
+-- the steps that build it
+pub basis_made : (p q n : ℕ) (E F by_column chosen left right both made : Matrix) (free named order placed : List ℕ) → F ≡ E → by_column ≡ transposed F → chosen ≡ selected by_column named → named ≡ free →
+    left ≡ negated q chosen → q ≡ p → right ≡ identity n → n ≡ length free → both ≡ arranged left right placed → placed ≡ order → made ≡ transposed both → made ≡ basis_of p E free order
+basis_made p q n E F by_column chosen left right both made free named order placed a b c d e f g h i j k =
+    let picks : chosen ≡ selected (transposed E) free = c ∙ ap₂ selected (b ∙ ap transposed a) d in
+    let lefts : left ≡ negated p (selected (transposed E) free) = e ∙ ap₂ negated f picks in
+    let rights : right ≡ identity (length free) = g ∙ ap identity h in
+    k ∙ ap transposed (i ∙ ap₂ (λ l r. arranged l r placed) lefts rights ∙ ap (arranged (negated p (selected (transposed E) free)) (identity (length free))) j)
+
+-- the columns of a form by what the form tells of itself
+pub columns_of : (n m : ℕ) (leads told free order : List ℕ) → n ≡ m → told ≡ leads → AreColumns n told free order → AreColumns m leads free order
+columns_of n m leads told free order a b c = subst (λ t. AreColumns t leads free order) a (subst (λ l. AreColumns n l free order) b c)

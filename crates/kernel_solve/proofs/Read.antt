@@ -108,3 +108,14 @@ system_put p A B side m narrow heights e =
     let size : w + B.width ≡ w + 1 = omega arith in
     ap (λ h. sized h (A.height + 1) (map g (range_with_len 0 h))) size
     ∙ ap (sized (w + 1) (A.height + 1)) (map-range_with_len_more g 0 w w (omega arith) ∙ ap₂ (λ u v. u ++ v ∷ []) (map_range_equal g f 0 w first) last)
+
+-- the steps that build the column
+pub column_made : (E F by_column chosen side both : Matrix) (last : ℕ) (z order placed : List ℕ) → F ≡ E → by_column ≡ transposed F → chosen ≡ selected by_column (last ∷ []) → side ≡ one_of z →
+    both ≡ arranged chosen side placed → placed ≡ order → both ≡ column_of E last z order
+column_made E F by_column chosen side both last z order placed a b c d e f =
+    e ∙ ap₂ (λ l r. arranged l r placed) (c ∙ ap (λ m. selected m (last ∷ [])) (b ∙ ap transposed a)) d ∙ ap (arranged (selected (transposed E) (last ∷ [])) (one_of z)) f
+
+-- a lead in the last column refutes
+pub lead_refutes : (p : ℕ) (A : Matrix) (b : List ℕ) (E : Matrix) (leads : List ℕ) → 2 ≤ p → IsMatrix p A → IsVector p A.height b → IsRref p (with_side A b) E → HasLeads E leads →
+    0 < length leads → slice_index leads (length leads - 1) ≡ A.width → (x : List ℕ) → IsSolution p A b x → ⊥
+lead_refutes p A b E leads two m v rref has some e = last_lead p A b E leads (length leads - 1) two m v rref has (omega (arith, has.0)) e

@@ -148,3 +148,16 @@ all_below n m xs e h = All-from_get_or (λ j. j < n) xs 0 (λ i l. h i (omega ar
 -- a lead is not free
 pub apart : {n : ℕ} {leads free order : List ℕ} → AreColumns n leads free order → (k g : ℕ) → k < length leads → g < length free → slice_index leads k ≢ slice_index free g
 apart {n} {leads} {free} {order} c k g a b e = omega (arith, ap (slice_index order) e, c.at_lead k a, c.at_free g b)
+
+-- rising columns of which the last is not the last of all are before it
+pub below_last : (last n : ℕ) (leads : List ℕ) → n ≡ last + 1 → ((k : ℕ) → k < length leads → slice_index leads k < n) → ((s t : ℕ) → s < t → t < length leads → slice_index leads s < slice_index leads t) →
+    ((0 < length leads) × (slice_index leads (length leads - 1) ≡ last) → ⊥) → (k : ℕ) → k < length leads → slice_index leads k < last
+below_last last n leads e inside rising other k l =
+    let end : ℕ = length leads - 1 in
+    elim (cases_eq (slice_index leads end) last) [
+      | inl q ↦ absurd (other (omega arith, q))
+      | inr d ↦ elim (cases_eq k end) [
+        | inl same ↦ omega (arith, ap (slice_index leads) same, inside end (omega arith))
+        | inr less ↦ omega (arith, rising k end (omega arith) (omega arith), inside end (omega arith))
+      ]
+    ]

@@ -28,8 +28,9 @@ pub fn kernel(alloc: Global, form: &Echelon) -> Result<Rows, AllocError>
     let free = by_column.select(alloc, &columns.free)?;
     let at_leads = negated(alloc, &free)?;
     let at_free = Rows::identity(alloc, columns.free.len() as u32, &modulus)?;
-    let basis = arranged(alloc, &at_leads, &at_free, &columns.order)?;
-    basis.transpose(alloc)
+    let by_place = arranged(alloc, &at_leads, &at_free, &columns.order)?;
+    let basis = by_place.transpose(alloc)?;
+    Ok(basis)
 }
 
 /// The kernel basis of the transposed matrix: its rows y are those with y A = 0.

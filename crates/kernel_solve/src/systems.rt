@@ -60,7 +60,8 @@ pub fn refuting_system(alloc: Global, a: &Rows, b: &Rows) -> Result<Rows, AllocE
     let mut side = Sparse::new(alloc, width + 1, a.modulus());
     side.push(width, 1)?;
     let sides = one_row(alloc, &side)?.transpose(alloc)?;
-    equations.beside(alloc, &sides)
+    let refuting = equations.beside(alloc, &sides)?;
+    Ok(refuting)
 }
 
 // Whether this is the last of the leads.
