@@ -1,4 +1,4 @@
-use Rattle.std.proofs.Common.{ℕ, ◌≡◌, ◌+◌, ◌<◌, ◌≤◌, ◌∙◌, List, ap, ap₂, arith, length, slice_index, subst, sym}
+use Rattle.std.proofs.Common.{rules, ℕ, ◌≡◌, ◌+◌, ◌<◌, ◌≤◌, ◌∙◌, List, ap, ap₂, arith, length, slice_index, subst, sym}
 use Rattle.std.proofs.lemmas.List.Elements.{All-from_get_or}
 use Rattle.residue_words.specs.Residues.{IsPrime}
 use Rattle.residue_words.specs.Matrix.{Matrix, IsMatrix}
@@ -39,33 +39,36 @@ returns-clause-sound c =
     let same : c.in_ok-basis.basis.modulus ≡ p =
     c.in_ok-basis.ensures.modulus ∙ c.in_ok-by_place.ensures.modulus ∙ c.in_ok-at_leads.ensures.modulus ∙ c.in_ok-free.ensures.modulus ∙ c.in_ok-by_column.ensures.modulus ∙ c.rows-rows.ensures.modulus in
     let two : 2 ≤ p = omega (arith, c.modulus-modulus.ensures.two_or_more, c.modulus-modulus.ensures.value, c.rows-rows.ensures.modulus) in
+    let len : c.len.result ≡ length c.in_ok-columns.columns.free.items = first_of (omega (arith, c.len.ensures), search rules) in
     let made : c.in_ok-basis.basis.matrix ≡ basis_of p E c.in_ok-columns.columns.free.items c.in_ok-columns.columns.order.items =
     basis_made p c.in_ok-free.free.modulus c.len.result E c.rows-rows.result.now.matrix c.in_ok-by_column.by_column.matrix c.in_ok-free.free.matrix c.in_ok-at_leads.at_leads.matrix c.in_ok-at_free.at_free.matrix
     c.in_ok-by_place.by_place.matrix c.in_ok-basis.basis.matrix c.in_ok-columns.columns.free.items c.deref.result.now c.in_ok-columns.columns.order.items c.deref-2.result.now
     c.rows-rows.ensures.matrix c.in_ok-by_column.ensures.matrix c.in_ok-free.ensures.matrix c.deref.ensures.value c.in_ok-at_leads.ensures.matrix
-    (c.in_ok-free.ensures.modulus ∙ c.in_ok-by_column.ensures.modulus ∙ c.rows-rows.ensures.modulus) c.in_ok-at_free.ensures.matrix c.len.ensures c.in_ok-by_place.ensures.matrix c.deref-2.ensures.value c.in_ok-basis.ensures.matrix in
+    (c.in_ok-free.ensures.modulus ∙ c.in_ok-by_column.ensures.modulus ∙ c.rows-rows.ensures.modulus) c.in_ok-at_free.ensures.matrix len c.in_ok-by_place.ensures.matrix c.deref-2.ensures.value c.in_ok-basis.ensures.matrix in
     rw (same, made) (basis_matrix p E c.args.form.now.leads c.in_ok-columns.columns.free.items c.in_ok-columns.columns.order.items two c.leads.ensures.sound c.leads.ensures.long columns)
 
 pub returns-clause-width : goal.returns-clause-width
 returns-clause-width c =
     let E : Matrix = c.args.form.now.matrix in
     let p : ℕ = c.args.form.now.modulus in
+    let len : c.len.result ≡ length c.in_ok-columns.columns.free.items = first_of (omega (arith, c.len.ensures), search rules) in
     let made : c.in_ok-basis.basis.matrix ≡ basis_of p E c.in_ok-columns.columns.free.items c.in_ok-columns.columns.order.items =
     basis_made p c.in_ok-free.free.modulus c.len.result E c.rows-rows.result.now.matrix c.in_ok-by_column.by_column.matrix c.in_ok-free.free.matrix c.in_ok-at_leads.at_leads.matrix c.in_ok-at_free.at_free.matrix
     c.in_ok-by_place.by_place.matrix c.in_ok-basis.basis.matrix c.in_ok-columns.columns.free.items c.deref.result.now c.in_ok-columns.columns.order.items c.deref-2.result.now
     c.rows-rows.ensures.matrix c.in_ok-by_column.ensures.matrix c.in_ok-free.ensures.matrix c.deref.ensures.value c.in_ok-at_leads.ensures.matrix
-    (c.in_ok-free.ensures.modulus ∙ c.in_ok-by_column.ensures.modulus ∙ c.rows-rows.ensures.modulus) c.in_ok-at_free.ensures.matrix c.len.ensures c.in_ok-by_place.ensures.matrix c.deref-2.ensures.value c.in_ok-basis.ensures.matrix in
+    (c.in_ok-free.ensures.modulus ∙ c.in_ok-by_column.ensures.modulus ∙ c.rows-rows.ensures.modulus) c.in_ok-at_free.ensures.matrix len c.in_ok-by_place.ensures.matrix c.deref-2.ensures.value c.in_ok-basis.ensures.matrix in
     ap (λ m. m.width) made ∙ c.in_ok-columns.ensures.order_long ∙ c.width.ensures.value ∙ ap (λ m. m.width) c.rows-rows.ensures.matrix
 
 pub returns-clause-height : goal.returns-clause-height
 returns-clause-height c =
     let E : Matrix = c.args.form.now.matrix in
     let p : ℕ = c.args.form.now.modulus in
+    let len : c.len.result ≡ length c.in_ok-columns.columns.free.items = first_of (omega (arith, c.len.ensures), search rules) in
     let made : c.in_ok-basis.basis.matrix ≡ basis_of p E c.in_ok-columns.columns.free.items c.in_ok-columns.columns.order.items =
     basis_made p c.in_ok-free.free.modulus c.len.result E c.rows-rows.result.now.matrix c.in_ok-by_column.by_column.matrix c.in_ok-free.free.matrix c.in_ok-at_leads.at_leads.matrix c.in_ok-at_free.at_free.matrix
     c.in_ok-by_place.by_place.matrix c.in_ok-basis.basis.matrix c.in_ok-columns.columns.free.items c.deref.result.now c.in_ok-columns.columns.order.items c.deref-2.result.now
     c.rows-rows.ensures.matrix c.in_ok-by_column.ensures.matrix c.in_ok-free.ensures.matrix c.deref.ensures.value c.in_ok-at_leads.ensures.matrix
-    (c.in_ok-free.ensures.modulus ∙ c.in_ok-by_column.ensures.modulus ∙ c.rows-rows.ensures.modulus) c.in_ok-at_free.ensures.matrix c.len.ensures c.in_ok-by_place.ensures.matrix c.deref-2.ensures.value c.in_ok-basis.ensures.matrix in
+    (c.in_ok-free.ensures.modulus ∙ c.in_ok-by_column.ensures.modulus ∙ c.rows-rows.ensures.modulus) c.in_ok-at_free.ensures.matrix len c.in_ok-by_place.ensures.matrix c.deref-2.ensures.value c.in_ok-basis.ensures.matrix in
     omega (arith, ap (λ m. m.height) made, c.in_ok-columns.ensures.free_long, ap length c.leads.ensures.value, c.leads.ensures.long, c.width.ensures.value, ap (λ m. m.width) c.rows-rows.ensures.matrix)
 
 pub returns-clause-kernel : goal.returns-clause-kernel
@@ -76,9 +79,10 @@ returns-clause-kernel c = λ q A prime form.
     let free : List ℕ = c.in_ok-columns.columns.free.items in
     let order : List ℕ = c.in_ok-columns.columns.order.items in
     let columns = columns_of c.width.result E.width leads c.leads.result.now free order (c.width.ensures.value ∙ ap (λ m. m.width) c.rows-rows.ensures.matrix) c.leads.ensures.value c.in_ok-columns.ensures in
+    let len : c.len.result ≡ length c.in_ok-columns.columns.free.items = first_of (omega (arith, c.len.ensures), search rules) in
     let made : c.in_ok-basis.basis.matrix ≡ basis_of p E c.in_ok-columns.columns.free.items c.in_ok-columns.columns.order.items =
     basis_made p c.in_ok-free.free.modulus c.len.result E c.rows-rows.result.now.matrix c.in_ok-by_column.by_column.matrix c.in_ok-free.free.matrix c.in_ok-at_leads.at_leads.matrix c.in_ok-at_free.at_free.matrix
     c.in_ok-by_place.by_place.matrix c.in_ok-basis.basis.matrix c.in_ok-columns.columns.free.items c.deref.result.now c.in_ok-columns.columns.order.items c.deref-2.result.now
     c.rows-rows.ensures.matrix c.in_ok-by_column.ensures.matrix c.in_ok-free.ensures.matrix c.deref.ensures.value c.in_ok-at_leads.ensures.matrix
-    (c.in_ok-free.ensures.modulus ∙ c.in_ok-by_column.ensures.modulus ∙ c.rows-rows.ensures.modulus) c.in_ok-at_free.ensures.matrix c.len.ensures c.in_ok-by_place.ensures.matrix c.deref-2.ensures.value c.in_ok-basis.ensures.matrix in
+    (c.in_ok-free.ensures.modulus ∙ c.in_ok-by_column.ensures.modulus ∙ c.rows-rows.ensures.modulus) c.in_ok-at_free.ensures.matrix len c.in_ok-by_place.ensures.matrix c.deref-2.ensures.value c.in_ok-basis.ensures.matrix in
     rw made (subst (λ t. IsKernel q A (basis_of t E free order)) (sym form.modulus) (basis_kernel q A E leads free order prime (form.rref prime) (form.leads prime) columns))

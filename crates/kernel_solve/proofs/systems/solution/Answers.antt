@@ -1,4 +1,4 @@
-use Rattle.std.proofs.Common.{ℕ, ◌≡◌, ◌≢◌, ◌+◌, ◌-◌, ◌<◌, ◌≤◌, ◌∙◌, List, [], ◌∷◌, ap, ap₂, arith, length, slice_index, subst, sym, true, false}
+use Rattle.std.proofs.Common.{rules, ℕ, ◌≡◌, ◌≢◌, ◌+◌, ◌-◌, ◌<◌, ◌≤◌, ◌∙◌, List, [], ◌∷◌, ap, ap₂, arith, length, slice_index, subst, sym, true, false}
 use Rattle.std.proofs.lemmas.List.Elements.{All-from_get_or}
 use Rattle.residue_words.specs.Matrix.{Matrix, IsMatrix, zeros}
 use Rattle.row_space.specs.Solution.{IsReducedSolution}
@@ -82,7 +82,8 @@ returns-clause-shape c =
     let columns : AreColumns last leads free order = columns_of last last leads c.leads-leads.result.now free order (omega arith) c.leads-leads.ensures.value c.in_ok-columns.ensures in
     let width : c.width-last.result ≡ E.width = c.width-last.ensures.value ∙ ap (λ m. m.width) c.rows-rows.ensures.matrix in
     let two : 2 ≤ p = omega (arith, c.modulus-modulus.ensures.two_or_more, c.modulus-modulus.ensures.value, c.rows-rows.ensures.modulus) in
-    let side : z ≡ zeros (length free) = c.new.ensures.row ∙ ap zeros c.len.ensures in
+    let len : c.len.result ≡ length free = first_of (omega (arith, c.len.ensures), search rules) in
+    let side : z ≡ zeros (length free) = c.new.ensures.row ∙ ap zeros len in
     let made : c.in_ok-x.x.matrix ≡ column_of E last z order =
     column_made E c.rows-rows.result.now.matrix c.in_ok-by_column.by_column.matrix c.in_ok-at_leads.at_leads.matrix c.in_ok-at_free.at_free.matrix c.in_ok-x.x.matrix last z order c.deref.result.now
     c.rows-rows.ensures.matrix c.in_ok-by_column.ensures.matrix c.in_ok-at_leads.ensures.matrix c.in_ok-at_free.ensures.matrix c.in_ok-x.ensures.matrix c.deref.ensures.value in
@@ -104,7 +105,8 @@ returns-clause-answers c = λ q A b prime m v form.
     let columns : AreColumns last leads free order = columns_of last last leads c.leads-leads.result.now free order (omega arith) c.leads-leads.ensures.value c.in_ok-columns.ensures in
     let width : c.width-last.result ≡ E.width = c.width-last.ensures.value ∙ ap (λ m. m.width) c.rows-rows.ensures.matrix in
     let same : last ≡ A.width = omega (arith, width, form.width) in
-    let side : z ≡ zeros (length free) = c.new.ensures.row ∙ ap zeros c.len.ensures in
+    let len : c.len.result ≡ length free = first_of (omega (arith, c.len.ensures), search rules) in
+    let side : z ≡ zeros (length free) = c.new.ensures.row ∙ ap zeros len in
     let below : (k : ℕ) → k < length leads → slice_index leads k < last = λ k l.
     below_last last E.width leads (omega (arith, width, c.requires)) c.leads-leads.ensures.inside c.leads-leads.ensures.rising
     (λ h. let at_end : c.ends_at.result ≡ true = c.ends_at.ensures.1 (omega (arith, h.0, ap length c.leads-leads.ensures.value), ap (λ ls. slice_index ls (length ls - 1)) c.leads-leads.ensures.value ∙ h.1) in let not_at_end : c.ends_at.result ≡ false = c.if-ends_at.false in cc) k l in
