@@ -1,14 +1,14 @@
 -- The rows that are read off an echelon form are the kernel basis.
-use Rattle.std.proofs.Common.{ℕ, ◌≡◌, ◌≢◌, ◌+◌, ◌-◌, ◌*◌, ◌%◌, ◌<◌, ◌≤◌, ◌⊎◌, inl, inr, List, length, slice_index, cond, eqb, sym, refl, ap, ap₂, subst, ◌∙◌, arith, mod-lt, mod-eq_of_lt, mul-one, one-mul, zero-mul, mul-zero}
-use native.Mathlib.Nat.{mod-mod, zero-mod}
-use Rattle.std.proofs.lemmas.Bool.{cases_eq, cases_lt, cond-true, cond-false, eq-eqb, ne_eqb}
+use Rattle.std.proofs.Common.{ℕ, ◌≡◌, ◌≢◌, ◌+◌, ◌-◌, ◌*◌, ◌%◌, ◌<◌, ◌≤◌, inl, inr, List, length, slice_index, cond, eqb, sym, refl, ap, ap₂, subst, ◌∙◌, arith, one-mul, zero-mul, mul-zero}
+use native.Mathlib.Nat.{mod-mod}
+use Rattle.std.proofs.lemmas.Bool.{cases_eq, cond-true, cond-false, eq-eqb, ne_eqb}
 use Rattle.residue_words.specs.Residues.{IsPrime, sum_below}
-use Rattle.residue_words.specs.Matrix.{Matrix, IsMatrix, IsVector, IsCombination, apply, combine, dot, entry, list_of, row, zeros}
+use Rattle.residue_words.specs.Matrix.{Matrix, IsMatrix, IsVector, IsCombination, apply, combine, dot, entry, list_of, row}
 use Rattle.residue_words.proofs.Residues.{add_same, multiple_zero}
 use Rattle.residue_words.proofs.Sums.{sum_add, sum_equal, sum_single}
-use Rattle.residue_words.proofs.Vectors.{at_apply, at_list_of, delta, delta_other, delta_same, dot_combine, entry_residue, list_of_equal, row_combination, sum_delta, vector_of}
-use Rattle.sparse_rows.specs.Rows.{beside, identity, selected, transposed}
-use Rattle.row_space.specs.Echelon.{HasLeads, HasPlaces, IsRref, SameSpan}
+use Rattle.residue_words.proofs.Vectors.{at_apply, at_list_of, delta, delta_other, delta_same, dot_combine, entry_residue, list_of_equal, sum_delta, vector_of}
+use Rattle.sparse_rows.specs.Rows.{identity, selected, transposed}
+use Rattle.row_space.specs.Echelon.{HasLeads, IsRref, SameSpan}
 use Rattle.row_space.specs.Kernel.{HasEnds, IsKernel, IsNull}
 use Rattle.row_space.proofs.KernelLaws.{dot_turned, kernel_of_rank, null_orthogonal}
 use Rattle.kernel_solve.specs.Columns.{AreColumns, arranged, basis_of, negated}
@@ -62,20 +62,23 @@ module _ (p : ℕ) (E : Matrix) (leads free order : List ℕ) (two : 2 ≤ p) (m
   module _ (has : HasLeads E leads) where
     -- the basis is reduced
     basis_ends : HasEnds basis free
-    basis_ends = (refl, record {
-      inside = λ g l. omega (arith, c.free_below g l, c.order_long);
-      one = λ g l. basis_at_free g g l l ∙ identity_same (length free) g l;
-      past = λ g j l o behind. elim (c.each j (omega (arith, c.order_long))) [
-        | inl w ↦
-            let k : ℕ = w.0 in
-            let b : k < E.height = omega (arith, w.1) in
-            let z : entry E k (slice_index free g) ≡ 0 = has.1.past k (slice_index free g) b (c.free_below g l) (omega (arith, w.2)) in
-            ap (entry basis g) (sym w.2) ∙ basis_at_lead g k l b (has.1.inside k b) ∙ ap (λ x. (p - x) % p) z ∙ negative_zero p (omega arith)
-        | inr w ↦ ap (entry basis g) (sym w.2) ∙ basis_at_free g w.0 l w.1 ∙ identity_other (length free) g w.0 l w.1 (λ e. omega (arith, ap (slice_index free) e, w.2))
-      ];
-      rising = c.free_rising;
-      alone = λ k t a b d. basis_at_free t k b a ∙ identity_other (length free) t k b a d;
-    })
+    basis_ends = (
+      refl,
+      record {
+        inside = λ g l. omega (arith, c.free_below g l, c.order_long);
+        one = λ g l. basis_at_free g g l l ∙ identity_same (length free) g l;
+        past = λ g j l o behind. elim (c.each j (omega (arith, c.order_long))) [
+          | inl w ↦
+              let k : ℕ = w.0 in
+              let b : k < E.height = omega (arith, w.1) in
+              let z : entry E k (slice_index free g) ≡ 0 = has.1.past k (slice_index free g) b (c.free_below g l) (omega (arith, w.2)) in
+              ap (entry basis g) (sym w.2) ∙ basis_at_lead g k l b (has.1.inside k b) ∙ ap (λ x. (p - x) % p) z ∙ negative_zero p (omega arith)
+          | inr w ↦ ap (entry basis g) (sym w.2) ∙ basis_at_free g w.0 l w.1 ∙ identity_other (length free) g w.0 l w.1 (λ e. omega (arith, ap (slice_index free) e, w.2))
+        ];
+        rising = c.free_rising;
+        alone = λ k t a b d. basis_at_free t k b a ∙ identity_other (length free) t k b a d;
+      },
+    )
 
     -- the term at column j of the product of row k of E with row g of the basis, but for the free column of g
     other_term : ℕ → ℕ → ℕ → ℕ

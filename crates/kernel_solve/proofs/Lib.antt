@@ -1,4 +1,5 @@
 pub mod Basis
+pub mod Inverting
 pub mod Matrices
 pub mod Negated
 pub mod Splitting

@@ -1,11 +1,10 @@
 -- The entries of matrices put together of others, and that they are matrices of residues.
-use Rattle.std.proofs.Common.{ℕ, ◌≡◌, ◌+◌, ◌-◌, ◌*◌, ◌%◌, ◌<◌, ◌≤◌, ◌⊎◌, inl, inr, List, [], ◌∷◌, ◌++◌, length, map, slice_index, cond, eqb, sym, refl, ap, ap₂, ◌∙◌, arith, mod-lt}
-use Rattle.std.specs.List.{range_with_len}
+use Rattle.std.proofs.Common.{ℕ, ◌≡◌, ◌+◌, ◌-◌, ◌%◌, ◌<◌, ◌≤◌, inl, inr, List, [], ◌++◌, length, slice_index, cond, eqb, refl, ap, ap₂, ◌∙◌, arith, mod-lt}
 use Rattle.std.proofs.lemmas.Bool.{cases_eq, cases_lt, cond-true, cond-false, eq-eqb, ne_eqb}
 use Rattle.std.proofs.lemmas.List.{get_or-map, get_or_append_left, get_or-append_right, length-append, length-map}
 use Rattle.std.proofs.lemmas.List.FromFn.{get_or-map-range_with_len, length-map-range_with_len}
-use Rattle.residue_words.specs.Matrix.{Matrix, IsMatrix, IsVector, entry, list_of, row}
-use Rattle.residue_words.proofs.Vectors.{at_list_of, entry_matrix_of, entry_residue, is_matrix_of, length_list_of}
+use Rattle.residue_words.specs.Matrix.{Matrix, IsMatrix, entry, row}
+use Rattle.residue_words.proofs.Vectors.{entry_matrix_of, entry_residue, is_matrix_of}
 use Rattle.sparse_rows.specs.Rows.{beside, identity, selected, transposed}
 use Rattle.kernel_solve.specs.Columns.{arranged, negated}
 

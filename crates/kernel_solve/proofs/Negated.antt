@@ -1,7 +1,7 @@
 -- The negative of a matrix, row by row.
-use Rattle.std.proofs.Common.{ℕ, ◌≡◌, ◌≢◌, ◌+◌, ◌-◌, ◌*◌, ◌%◌, ◌<◌, ◌≤◌, inl, inr, List, [], ◌∷◌, length, map, slice_index, cond, eqb, sym, refl, ap, ap₂, ◌∙◌, arith}
+use Rattle.std.proofs.Common.{ℕ, ◌≡◌, ◌-◌, ◌*◌, ◌%◌, ◌<◌, inl, inr, List, [], ◌∷◌, length, map, eqb, sym, ap, ◌∙◌, arith}
 use Rattle.std.proofs.lemmas.Bool.{cases_eq, cond-true, cond-false, eq-eqb, ne_eqb}
-use Rattle.residue_words.specs.Matrix.{Matrix, entry}
+use Rattle.residue_words.specs.Matrix.{entry}
 use Rattle.residue_words.proofs.Residues.{multiple_zero}
 use Rattle.sparse_rows.specs.Rows.{ResidueMatrix, ResidueRow, matrix_by}
 use Rattle.sparse_rows.specs.Stored.{entry_at}

@@ -1,9 +1,8 @@
 -- The reduced solution is read off an echelon form, and the refuting system is put together.
-use Rattle.std.proofs.Common.{ℕ, zero, suc, ◌≡◌, ◌≢◌, ◌+◌, ◌-◌, ◌*◌, ◌%◌, ◌<◌, ◌≤◌, ◌⊎◌, inl, inr, List, [], ◌∷◌, ◌++◌, length, map, slice_index, slice_set, sym, refl, ap, ap₂, subst, ◌∙◌, arith}
+use Rattle.std.proofs.Common.{ℕ, ◌≡◌, ◌+◌, ◌-◌, ◌<◌, ◌≤◌, inl, inr, List, [], ◌∷◌, ◌++◌, length, map, slice_index, slice_set, sym, refl, ap, ap₂, subst, ◌∙◌, arith}
 use Rattle.std.specs.List.{range_with_len}
 use Rattle.std.proofs.lemmas.List.{get_or-set_other, get_or-set_same, length-set}
 use Rattle.std.proofs.lemmas.List.FromFn.{map-range_with_len_more}
-use Rattle.residue_words.specs.Residues.{IsPrime}
 use Rattle.residue_words.specs.Matrix.{Matrix, IsMatrix, IsVector, entry, list_of, row, zeros}
 use Rattle.residue_words.proofs.Vectors.{at_list_of, at_zeros, length_list_of, list_of_equal, row_matrix_of, zeros_vector}
 use Rattle.sparse_rows.specs.Rows.{beside, selected, transposed}
@@ -25,12 +24,16 @@ one_matrix {p} v h = record {
   each = λ i l. let z : i ≡ 0 = omega arith in subst (λ i. IsVector p (length v) (row (one_of v) i)) (sym z) h;
 }
 
+-- of a zero row it is a matrix of residues
+pub zero_matrix : (p n : ℕ) (v : List ℕ) → 0 < p → v ≡ zeros n → IsMatrix p (one_of v)
+zero_matrix p n v pos e = one_matrix v (rw e (subst (λ k. IsVector p k (zeros n)) (sym (length_list_of n (λ j. 0))) (zeros_vector p n pos)))
+
 -- the column read off a form at its last column
 abbrev pub column_of : Matrix → ℕ → List ℕ → List ℕ → Matrix
 column_of E last z order = arranged (selected (transposed E) (last ∷ [])) (one_of z) order
 
 module _ (p : ℕ) (E : Matrix) (last : ℕ) (leads free order z : List ℕ) (two : 2 ≤ p) (m : IsMatrix p E) (inside : last < E.width) (long : length leads ≡ E.height)
-  (c : AreColumns last leads free order) (zero_side : z ≡ zeros (length free)) where
+    (c : AreColumns last leads free order) (zero_side : z ≡ zeros (length free)) where
   abbrev left : Matrix
   left = selected (transposed E) (last ∷ [])
 
@@ -41,7 +44,7 @@ module _ (p : ℕ) (E : Matrix) (last : ℕ) (leads free order z : List ℕ) (tw
   long_side = ap length zero_side ∙ length_list_of (length free) (λ j. 0)
 
   side_matrix : IsMatrix p (one_of z)
-  side_matrix = one_matrix z (rw zero_side (subst (λ n. IsVector p n (zeros (length free))) (sym (length_list_of (length free) (λ j. 0))) (zeros_vector p (length free) (omega arith))))
+  side_matrix = zero_matrix p (length free) z (omega arith) zero_side
 
   -- it is a column of residues
   pub column_matrix : IsMatrix p (column_of E last z order)
@@ -103,7 +106,7 @@ system_put p A B side m narrow heights e =
     ap₂ (λ u v. u ++ v)
     (row_matrix_of (w + B.width) A.height (λ i j. entry (beside A B) j i) w (omega arith)
     ∙ list_of_equal A.height _ _ (λ i o.
-        ap (entry (beside A B) i) (let q : w ≡ w + 0 = omega arith in q) ∙ beside_right m B i 0 o ∙ sym (at_list_of B.height (λ i. entry B i 0) i (omega arith))))
+    ap (entry (beside A B) i) (let q : w ≡ w + 0 = omega arith in q) ∙ beside_right m B i 0 o ∙ sym (at_list_of B.height (λ i. entry B i 0) i (omega arith))))
     (side_row w (omega arith) ∙ ap (λ x. x ∷ []) side_one) in
     let size : w + B.width ≡ w + 1 = omega arith in
     ap (λ h. sized h (A.height + 1) (map g (range_with_len 0 h))) size

@@ -37,7 +37,7 @@ none_so_far leads = record {
 }
 
 module _ (leads : List ℕ) (j k place : ℕ) (free order : List ℕ) (rising : (s t : ℕ) → s < t → t < length leads → slice_index leads s < slice_index leads t)
-  (s : AreSoFar leads j k place free order) where
+    (s : AreSoFar leads j k place free order) where
   -- the next column is a lead
   pub lead_more : k < length leads → slice_index leads k ≡ j → AreSoFar leads (j + 1) (k + 1) place free (order ++ k ∷ [])
   lead_more l e =

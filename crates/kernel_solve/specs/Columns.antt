@@ -28,3 +28,7 @@ basis_of p E free order = transposed (arranged (negated p (selected (transposed 
 -- the first column of a matrix
 abbrev pub column : Matrix → List ℕ
 column A = list_of A.height (λ i. entry A i 0)
+
+-- the n columns from n on, as rows
+abbrev pub right_half : ℕ → Matrix → Matrix
+right_half n A = selected (transposed A) (list_of n (λ k. n + k))

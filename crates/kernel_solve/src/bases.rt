@@ -34,7 +34,12 @@ pub fn kernel(alloc: Global, form: &Echelon) -> Result<Rows, AllocError>
 }
 
 /// The kernel basis of the transposed matrix: its rows y are those with y A = 0.
-pub fn left_kernel<R: Threads + Sync>(rt: &R, alloc: Global, a: &Rows, workers: u32) -> Result<Rows, AllocError>
+pub fn left_kernel<R: Threads + Sync>(
+    rt: &R,
+    alloc: Global,
+    a: &Rows,
+    workers: u32,
+) -> Result<Rows, AllocError>
     requires some { 1 ≤ workers }
     requires few { workers ≤ 64 }
     ensures modulus { IfOk result (λ rows. rows.modulus ≡ a.now.modulus) }

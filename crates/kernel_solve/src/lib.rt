@@ -4,8 +4,12 @@
 #![tactic(auto)]
 
 mod bases;
+mod inverses;
+mod outcome;
 mod places;
 mod systems;
 
 pub use bases::{kernel, left_kernel};
+pub use inverses::inverse;
+pub use outcome::Inverse;
 pub use systems::{Found, refuting_system, solution};

@@ -45,7 +45,12 @@ fn stands_at(leads: &[u32], k: usize, j: u32) -> bool
 }
 
 // The columns of [left | right] in this order, as rows, in time proportional to the entries and the sizes.
-pub(crate) fn arranged(alloc: Global, left: &Rows, right: &Rows, order: &[u32]) -> Result<Rows, AllocError>
+pub(crate) fn arranged(
+    alloc: Global,
+    left: &Rows,
+    right: &Rows,
+    order: &[u32],
+) -> Result<Rows, AllocError>
     requires heights { left.now.matrix.height ≡ right.now.matrix.height }
     requires moduli { left.now.modulus ≡ right.now.modulus }
     requires widths { left.now.matrix.width + right.now.matrix.width ≤ 2147483648 }

@@ -38,7 +38,10 @@ pub fn solution(alloc: Global, form: &Echelon) -> Result<Found, AllocError>
     let columns = split_columns(alloc, last, leads)?;
     let by_column = rows.transpose(alloc)?;
     let at_leads = by_column.select(alloc, &[last])?;
-    let at_free = one_row(alloc, &Sparse::new(alloc, columns.free.len() as u32, modulus))?;
+    let at_free = one_row(
+        alloc,
+        &Sparse::new(alloc, columns.free.len() as u32, modulus),
+    )?;
     let x = arranged(alloc, &at_leads, &at_free, &columns.order)?;
     Ok(Found::Solution(x))
 }
@@ -72,7 +75,7 @@ fn ends_at(leads: &[u32], column: u32) -> bool
 }
 
 // The matrix with this row alone.
-fn one_row(alloc: Global, row: &Sparse) -> Result<Rows, AllocError>
+pub(crate) fn one_row(alloc: Global, row: &Sparse) -> Result<Rows, AllocError>
     requires { length row.now.row ≤ 2147483648 }
     ensures modulus { IfOk result (λ rows. rows.modulus ≡ row.now.modulus) }
     ensures matrix { IfOk result (λ rows. rows.matrix ≡ record { height = 1; width = length row.now.row; rows = row.now.row ∷ [] }) }

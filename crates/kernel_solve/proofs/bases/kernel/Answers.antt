@@ -1,10 +1,8 @@
-use Rattle.std.proofs.Common.{rules, ℕ, ◌≡◌, ◌+◌, ◌<◌, ◌≤◌, ◌∙◌, List, ap, ap₂, arith, length, slice_index, subst, sym}
+use Rattle.std.proofs.Common.{rules, ℕ, ◌≡◌, ◌+◌, ◌<◌, ◌≤◌, ◌∙◌, List, ap, arith, length, slice_index, subst, sym}
 use Rattle.std.proofs.lemmas.List.Elements.{All-from_get_or}
-use Rattle.residue_words.specs.Residues.{IsPrime}
-use Rattle.residue_words.specs.Matrix.{Matrix, IsMatrix}
-use Rattle.row_space.specs.Echelon.{IsRref}
+use Rattle.residue_words.specs.Matrix.{Matrix}
 use Rattle.row_space.specs.Kernel.{IsKernel}
-use Rattle.kernel_solve.specs.Columns.{AreColumns, basis_of}
+use Rattle.kernel_solve.specs.Columns.{basis_of}
 use Rattle.kernel_solve.proofs.Basis.{basis_kernel, basis_made, basis_matrix, columns_of}
 use Rattle.kernel_solve.proofs.Splitting.{order_below}
 use Rattle.kernel_solve.proofs.bases.kernel.Goals as goal

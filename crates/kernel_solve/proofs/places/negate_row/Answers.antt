@@ -1,4 +1,4 @@
-use Rattle.std.proofs.Common.{ℕ, ◌≡◌, ◌+◌, ◌-◌, ◌%◌, ◌<◌, ◌≤◌, ◌∙◌, List, ap, ap₂, arith, length, map, slice_index, slice_set, sym, take}
+use Rattle.std.proofs.Common.{ℕ, ◌≡◌, ◌+◌, ◌-◌, ◌%◌, ◌<◌, ◌∙◌, List, ap, ap₂, arith, length, map, slice_index, slice_set, sym, take}
 use Rattle.std.proofs.lemmas.List.{get_or-map, length-map, take_all}
 use Rattle.residue_words.specs.Matrix.{entry, row}
 use Rattle.residue_words.proofs.Vectors.{at_list_of, length_list_of, list_equal}

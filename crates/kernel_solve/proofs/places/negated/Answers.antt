@@ -1,4 +1,4 @@
-use Rattle.std.proofs.Common.{ℕ, ◌≡◌, ◌+◌, ◌-◌, ◌%◌, ◌<◌, ◌∙◌, [], ap, arith, length, sym}
+use Rattle.std.proofs.Common.{◌-◌, ◌%◌, ◌∙◌, [], ap, length, sym}
 use Rattle.residue_words.specs.Matrix.{entry}
 use Rattle.sparse_rows.specs.Stored.{with_row}
 use Rattle.sparse_rows.proofs.Loops.{length_zeros, matrix_by_more, sized, zero_at}

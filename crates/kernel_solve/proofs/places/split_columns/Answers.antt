@@ -1,6 +1,6 @@
-use Rattle.std.proofs.Common.{ℕ, ◌≡◌, ◌+◌, ◌<◌, ◌≤◌, ◌∙◌, IsTrue, List, [], ◌∷◌, ◌++◌, ap, arith, length, subst, sym, true, false}
+use Rattle.std.proofs.Common.{◌≡◌, ◌+◌, ◌∙◌, [], ◌∷◌, ◌++◌, ap, arith, subst, true, false}
 use Rattle.kernel_solve.specs.Columns.{AreColumns}
-use Rattle.kernel_solve.proofs.Splitting.{AreSoFar, all_columns, free_more, lead_more, rising_bound, so_far_same}
+use Rattle.kernel_solve.proofs.Splitting.{all_columns, free_more, lead_more, rising_bound, so_far_same}
 use Rattle.kernel_solve.proofs.places.split_columns.Goals as goal
 use Rattle.kernel_solve.proofs.places.split_columns.Goals.{then-stands_at+in_ok-push, else-stands_at+in_ok-push-2+in_ok-push-3}
 

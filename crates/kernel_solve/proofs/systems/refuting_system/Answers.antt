@@ -1,9 +1,9 @@
-use Rattle.std.proofs.Common.{ℕ, ◌≡◌, ◌+◌, ◌<◌, ◌≤◌, ◌∙◌, List, [], ◌∷◌, ap, ap₂, arith, length, slice_index, slice_set, sym}
+use Rattle.std.proofs.Common.{ℕ, ◌≡◌, ◌+◌, ◌∙◌, List, ap, ap₂, arith, length, slice_set}
 use Rattle.std.proofs.lemmas.List.{length-set}
 use Rattle.residue_words.specs.Matrix.{Matrix, zeros}
 use Rattle.sparse_rows.specs.Rows.{beside, transposed}
 use Rattle.sparse_rows.proofs.Loops.{length_zeros, zero_at}
-use Rattle.kernel_solve.proofs.Read.{one_of, system_put}
+use Rattle.kernel_solve.proofs.Read.{system_put}
 use Rattle.kernel_solve.proofs.systems.refuting_system.Goals as goal
 
 pub push-requires-clause-column : goal.push-requires-clause-column

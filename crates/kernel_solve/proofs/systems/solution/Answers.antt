@@ -1,10 +1,9 @@
-use Rattle.std.proofs.Common.{rules, ℕ, ◌≡◌, ◌≢◌, ◌+◌, ◌-◌, ◌<◌, ◌≤◌, ◌∙◌, List, [], ◌∷◌, ap, ap₂, arith, length, slice_index, subst, sym, true, false}
+use Rattle.std.proofs.Common.{rules, ℕ, ◌≡◌, ◌+◌, ◌-◌, ◌<◌, ◌≤◌, ◌∙◌, List, ap, arith, length, slice_index, true, false}
 use Rattle.std.proofs.lemmas.List.Elements.{All-from_get_or}
-use Rattle.residue_words.specs.Matrix.{Matrix, IsMatrix, zeros}
-use Rattle.row_space.specs.Solution.{IsReducedSolution}
+use Rattle.residue_words.specs.Matrix.{Matrix, zeros}
 use Rattle.sparse_rows.proofs.Loops.{length_zeros}
-use Rattle.kernel_solve.specs.Columns.{AreColumns, column}
-use Rattle.kernel_solve.proofs.Read.{column_made, column_matrix, column_of, column_solves, lead_refutes, one_of}
+use Rattle.kernel_solve.specs.Columns.{AreColumns}
+use Rattle.kernel_solve.proofs.Read.{column_made, column_matrix, column_of, column_solves, lead_refutes}
 use Rattle.kernel_solve.proofs.Splitting.{below_last, order_below}
 use Rattle.kernel_solve.proofs.Basis.{columns_of}
 use Rattle.kernel_solve.proofs.systems.solution.Goals as goal
@@ -86,8 +85,7 @@ returns-clause-shape c =
     let side : z ≡ zeros (length free) = c.new.ensures.row ∙ ap zeros len in
     let made : c.in_ok-x.x.matrix ≡ column_of E last z order =
     column_made E c.rows-rows.result.now.matrix c.in_ok-by_column.by_column.matrix c.in_ok-at_leads.at_leads.matrix c.in_ok-at_free.at_free.matrix c.in_ok-x.x.matrix last z order c.deref.result.now
-    c.rows-rows.ensures.matrix c.in_ok-by_column.ensures.matrix c.in_ok-at_leads.ensures.matrix c.in_ok-at_free.ensures.matrix c.in_ok-x.ensures.matrix c.deref.ensures.value in
-    (
+    c.rows-rows.ensures.matrix c.in_ok-by_column.ensures.matrix c.in_ok-at_leads.ensures.matrix c.in_ok-at_free.ensures.matrix c.in_ok-x.ensures.matrix c.deref.ensures.value in (
       c.in_ok-x.ensures.modulus ∙ c.in_ok-at_leads.ensures.modulus ∙ c.in_ok-by_column.ensures.modulus ∙ c.rows-rows.ensures.modulus,
       rw made (column_matrix p E last leads free order z two c.leads-leads.ensures.sound (omega (arith, width, c.requires)) c.leads-leads.ensures.long columns side),
       omega (arith, ap (λ m. m.height) made, columns.order_long, width, c.requires),
@@ -112,8 +110,7 @@ returns-clause-answers c = λ q A b prime m v form.
     (λ h. let at_end : c.ends_at.result ≡ true = c.ends_at.ensures.1 (omega (arith, h.0, ap length c.leads-leads.ensures.value), ap (λ ls. slice_index ls (length ls - 1)) c.leads-leads.ensures.value ∙ h.1) in let not_at_end : c.ends_at.result ≡ false = c.if-ends_at.false in cc) k l in
     let made : c.in_ok-x.x.matrix ≡ column_of E last z order =
     column_made E c.rows-rows.result.now.matrix c.in_ok-by_column.by_column.matrix c.in_ok-at_leads.at_leads.matrix c.in_ok-at_free.at_free.matrix c.in_ok-x.x.matrix last z order c.deref.result.now
-    c.rows-rows.ensures.matrix c.in_ok-by_column.ensures.matrix c.in_ok-at_leads.ensures.matrix c.in_ok-at_free.ensures.matrix c.in_ok-x.ensures.matrix c.deref.ensures.value in
-    (
+    c.rows-rows.ensures.matrix c.in_ok-by_column.ensures.matrix c.in_ok-at_leads.ensures.matrix c.in_ok-at_free.ensures.matrix c.in_ok-x.ensures.matrix c.deref.ensures.value in (
       ap (λ m. m.height) made ∙ columns.order_long ∙ same,
       rw made (column_solves q E last leads free order z prime.two_or_more form.matrix (omega (arith, width, c.requires)) c.leads-leads.ensures.long columns side A b m v (form.rref prime) (form.leads prime) below same),
     )
