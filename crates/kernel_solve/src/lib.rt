@@ -8,6 +8,8 @@ mod inverses;
 mod outcome;
 mod places;
 mod systems;
+#[cfg(test)]
+mod tests;
 
 pub use bases::{kernel, left_kernel};
 pub use inverses::inverse;
