@@ -1,5 +1,5 @@
 -- What callers see of an echelon form.
-use Rattle.std.specs.Prelude.{◌≡◌, ◌<◌, ◌≤◌, ℕ, List, length}
+use Rattle.std.specs.Prelude.{◌≡◌, ℕ, List, length}
 use Rattle.residue_words.specs.Residues.{IsPrime}
 use Rattle.residue_words.specs.Matrix.{Matrix, IsMatrix}
 use Rattle.row_space.specs.Echelon.{HasLeads, IsRref}
@@ -18,3 +18,9 @@ pub record IsFormOf (p : ℕ) (A : Matrix) (f : Form) : Type 0 where
   pub rank : length f.leads ≡ f.matrix.height
   pub rref : IsPrime p → IsRref p A f.matrix
   pub leads : IsPrime p → HasLeads f.matrix f.leads
+
+-- what holds of each form: as many leads as rows, and for a prime modulus they are the leads
+pub record IsEchelon (f : Form) : Type 0 where
+  pub matrix : IsMatrix f.modulus f.matrix
+  pub rank : length f.leads ≡ f.matrix.height
+  pub leads : IsPrime f.modulus → HasLeads f.matrix f.leads

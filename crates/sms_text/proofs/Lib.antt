@@ -1,4 +1,5 @@
 pub mod Digits
+pub mod Falling
 pub mod Feeding
 pub mod Filling
 pub mod Following
@@ -9,7 +10,9 @@ pub mod Puts
 pub mod RoundTrip
 pub mod Runs
 pub mod Values
+pub mod Whole
 pub mod Words
 pub mod WrittenLines
 pub mod WrittenNumbers
+pub mod WrittenRows
 pub mod WrittenValues

@@ -78,19 +78,19 @@ read_whole p room number (due ∷ dues) [] = λ e. cc
 read_whole p room number (due ∷ dues) (l ∷ ls) = whole_line p number due dues (room - size l) (ltb room (size l)) l.closed (is_void (words (content l.bytes))) (words (content l.bytes)) ls
     (read_whole p (room - size l) (number + 1) (due ∷ dues) ls) (λ d. read_whole p (room - size l) (number + 1) (d ++ dues) ls)
 
-with_items_push : (items : List Item) (item : Item) (reading : Reading) → with_items (items ++ item ∷ []) reading ≡ with_items items (with_item item reading)
+pub with_items_push : (items : List Item) (item : Item) (reading : Reading) → with_items (items ++ item ∷ []) reading ≡ with_items items (with_item item reading)
 with_items_push [] item reading = refl
 with_items_push (i ∷ items) item reading = ap (with_item i) (with_items_push items item reading)
 
-with_items_got : (items : List Item) (rest : List Line) → with_items items (Got [] rest) ≡ Got items rest
+pub with_items_got : (items : List Item) (rest : List Line) → with_items items (Got [] rest) ≡ Got items rest
 with_items_got [] rest = refl
 with_items_got (i ∷ items) rest = ap (with_item i) (with_items_got items rest)
 
-with_items_fault : (items : List Item) (line : ℕ) (k : Kind) → with_items items (Fault line k) ≡ Fault line k
+pub with_items_fault : (items : List Item) (line : ℕ) (k : Kind) → with_items items (Fault line k) ≡ Fault line k
 with_items_fault [] line k = refl
 with_items_fault (i ∷ items) line k = ap (with_item i) (with_items_fault items line k)
 
-with_items_short : (items : List Item) → with_items items Short ≡ Short
+pub with_items_short : (items : List Item) → with_items items Short ≡ Short
 with_items_short [] = refl
 with_items_short (i ∷ items) = ap (with_item i) (with_items_short items)
 
@@ -105,7 +105,7 @@ run_begins p limit wanted told = record {
 }
 
 -- of a call of a reader that is sound
-line_takes : (p : ℕ) (due : Due) (old new : ReaderState) (told told' : Option (List ℕ)) (f g : ℕ) (result : Result Judged TextError) →
+pub line_takes : (p : ℕ) (due : Due) (old new : ReaderState) (told told' : Option (List ℕ)) (f g : ℕ) (result : Result Judged TextError) →
     old.error ≡ None → LineDid p due old new told told' f g result → Takes p due old new told told' f g result
 line_takes p due old new told told' f g result sound h = rw sound at h
 

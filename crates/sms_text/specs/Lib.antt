@@ -8,5 +8,6 @@ pub mod Outside
 pub mod Reading
 pub mod Spelling
 pub mod Text
+pub mod Whole
 pub mod Writing
 pub mod Written

@@ -1,5 +1,5 @@
 // Texts, read line by line.
-ghost use Rattle.std.specs.Prelude.{◌≡◌, ◌≢◌, ◌<◌, ◌≤◌, ◌+◌, ◌^◌, ℕ, true, IfOk};
+ghost use Rattle.std.specs.Prelude.{◌≡◌, ◌≢◌, ◌<◌, ◌≤◌, ◌+◌, ◌^◌, ℕ, true, IfOk, OnErr};
 ghost use Rattle.sms_text.specs.Lines.{lines};
 ghost use Rattle.sms_text.specs.Text.{Header, Body};
 ghost use Rattle.sms_text.specs.Reading.{LineDid, WordsDid, LeavesOpen, Unfinished, Unknown, header_judged, entry_judged, is_of_words, new_reader, next, one};
@@ -78,6 +78,7 @@ impl Reader {
         requires { self.old.open_text ≡ None }
         ensures did { (p : ℕ) → LineDid p Header self.old self.new (S.told source.old) (S.told source.new) (S.faults source.old) (S.faults source.new) (header_judged result) }
         ensures opens { IfOk result (λ h. (self.new.open_text ≡ Some (h.m, h.n)) × (h.m ≤ 2147483647) × (h.n ≤ 2147483647)) }
+        ensures stays { OnErr result (self.new.open_text ≡ self.old.open_text) }
         ensures count { S.faults source.old ≤ S.faults source.new }
         ensures lazy { (p : ℕ) → self.old.error ≡ None → one p self.old.ended self.old.room self.old.number Header (lines self.old.kept) ≢ Unfinished → source.new ≡ source.old }
     {
@@ -102,6 +103,7 @@ impl Reader {
         requires { self.old.open_text ≡ Some (head.now.m, head.now.n) }
         ensures did { LineDid p.now (Body head.now.m head.now.n) self.old self.new (S.told source.old) (S.told source.new) (S.faults source.old) (S.faults source.new) (entry_judged head.now result) }
         ensures open { IfOk result (LeavesOpen head.now p.now self.new) }
+        ensures stays { OnErr result (self.new.open_text ≡ self.old.open_text) }
         ensures count { S.faults source.old ≤ S.faults source.new }
         ensures lazy { self.old.error ≡ None → one p.now self.old.ended self.old.room self.old.number (Body head.now.m head.now.n) (lines self.old.kept) ≢ Unfinished → source.new ≡ source.old }
     {

@@ -1,5 +1,5 @@
 -- What the loops keep, and how it grows.
-use Rattle.std.proofs.Common.{ℕ, suc, ◌≡◌, ◌≢◌, ◌+◌, ◌-◌, ◌*◌, ◌%◌, ◌<◌, ◌≤◌, ◌⊎◌, inl, inr, List, [], ◌∷◌, ◌++◌, length, map, take, cond, eqb, slice_index, slice_set, sym, refl, ap, ap₂, ◌∙◌, arith}
+use Rattle.std.proofs.Common.{ℕ, ◌≡◌, ◌+◌, ◌-◌, ◌*◌, ◌%◌, ◌<◌, ◌≤◌, inl, inr, List, [], ◌∷◌, ◌++◌, length, map, take, cond, eqb, slice_index, slice_set, sym, ap, ap₂, ◌∙◌, arith}
 use Rattle.std.specs.List.{range_with_len}
 use Rattle.std.specs.Prelude.{◌==◌, if◌then◌else◌}
 use Rattle.std.proofs.lemmas.Bool.{cases_eq, cases_lt, cond-true, cond-false, eq-eqb, ne_eqb}
@@ -8,12 +8,12 @@ use Rattle.std.proofs.lemmas.List.FromFn.{map-range_with_len_more}
 use Rattle.residue_words.specs.Matrix.{Matrix, list_of, row, zeros}
 use Rattle.residue_words.proofs.Vectors.{at_list_of, at_zeros, length_list_of, list_equal}
 use Rattle.residue_words.specs.Residues.{sum_below}
-use Rattle.residue_words.specs.Matrix.{IsMatrix, IsVector, entry}
+use Rattle.residue_words.specs.Matrix.{IsVector, entry}
 use Rattle.residue_words.proofs.Residues.{add_same}
 use Rattle.residue_words.proofs.Sums.{sum_more, sum_none}
 use native.Mathlib.Nat.{mod-mod, zero-mod}
 use Rattle.sparse_rows.proofs.Spread.{entry_beyond, entry_push_other, entry_push_same, sum_over_support}
-use Rattle.sparse_rows.specs.Rows.{ResidueMatrix, ResidueRow, identity, matrix_by, nonzeros, selected, support}
+use Rattle.sparse_rows.specs.Rows.{ResidueMatrix, ResidueRow, matrix_by, nonzeros, selected, support}
 use Rattle.sparse_rows.specs.Stored.{entry_at, with_row}
 
 -- the matrix of this size with these rows
@@ -34,6 +34,7 @@ selected_more A named i = ap₂ (λ h rs. sized h A.width rs) (sym (length_push 
 pub length_zeros : (n : ℕ) → length (zeros n) ≡ n
 length_zeros n = length_list_of n (λ j. 0)
 
+-- each entry of a cleared row is 0
 pub zero_at : (u : List ℕ) (n : ℕ) → u ≡ zeros n → (k : ℕ) → k < length u → slice_index u k ≡ 0
 zero_at u n e k l = ap (λ t. slice_index t k) e ∙ at_zeros n k (omega (arith, ap length e, length_zeros n))
 
@@ -90,11 +91,8 @@ pub record IsCopiedSoFar (by k : ℕ) (cs vs old new : List ℕ) : Type 0 where
   pub before : (j : ℕ) → j < by → slice_index new j ≡ slice_index old j
   pub inside : (j : ℕ) → by + j < length old → slice_index new (by + j) ≡ entry_at (take k cs) (take k vs) j
 
-pub copied_none : (by : ℕ) (cs vs old : List ℕ) → ((j : ℕ) → by ≤ j → j < length old → slice_index old j ≡ 0) → IsCopiedSoFar by 0 cs vs old old
-copied_none by cs vs old z = record { long = refl; before = λ j l. refl; inside = λ j l. z (by + j) (omega arith) l }
-
 module _ (by k : ℕ) (cs vs old new : List ℕ) (long : length cs ≡ length vs) (rising : (s t : ℕ) → s < t → t < length cs → slice_index cs s < slice_index cs t)
-  (l : k < length cs) (so_far : IsCopiedSoFar by k cs vs old new) where
+    (l : k < length cs) (so_far : IsCopiedSoFar by k cs vs old new) where
   -- the columns so far are below the next
   earlier : (t : ℕ) → t < length (take k cs) → slice_index (take k cs) t < slice_index cs k
   earlier t b =
@@ -147,6 +145,7 @@ pub record IsBesideSoFar (A B : ResidueMatrix) (i : ℕ) (rows : ResidueMatrix) 
   pub row_modulus : to.modulus ≡ A.modulus
   pub row_length : length to.row ≡ A.matrix.width + B.matrix.width
 
+-- one row more of two matrices side by side
 pub beside_more : (A B : Matrix) (i w : ℕ) (r : List ℕ) → r ≡ row A i ++ row B i →
     with_row (sized i w (map (λ k. row A k ++ row B k) (range_with_len 0 i))) r ≡ sized (i + 1) w (map (λ k. row A k ++ row B k) (range_with_len 0 (i + 1)))
 beside_more A B i w r e =

@@ -3,7 +3,7 @@ use Rattle.std.proofs.Common.{ℕ, zero, suc, ◌≡◌, ◌≢◌, ◌+◌, ◌
 use Rattle.std.specs.List.{range_with_len}
 use Rattle.std.proofs.lemmas.Bool.{cases_eq, cases_lt, cond-true, cond-false, eq-eqb, ne_eqb}
 use Rattle.std.proofs.lemmas.List.{get_or_append_left, get_or_push, get_or-set_other, get_or-set_same, length-set, length_push}
-use Rattle.residue_words.specs.Matrix.{IsVector, list_of, zeros}
+use Rattle.residue_words.specs.Matrix.{IsVector, zeros}
 use Rattle.residue_words.specs.Residues.{sum_below}
 use Rattle.residue_words.proofs.Sums.{sum_support, sum_equal}
 use Rattle.residue_words.proofs.Vectors.{at_list_of, length_list_of, list_equal}
@@ -43,12 +43,15 @@ entry_before k n (c ∷ cs) (v ∷ vs) j l a = entry_tail c cs v vs j (omega (ar
 support_zero : (k x : ℕ) (xs : List ℕ) → x ≡ 0 → support_from k (x ∷ xs) ≡ support_from (k + 1) xs
 support_zero k x xs e = cond-true (eqb x 0) _ _ (eq-eqb x 0 e)
 
+-- a nonzero entry is in the support
 support_some : (k x : ℕ) (xs : List ℕ) → 0 < x → support_from k (x ∷ xs) ≡ k ∷ support_from (k + 1) xs
 support_some k x xs p = cond-false (eqb x 0) _ _ (ne_eqb x 0 (omega arith))
 
+-- a zero is not among the nonzero entries
 nonzeros_zero : (x : ℕ) (xs : List ℕ) → x ≡ 0 → nonzeros (x ∷ xs) ≡ nonzeros xs
 nonzeros_zero x xs e = cond-true (eqb x 0) _ _ (eq-eqb x 0 e)
 
+-- a nonzero entry is
 nonzeros_some : (x : ℕ) (xs : List ℕ) → 0 < x → nonzeros (x ∷ xs) ≡ x ∷ nonzeros xs
 nonzeros_some x xs p = cond-false (eqb x 0) _ _ (ne_eqb x 0 (omega arith))
 
@@ -100,11 +103,13 @@ ascends_low k n [] a t l = absurd (omega arith)
 ascends_low k n (c ∷ cs) a zero l = a.0
 ascends_low k n (c ∷ cs) a (suc t) l = omega (arith, ascends_low (c + 1) n cs a.2 t (omega arith), a.0)
 
+-- each column is below the last bound
 ascends_below : (k n : ℕ) (cs : List ℕ) → Ascends k n cs → (t : ℕ) → t < length cs → slice_index cs t < n
 ascends_below k n [] a t l = absurd (omega arith)
 ascends_below k n (c ∷ cs) a zero l = a.1
 ascends_below k n (c ∷ cs) a (suc t) l = ascends_below (c + 1) n cs a.2 t (omega arith)
 
+-- each column is below the later ones
 ascends_rising : (k n : ℕ) (cs : List ℕ) → Ascends k n cs → (s t : ℕ) → s < t → t < length cs → slice_index cs s < slice_index cs t
 ascends_rising k n [] a s t l b = absurd (omega arith)
 ascends_rising k n (c ∷ cs) a zero zero l b = absurd (omega arith)
@@ -117,11 +122,13 @@ values : (p : ℕ) (vs : List ℕ) → ((t : ℕ) → t < length vs → 0 < slic
 values p [] low high = tt
 values p (v ∷ vs) low high = (low 0 (omega arith), high 0 (omega arith), values p vs (λ t l. low (suc t) (omega arith)) (λ t l. high (suc t) (omega arith)))
 
+-- each value is positive
 values_positive : (p : ℕ) (vs : List ℕ) → AreValues p vs → (t : ℕ) → t < length vs → 0 < slice_index vs t
 values_positive p [] a t l = absurd (omega arith)
 values_positive p (v ∷ vs) a zero l = a.0
 values_positive p (v ∷ vs) a (suc t) l = values_positive p vs a.2 t (omega arith)
 
+-- each value is below p
 values_residues : (p : ℕ) (vs : List ℕ) → AreValues p vs → (t : ℕ) → t < length vs → slice_index vs t < p
 values_residues p [] a t l = absurd (omega arith)
 values_residues p (v ∷ vs) a zero l = a.1
@@ -137,9 +144,11 @@ sparse p n cs vs e a b = record {
   residues = values_residues p vs b;
 }
 
+-- the columns of a row ascend
 pub columns_ascend : {p n : ℕ} {cs vs : List ℕ} → IsSparse p n cs vs → Ascends 0 n cs
 columns_ascend {p} {n} {cs} {vs} s = ascends 0 n cs (λ t l. omega arith) s.below s.rising
 
+-- the values of a row are positive residues
 values_within : {p n : ℕ} {cs vs : List ℕ} → IsSparse p n cs vs → AreValues p vs
 values_within {p} {n} {cs} {vs} s = values p vs s.positive s.residues
 
@@ -148,6 +157,7 @@ pub length_spread : (n : ℕ) (cs vs : List ℕ) → length (spread n cs vs) ≡
 unfolding spread
 length_spread n cs vs = length_list_of n (entry_at cs vs)
 
+-- the entry at j is the stored one
 pub at_spread : (n : ℕ) (cs vs : List ℕ) (j : ℕ) → j < n → slice_index (spread n cs vs) j ≡ entry_at cs vs j
 unfolding spread
 at_spread n cs vs j l = at_list_of n (entry_at cs vs) j l
@@ -157,6 +167,7 @@ pub support_spread : {p n : ℕ} {cs vs : List ℕ} → IsSparse p n cs vs → s
 unfolding spread
 support_spread {p} {n} {cs} {vs} s = (support_of p 0 n cs vs s.long (subst (λ t. Ascends 0 t cs) (let e : n ≡ 0 + n = omega arith in e) (columns_ascend s)) (values_within s)).0
 
+-- and its nonzero entries the stored values
 pub nonzeros_spread : {p n : ℕ} {cs vs : List ℕ} → IsSparse p n cs vs → nonzeros (spread n cs vs) ≡ vs
 unfolding spread
 nonzeros_spread {p} {n} {cs} {vs} s = (support_of p 0 n cs vs s.long (subst (λ t. Ascends 0 t cs) (let e : n ≡ 0 + n = omega arith in e) (columns_ascend s)) (values_within s)).1
@@ -272,6 +283,7 @@ entry_push_other (c ∷ cs) [] j v i e d = absurd (omega arith)
 entry_push_other (c ∷ cs) (w ∷ vs) j v i e d =
     ap (cond (eqb c i) w) (entry_push_other cs vs j v i (omega arith) d)
 
+-- at the new column stands the new value
 pub entry_push_same : (cs vs : List ℕ) (j v : ℕ) → length cs ≡ length vs → ((k : ℕ) → k < length cs → slice_index cs k < j) → entry_at (cs ++ j ∷ []) (vs ++ v ∷ []) j ≡ v
 entry_push_same [] [] j v e below = entry_head j [] v []
 entry_push_same [] (w ∷ vs) j v e below = absurd (omega arith)
@@ -337,11 +349,13 @@ entry_rest : (k : ℕ) (xs : List ℕ) → ((i : ℕ) → entry_at (support_from
     (i : ℕ) → entry_at (support_from (k + 1) xs) (nonzeros xs) (k + suc i) ≡ slice_index xs i
 entry_rest k xs h i = ap (entry_at (support_from (k + 1) xs) (nonzeros xs)) (let e : k + suc i ≡ k + 1 + i = omega arith in e) ∙ h i
 
+-- the entries of a row that begins with 0
 entry_zero : (k x : ℕ) (xs : List ℕ) → ((i : ℕ) → entry_at (support_from (k + 1) xs) (nonzeros xs) (k + 1 + i) ≡ slice_index xs i) → x ≡ 0 →
     (j : ℕ) → entry_at (support_from (k + 1) xs) (nonzeros xs) (k + j) ≡ slice_index (x ∷ xs) j
 entry_zero k x xs h e zero = entry_before (k + 1) (k + 1 + length xs) (support_from (k + 1) xs) (nonzeros xs) (k + zero) (omega arith) (support_ascends (k + 1) xs) ∙ sym e
 entry_zero k x xs h e (suc i) = entry_rest k xs h i
 
+-- the entries of a row that begins with another value
 entry_some : (k x : ℕ) (xs : List ℕ) → ((i : ℕ) → entry_at (support_from (k + 1) xs) (nonzeros xs) (k + 1 + i) ≡ slice_index xs i) →
     (j : ℕ) → entry_at (k ∷ support_from (k + 1) xs) (x ∷ nonzeros xs) (k + j) ≡ slice_index (x ∷ xs) j
 entry_some k x xs h zero =
@@ -357,6 +371,7 @@ entry_from k (x ∷ xs) j =
       | inr d ↦ ap₂ (λ cs vs. entry_at cs vs (k + j)) (support_some k x xs (omega arith)) (nonzeros_some x xs (omega arith)) ∙ entry_some k x xs (entry_from (k + 1) xs) j
     ]
 
+-- the same from column 0 on
 pub entry_support : (v : List ℕ) (j : ℕ) → entry_at (support v) (nonzeros v) j ≡ slice_index v j
 entry_support v j = ap (entry_at (support v) (nonzeros v)) (let e : j ≡ 0 + j = omega arith in e) ∙ entry_from 0 v j
 
@@ -367,6 +382,7 @@ support_sparse {p} {n} {v} h =
     (subst (λ t. Ascends 0 t (support v)) (omega (arith, h.len)) (support_ascends 0 v))
     (nonzeros_values p v (λ j l. h.residues j (omega (arith, h.len))))
 
+-- a plain row is what its support and nonzero entries stand for
 pub spread_support : (n : ℕ) (v : List ℕ) → length v ≡ n → spread n (support v) (nonzeros v) ≡ v
 spread_support n v e = list_equal n _ v (length_spread n _ _) e (λ j l. at_spread n _ _ j l ∙ entry_support v j)
 

@@ -1,12 +1,12 @@
 -- Rows one after another in one list, and the matrix that they stand for.
-use Rattle.std.proofs.Common.{ℕ, zero, suc, ◌≡◌, ◌+◌, ◌-◌, ◌<◌, ◌≤◌, ◌⊎◌, inl, inr, List, [], ◌∷◌, ◌++◌, length, map, take, drop, slice_index, slice_range, sym, refl, ap, ap₂, subst, ◌∙◌, arith}
+use Rattle.std.proofs.Common.{ℕ, zero, suc, ◌≡◌, ◌+◌, ◌-◌, ◌<◌, ◌≤◌, inl, inr, List, [], ◌∷◌, ◌++◌, length, map, take, drop, slice_index, slice_range, sym, refl, ap, ap₂, subst, ◌∙◌, arith}
 use Rattle.std.specs.List.{range_with_len}
 use Rattle.std.proofs.lemmas.List.{drop_at, get_or_append_left, get_or_push, length-append, length-drop, length-take-le, length_push, take_all, take-append-le, drop-append-le}
 use Rattle.std.proofs.lemmas.List.FromFn.{get_or-map-range_with_len, length-map-range_with_len, map-range_with_len_more}
 use Rattle.std.proofs.lemmas.Bool.{cases_lt}
 use Rattle.residue_words.specs.Matrix.{IsMatrix, Matrix, row}
 use Rattle.residue_words.specs.Residues.{sum_below}
-use Rattle.residue_words.proofs.Sums.{sum_more, sum_none, sum_equal}
+use Rattle.residue_words.proofs.Sums.{sum_more, sum_none}
 use Rattle.sparse_rows.specs.Rows.{entry_count, nonzeros, support}
 use Rattle.sparse_rows.specs.Stored.{AreStarts, IsSparse, IsStored, part, spread, stored_matrix, stored_row, with_row}
 use Rattle.sparse_rows.proofs.Spread.{map_range_equal, nonzeros_spread, spread_vector, support_spread}
@@ -82,6 +82,7 @@ sized h w r = record { height = h; width = w; rows = r }
 height_is : {p n : ℕ} {starts cs vs : List ℕ} → IsStored p n starts cs vs → length starts ≡ (length starts - 1) + 1
 height_is s = s.parts.long
 
+-- a start more makes one row more
 height_more : (starts : List ℕ) (e : ℕ) → length (starts ++ e ∷ []) - 1 ≡ length starts
 height_more starts e = omega (arith, length_push starts e)
 
@@ -160,6 +161,7 @@ pub support_stored : {p n : ℕ} {starts cs vs : List ℕ} → IsStored p n star
 unfolding stored_row
 support_stored {p} {n} {starts} {cs} {vs} s i l = ap support (row_stored n starts cs vs i l) ∙ support_spread (s.each i l)
 
+-- and its nonzero entries what is stored beside it
 pub nonzeros_stored : {p n : ℕ} {starts cs vs : List ℕ} → IsStored p n starts cs vs → (i : ℕ) → i < length starts - 1 → nonzeros (row (stored_matrix n starts cs vs) i) ≡ part starts vs i
 unfolding stored_row
 nonzeros_stored {p} {n} {starts} {cs} {vs} s i l = ap nonzeros (row_stored n starts cs vs i l) ∙ nonzeros_spread (s.each i l)

@@ -1,12 +1,12 @@
 -- Cells that ascend by columns are summed into a row.
-use Rattle.std.proofs.Common.{ℕ, zero, suc, ◌≡◌, ◌≢◌, ◌+◌, ◌-◌, ◌%◌, ◌<◌, ◌≤◌, ◌⊎◌, inl, inr, true, false, ◌&&◌, List, [], ◌∷◌, ◌++◌, length, take, cond, eqb, slice_index, slice_set, get_or, sym, refl, ap, ap₂, subst, ◌∙◌, arith, mod-lt, mod-eq_of_lt}
+use Rattle.std.proofs.Common.{ℕ, suc, ◌≡◌, ◌≢◌, ◌+◌, ◌%◌, ◌<◌, ◌≤◌, inl, inr, true, false, ◌&&◌, List, [], ◌∷◌, ◌++◌, length, cond, eqb, slice_index, slice_set, sym, refl, ap, ap₂, ◌∙◌, arith}
 use native.Mathlib.Nat.{mod-mod, zero-mod}
-use Rattle.std.specs.List.{All, sum_by, zip}
+use Rattle.std.specs.List.{All, zip}
 use Rattle.std.proofs.lemmas.Bool.{cases_eq, cases_lt, cond-true, cond-false, eq-eqb, ne_eqb}
-use Rattle.std.proofs.lemmas.List.{append_assoc, get_or-set_other, get_or-set_same, length-set, set_past, set-get_or, take_more}
+use Rattle.std.proofs.lemmas.List.{get_or-set_other, get_or-set_same, length-set}
 use Rattle.std.proofs.lemmas.List.Elements.{All-cons, All-nil}
 use Rattle.std.proofs.lemmas.List.Sums.{sum_by-cons, sum_by_push}
-use Rattle.residue_words.specs.Matrix.{list_of, zeros}
+use Rattle.residue_words.specs.Matrix.{list_of}
 use Rattle.residue_words.proofs.Residues.{add_same}
 use Rattle.residue_words.proofs.Vectors.{at_list_of, length_list_of, list_equal, list_of_equal}
 use Rattle.sparse_rows.specs.Rows.{Building, ResidueMatrix, ResidueRow, Triple, matrix_by, sum_at}
@@ -41,17 +41,9 @@ pub record IsSummed (p n : ℕ) (cells : List (ℕ × ℕ)) (column sum : ℕ) (
   pub behind : (t : ℕ) → column ≤ t → t < n → slice_index u t ≡ 0
   pub far : (t : ℕ) → n ≤ t → weight t cells ≡ 0
 
+-- the same at equal columns, sums and rows
 pub summed_along : (p n : ℕ) (cells : List (ℕ × ℕ)) (column column' sum sum' : ℕ) (u u' : List ℕ) → column' ≡ column → sum' ≡ sum → u' ≡ u → IsSummed p n cells column sum u → IsSummed p n cells column' sum' u'
 summed_along p n cells column column' sum sum' u u' a b c s = rw (a, b, c) s
-
-pub summed_none : (p n : ℕ) (u : List ℕ) → length u ≡ n → ((t : ℕ) → t < n → slice_index u t ≡ 0) → IsSummed p n [] 0 0 u
-summed_none p n u e z = record {
-  long = e;
-  here = zero-mod p;
-  others = λ t l d. zero-mod p ∙ sym (z t l);
-  behind = λ t a l. z t l;
-  far = λ t l. refl;
-}
 
 -- the row is put right, and a later column is next
 pub summed_move : (p n : ℕ) (cells : List (ℕ × ℕ)) (column sum : ℕ) (u next : List ℕ) (j : ℕ) → IsSummed p n cells column sum u → next ≡ slice_set u column sum → column < j → IsSummed p n cells j 0 next

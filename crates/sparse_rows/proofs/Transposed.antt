@@ -1,5 +1,5 @@
 -- Entries grouped by their columns are the rows of the transposed matrix.
-use Rattle.std.proofs.Common.{ℕ, zero, suc, ◌≡◌, ◌≢◌, ◌+◌, ◌-◌, ◌<◌, ◌≤◌, ◌⊎◌, inl, inr, List, [], ◌∷◌, ◌++◌, length, map, replicate, take, drop, cond, eqb, slice_index, sym, refl, ap, ap₂, subst, ◌∙◌, arith}
+use Rattle.std.proofs.Common.{ℕ, zero, suc, ◌≡◌, ◌≢◌, ◌+◌, ◌-◌, ◌<◌, ◌≤◌, inl, inr, List, [], ◌∷◌, ◌++◌, length, map, replicate, take, drop, eqb, slice_index, sym, refl, ap, ap₂, subst, ◌∙◌, arith}
 use Rattle.std.specs.List.{range_with_len}
 use Rattle.std.proofs.lemmas.Bool.{cases_eq, cases_lt, cond-true, cond-false, eq-eqb, ne_eqb}
 use Rattle.std.proofs.lemmas.List.{append-nil, length-append, length-replicate, length-take-le, take_all}
@@ -24,9 +24,11 @@ picked_append k (y ∷ ys) ys' (x ∷ xs) xs' e =
       | inr d ↦ cond-false (eqb y k) _ _ (ne_eqb y k d) ∙ rest ∙ sym (ap (λ t. t ++ picked k ys' xs') (cond-false (eqb y k) (x ∷ picked k ys xs) (picked k ys xs) (ne_eqb y k d)))
     ]
 
+-- an item of another key is left out
 picked_skip : (k y : ℕ) (ys : List ℕ) (x : ℕ) (xs : List ℕ) → y ≢ k → picked k (y ∷ ys) (x ∷ xs) ≡ picked k ys xs
 picked_skip k y ys x xs d = cond-false (eqb y k) _ _ (ne_eqb y k d)
 
+-- an item of the key is taken
 picked_take : (k y : ℕ) (ys : List ℕ) (x : ℕ) (xs : List ℕ) → y ≡ k → picked k (y ∷ ys) (x ∷ xs) ≡ x ∷ picked k ys xs
 picked_take k y ys x xs e = cond-true (eqb y k) _ _ (eq-eqb y k e)
 
@@ -41,10 +43,12 @@ data AtColumn (k r : ℕ) (cs vs : List ℕ) : Type 0 where
   none : picked k cs (replicate (length cs) r) ≡ [] → picked k cs vs ≡ [] → entry_at cs vs k ≡ 0 → AtColumn k r cs vs
   some : (t : ℕ) → t < length vs → picked k cs (replicate (length cs) r) ≡ r ∷ [] → picked k cs vs ≡ slice_index vs t ∷ [] → entry_at cs vs k ≡ slice_index vs t → AtColumn k r cs vs
 
+-- a column before k changes nothing
 at_column_skip : (k r c : ℕ) (cs : List ℕ) (v : ℕ) (vs : List ℕ) → c ≢ k → AtColumn k r cs vs → AtColumn k r (c ∷ cs) (v ∷ vs)
 at_column_skip k r c cs v vs d (none a b e) = none (picked_skip k c cs r _ d ∙ a) (picked_skip k c cs v vs d ∙ b) (entry_tail c cs v vs k d ∙ e)
 at_column_skip k r c cs v vs d (some t l a b e) = some (suc t) (omega (arith, l)) (picked_skip k c cs r _ d ∙ a) (picked_skip k c cs v vs d ∙ b) (entry_tail c cs v vs k d ∙ e)
 
+-- each row has nothing at column k, or its entry
 at_column : (k r low n : ℕ) (cs vs : List ℕ) → length cs ≡ length vs → Ascends low n cs → AtColumn k r cs vs
 at_column k r low n [] vs e a = none refl refl refl
 at_column k r low n (c ∷ cs) [] e a = absurd (omega arith)
@@ -154,7 +158,7 @@ module _ (p n : ℕ) (starts cs vs : List ℕ) (stored : IsStored p n starts cs 
       (column_until h (omega arith))))
 
 module _ (p n : ℕ) (starts cs vs : List ℕ) (stored : IsStored p n starts cs vs) (starts' is ws : List ℕ) (parts : AreStarts n (length cs) starts')
-  (holds : HoldsGroups n cs (part_numbers (length starts - 1) starts) starts' is) (holds_values : HoldsGroups n cs vs starts' ws) (long : length is ≡ length cs) (long_values : length ws ≡ length cs) where
+    (holds : HoldsGroups n cs (part_numbers (length starts - 1) starts) starts' is) (holds_values : HoldsGroups n cs vs starts' ws) (long : length is ≡ length cs) (long_values : length ws ≡ length cs) where
   column : (k : ℕ) → k < n → IsColumn p k (length starts - 1) starts cs vs (part starts' is k) (part starts' ws k)
   column k l = column_is p n starts cs vs stored k (part starts' is k) (part starts' ws k) (holds k l) (holds_values k l)
 

@@ -1,5 +1,5 @@
 -- What compressed rows stand for: a plain matrix with its modulus, a plain row, a list.
-use Rattle.std.specs.Prelude.{◌≡◌, ◌+◌, ◌%◌, ◌==◌, ◌&&◌, if◌then◌else◌, ℕ, List, [], ◌∷◌, ◌++◌, length, map}
+use Rattle.std.specs.Prelude.{◌+◌, ◌%◌, ◌==◌, ◌&&◌, if◌then◌else◌, ℕ, List, [], ◌∷◌, ◌++◌, length, map}
 use Rattle.std.specs.List.{range_with_len}
 use Rattle.residue_words.specs.Matrix.{Matrix, entry, list_of, row}
 use Rattle.residue_words.specs.Residues.{sum_below}

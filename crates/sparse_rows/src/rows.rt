@@ -1,5 +1,5 @@
 // A matrix as compressed rows.
-ghost use Rattle.std.specs.Prelude.{◌≡◌, ◌<◌, ◌≤◌, ◌+◌, ◌*◌, ◌%◌, ◌^◌, ℕ, [], ◌∷◌, ◌++◌, length, slice_index, All, IfOk, OnOk};
+ghost use Rattle.std.specs.Prelude.{◌≡◌, ◌<◌, ◌≤◌, ◌+◌, ◌*◌, ◌%◌, ◌^◌, ℕ, [], ◌∷◌, ◌++◌, length, slice_index, All, IfOk, OnErr, OnOk};
 ghost use Rattle.residue_words.specs.Matrix.{IsMatrix, IsVector, apply, entry, row};
 ghost use Rattle.residue_words.specs.Residues.{sum_below};
 ghost use Rattle.sparse_rows.specs.Rows.{beside, entry_count, identity, nonzeros, selected, support, transposed};
@@ -35,8 +35,8 @@ impl Model for Rows {
 }
 
 impl Rows {
-    // The matrix with no row, and room for these rows and entries.
-    pub(crate) fn with_room(
+    /// The matrix with no row, and room for these rows and entries.
+    pub fn with_room(
         alloc: Global,
         modulus: Modulus,
         width: u32,
@@ -66,6 +66,7 @@ impl Rows {
         requires sparse { IsSparse self.old.modulus self.old.matrix.width cols.now vals.now }
         ensures modulus { self.new.modulus ≡ self.old.modulus }
         ensures matrix { OnOk result (self.new.matrix ≡ with_row self.old.matrix (spread self.old.matrix.width cols.now vals.now)) }
+        ensures err { OnErr result (self.new.matrix ≡ self.old.matrix) }
     {
         self.starts.reserve(1)?;
         self.vals.reserve(vals.len())?;
@@ -75,13 +76,14 @@ impl Rows {
         Ok(())
     }
 
-    // Appends a row.
-    pub(crate) fn append(&mut self, row: &Sparse) -> Result<(), AllocError>
+    /// Appends a row. Where memory is wanted the matrix is as before.
+    pub fn append(&mut self, row: &Sparse) -> Result<(), AllocError>
         requires height_small { self.old.matrix.height < 2147483648 }
         requires modulus { row.now.modulus ≡ self.old.modulus }
         requires width { length row.now.row ≡ self.old.matrix.width }
         ensures modulus { self.new.modulus ≡ self.old.modulus }
         ensures matrix { OnOk result (self.new.matrix ≡ with_row self.old.matrix row.now.row) }
+        ensures err { OnErr result (self.new.matrix ≡ self.old.matrix) }
     {
         self.append_slices(row.cols(), row.vals())
     }

@@ -38,11 +38,39 @@ fn listed(alloc: Global, rows: &Rows) -> Result<Vec<(u32, u32, u64)>, AllocError
 fn small_matrices(rt: HostRuntime) -> Result<(), Fail> {
     let alloc = rt.alloc();
     let p = Modulus::new(7);
-    let x = built(alloc, 3, 3, &[(2, 1, 5), (0, 1, 4), (0, 0, 2), (2, 1, 1), (0, 2, 1), (1, 0, 1), (1, 1, 2), (2, 0, 3), (2, 2, 1)])?;
+    let x = built(
+        alloc,
+        3,
+        3,
+        &[
+            (2, 1, 5),
+            (0, 1, 4),
+            (0, 0, 2),
+            (2, 1, 1),
+            (0, 2, 1),
+            (1, 0, 1),
+            (1, 1, 2),
+            (2, 0, 3),
+            (2, 2, 1),
+        ],
+    )?;
     let column = built(alloc, 3, 1, &[(0, 0, 1), (2, 0, 1)])?;
 
     let transposed = listed(alloc, &x.transpose(alloc)?)?;
-    assert_eq!(rt; transposed.as_slice(), [(0, 0, 2), (0, 1, 1), (0, 2, 3), (1, 0, 4), (1, 1, 2), (1, 2, 6), (2, 0, 1), (2, 2, 1)].as_slice());
+    assert_eq!(rt;
+        transposed.as_slice(),
+        [
+            (0, 0, 2),
+            (0, 1, 1),
+            (0, 2, 3),
+            (1, 0, 4),
+            (1, 1, 2),
+            (1, 2, 6),
+            (2, 0, 1),
+            (2, 2, 1)
+        ]
+        .as_slice()
+    );
 
     let beside = x.beside(alloc, &column)?;
     assert_eq!(rt; beside.width(), 4);
@@ -50,12 +78,32 @@ fn small_matrices(rt: HostRuntime) -> Result<(), Fail> {
     assert_eq!(rt; beside.vals(2), [3, 6, 1, 1].as_slice());
 
     let selected = listed(alloc, &x.select(alloc, &[2, 0])?)?;
-    assert_eq!(rt; selected.as_slice(), [(0, 0, 3), (0, 1, 6), (0, 2, 1), (1, 0, 2), (1, 1, 4), (1, 2, 1)].as_slice());
+    assert_eq!(rt;
+        selected.as_slice(),
+        [
+            (0, 0, 3),
+            (0, 1, 6),
+            (0, 2, 1),
+            (1, 0, 2),
+            (1, 1, 4),
+            (1, 2, 1)
+        ]
+        .as_slice()
+    );
 
-    assert_eq!(rt; x.times(alloc, &[5, 1, 0])?.as_slice(), [0, 0, 0].as_slice());
-    assert_eq!(rt; listed(alloc, &x.copy(alloc)?)?.as_slice(), listed(alloc, &x)?.as_slice());
+    assert_eq!(rt;
+        x.times(alloc, &[5, 1, 0])?.as_slice(),
+        [0, 0, 0].as_slice()
+    );
+    assert_eq!(rt;
+        listed(alloc, &x.copy(alloc)?)?.as_slice(),
+        listed(alloc, &x)?.as_slice()
+    );
     assert_eq!(rt; built(alloc, 1, 1, &[(0, 0, 3), (0, 0, 4)])?.entries(), 0);
-    assert_eq!(rt; listed(alloc, &Rows::identity(alloc, 2, &p)?)?.as_slice(), [(0, 0, 1), (1, 1, 1)].as_slice());
+    assert_eq!(rt;
+        listed(alloc, &Rows::identity(alloc, 2, &p)?)?.as_slice(),
+        [(0, 0, 1), (1, 1, 1)].as_slice()
+    );
     Ok(())
 }
 

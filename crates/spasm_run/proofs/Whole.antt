@@ -1,18 +1,19 @@
 -- From what the parts of a run do to what it did.
-use Rattle.std.proofs.Common.{ℕ, Bool, true, false, ◌≡◌, List, [], ◌∷◌, ◌++◌, map, Option, None, Some, Result, Ok, Err, refl, sym, ap, ◌∙◌, subst, inl, inr}
-use Rattle.residue_words.specs.Matrix.{Matrix}
+use Rattle.std.proofs.Common.{ℕ, Bool, true, false, ◌≡◌, List, [], ◌∷◌, ◌++◌, Option, None, Some, Ok, Err, refl, sym, ap, ◌∙◌, subst, inl, inr, append-nil}
 use Rattle.residue_words.specs.Residues.{IsPrime}
 use Rattle.row_space.specs.Echelon.{HasRank}
 use Rattle.sms_text.specs.declared.kind.TextError.{TextError}
 use Rattle.sms_text.specs.declared.kind.TextError.TheVariants as error
-use Rattle.sms_text.specs.declared.reader.Entry.{Entry}
 use Rattle.sms_text.specs.declared.write.WriteFault.{WriteFault}
 use Rattle.sms_text.specs.Lines.{lines}
 use Rattle.sms_text.specs.Outside.{before, behind, IsSpent}
-use Rattle.sms_text.specs.Reading.{FromStart}
-use Rattle.sms_text.specs.Text.{Header, Item, Closing, Got, Fault, matrices, matrix_of, read}
+use Rattle.sms_text.specs.Reading.{ReaderState, new_reader}
+use Rattle.sms_text.specs.Whole.{RowsDid, IsNoMatrix}
+use Rattle.sms_text.proofs.Moving.{stays_at}
+use Rattle.sms_text.proofs.Runs.{with_items_got}
+use Rattle.sparse_rows.specs.Rows.{ResidueMatrix}
+use Rattle.sms_text.specs.Text.{Header, Got, Fault, read}
 use Rattle.sms_text.specs.Writing.{Writes}
-use Rattle.spasm_run.specs.declared.read.Text.{Text}
 use Rattle.spasm_run.specs.declared.status.Status.{Status}
 use Rattle.spasm_run.specs.declared.status.Status.TheVariants as status
 use Rattle.spasm_run.specs.declared.words.Command.{Command}
@@ -20,37 +21,58 @@ use Rattle.spasm_run.specs.declared.words.Task.TheVariants.{Rank}
 use Rattle.spasm_run.specs.Answers.{rank_text, wanted}
 use Rattle.spasm_run.specs.Faults.{status_of}
 use Rattle.spasm_run.specs.Ran.{Ran, HasCause, HasAnswer, Completes}
-use Rattle.spasm_run.specs.Texts.{Finds, RankRead, text_items, value_item}
+use Rattle.spasm_run.specs.Texts.{Finds, RankRead}
 use Rattle.spasm_run.specs.Words.{Accepted}
 use Rattle.spasm_run.proofs.Options.{one_command}
 use Rattle.spasm_run.proofs.Stays.{fault_of_all}
 
--- one text is one matrix
-no_matrices : (p : ℕ) (es : List Entry) → matrices p (map value_item es ++ Closing ∷ []) ≡ []
-no_matrices p [] = refl
-no_matrices p (e ∷ es) = no_matrices p es
+-- the rank of the matrix that was read is that of the input
+pub rank_found : (p limit : ℕ) (A : ResidueMatrix) (r : ℕ) (old new : ReaderState) (told told' : Option (List ℕ)) (f g : ℕ) → old ≡ new_reader limit → RowsDid p old new told told' f g (Ok A) →
+    (IsPrime A.modulus → HasRank A.modulus A.matrix r) → RankRead p limit told told' f g (Ok r)
+rank_found p limit A r old new told told' f g begins did ranks =
+    let P : ReaderState → Type 0 = λ o. RowsDid p o new told told' f g (Ok A) in
+    let x = subst P begins did in
+    let taken = x.0 in
+    let moves = x.1 in
+    let whole = x.2 in record {
+      bytes = taken;
+      ended = new.ended;
+      taken = moves.source;
+      spent = λ e. moves.spent e refl;
+      finds = (
+        whole.items,
+        lines (new.kept ++ []),
+        ap (λ bs. read p new.ended limit 1 (Header ∷ []) (lines bs)) (sym (append-nil taken)) ∙ whole.stands.reads new.ended [] [] (stays_at new.ended) ∙ with_items_got whole.items (lines (new.kept ++ [])),
+        λ prime. (A.matrix, whole.matrix, (let Q : ℕ → Type 0 = λ m. IsPrime m → HasRank m A.matrix r in subst Q whole.modulus ranks prime)),
+      );
+    }
 
-one_matrix : (p : ℕ) (t : Text) → matrices p (text_items t) ≡ matrix_of p t.head.m t.head.n (text_items t) ∷ []
-one_matrix p t = ap (λ (l : List Matrix). matrix_of p t.head.m t.head.n (text_items t) ∷ l) (no_matrices p t.entries.items)
+-- what the bytes at hand say where no matrix was read
+no_matrix_says : (p limit : ℕ) (new : ReaderState) (taken : List ℕ) (f g : ℕ) (e : TextError) → IsNoMatrix p (new_reader limit) new taken f g e → Finds p taken new.ended limit f g (Err e)
+no_matrix_says p limit new taken f g (error.Bad line k) why = why.1 []
+no_matrix_says p limit new taken f g error.Read why = (why.1 [], why.2)
+no_matrix_says p limit new taken f g error.Memory why = tt
 
--- the rank of the text's matrix is that of the input
-pub rank_found : (p limit : ℕ) (t : Text) (r : ℕ) (told told' : Option (List ℕ)) (f g : ℕ) → FromStart p limit (Header ∷ []) (Ok (text_items t)) told told' f g →
-    (IsPrime p → HasRank p (matrix_of p t.head.m t.head.n (text_items t)) r) → RankRead p limit told told' f g (Ok r)
-rank_found p limit t r told told' f g (bytes, (ended, taken, spent, (rest, reads))) ranks = record {
-  bytes = bytes;
-  ended = ended;
-  taken = taken;
-  spent = spent;
-  finds = (text_items t, rest, reads, λ prime. (matrix_of p t.head.m t.head.n (text_items t), one_matrix p t, ranks prime));
-}
-
-pub rank_failed : (p limit : ℕ) (e : TextError) (told told' : Option (List ℕ)) (f g : ℕ) → FromStart p limit (Header ∷ []) (Err e) told told' f g →
+-- no matrix was read
+pub rank_failed : (p limit : ℕ) (e : TextError) (old new : ReaderState) (told told' : Option (List ℕ)) (f g : ℕ) → old ≡ new_reader limit → RowsDid p old new told told' f g (Err e) →
     RankRead p limit told told' f g (Err e)
-rank_failed p limit e told told' f g (bytes, (ended, taken, spent, says)) = record { bytes = bytes; ended = ended; taken = taken; spent = spent; finds = says }
+rank_failed p limit e old new told told' f g begins did =
+    let P : ReaderState → Type 0 = λ o. RowsDid p o new told told' f g (Err e) in
+    let x = subst P begins did in record {
+      bytes = x.0;
+      ended = new.ended;
+      taken = x.1.source;
+      spent = λ e. x.1.spent e refl;
+      finds = no_matrix_says p limit new x.0 f g e x.2;
+    }
 
-pub rank_wanted : (p limit : ℕ) (result : Result (List Item) TextError) (told told' : Option (List ℕ)) (f g : ℕ) → FromStart p limit (Header ∷ []) result told told' f g →
-    RankRead p limit told told' f g (Err error.Memory)
-rank_wanted p limit result told told' f g (bytes, (ended, taken, spent, says)) = record { bytes = bytes; ended = ended; taken = taken; spent = spent; finds = tt }
+before_nothing : (told : Option (List ℕ)) → told ≡ before [] told
+before_nothing None = refl
+before_nothing (Some bytes) = refl
+
+-- memory was wanted before anything was read
+pub rank_unread : (p limit : ℕ) (told : Option (List ℕ)) (f : ℕ) → RankRead p limit told told f f (Err error.Memory)
+rank_unread p limit told f = record { bytes = []; ended = false; taken = before_nothing told; spent = λ e. cc; finds = tt }
 
 abbrev rank_command : ℕ → Command
 rank_command p = record { task = Rank; modulus = p }
@@ -63,10 +85,6 @@ answer_found ws p limit r told told' f f' found = record {
   reads = found.finds.2;
   answers = λ prime. let x = found.finds.3 prime in (x.0, r, x.1, x.2, refl);
 }
-
-before_nothing : (told : Option (List ℕ)) → told ≡ before [] told
-before_nothing None = refl
-before_nothing (Some bytes) = refl
 
 -- the rank was found and written, or not written; or no rank was found
 pub ran_done : (ws : List (List ℕ)) (q p limit r : ℕ) (told told' : Option (List ℕ)) (f f' : ℕ) (held held' : Option (List ℕ)) (g g' : ℕ) → q ≡ p → Accepted ws (rank_command p) →

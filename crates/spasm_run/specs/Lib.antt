@@ -1,7 +1,6 @@
 pub mod Answers
 pub mod Faults
 pub mod Options
-pub mod Placed
 pub mod Plain
 pub mod Ran
 pub mod Texts

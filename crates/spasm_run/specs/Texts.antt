@@ -1,31 +1,13 @@
 -- Texts of one matrix, read whole.
-use Rattle.std.specs.Prelude.{◌≡◌, ℕ, List, [], ◌∷◌, ◌++◌, Bool, true, Option, Result, Ok, Err, map}
-use Rattle.std.specs.List.{All}
+use Rattle.std.specs.Prelude.{◌≡◌, ℕ, List, [], ◌∷◌, Bool, true, Option, Result, Ok, Err}
 use Rattle.residue_words.specs.Residues.{IsPrime}
 use Rattle.residue_words.specs.Matrix.{Matrix}
 use Rattle.row_space.specs.Echelon.{HasRank}
 use Rattle.sms_text.specs.declared.kind.TextError.{TextError}
-use Rattle.sms_text.specs.declared.reader.Entry.{Entry}
 use Rattle.sms_text.specs.Lines.{Line, lines}
 use Rattle.sms_text.specs.Outside.{before, IsSpent}
-use Rattle.sms_text.specs.Reading.{IsInside, Says}
-use Rattle.sms_text.specs.Text.{Header, Item, Sizes, Value, Closing, matrices, read, Got}
-use Rattle.spasm_run.specs.declared.read.Text.{Text}
-
--- the items that the lines of a text are
-abbrev pub value_item : Entry → Item
-value_item e = Value e.i e.j e.v
-
-abbrev pub text_items : Text → List Item
-text_items t = Sizes t.head.m t.head.n ∷ (map value_item t.entries.items ++ Closing ∷ [])
-
-abbrev pub items_read : Result Text TextError → Result (List Item) TextError
-items_read (Ok t) = Ok (text_items t)
-items_read (Err e) = Err e
-
--- the entries lie inside the sizes, and their values are residues
-abbrev pub AreInside : ℕ → Text → Type 0
-AreInside p t = All (IsInside t.head p) t.entries.items
+use Rattle.sms_text.specs.Reading.{Says}
+use Rattle.sms_text.specs.Text.{Header, Item, matrices, read, Got}
 
 -- of the bytes of an input: the rank of the one matrix that they are read as, for a prime modulus; or why there is none
 abbrev pub Finds : ℕ → List ℕ → Bool → ℕ → ℕ → ℕ → Result ℕ TextError → Type 0

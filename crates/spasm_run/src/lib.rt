@@ -2,9 +2,8 @@
 #![tactic(auto)]
 
 mod gate;
-mod place;
+mod plain;
 mod rank;
-mod read;
 mod status;
 mod tell;
 #[cfg(test)]

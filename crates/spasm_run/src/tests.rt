@@ -22,21 +22,25 @@ struct Outcome {
     err: MemorySink,
 }
 
-// How the streams of a run behave: pieces, the pull that fails, and the put to the output that fails.
+// How the streams of a run behave: pieces, the room of the output, and the pull, the put to the output and the put to the error stream that fail.
 #[derive(Drop)]
 struct Streams {
     piece: usize,
     pull: u64,
+    room: usize,
     put_piece: usize,
     put: u64,
+    err_put: u64,
 }
 
 // Streams that never fail.
 const CALM: Streams = Streams {
     piece: 64,
     pull: 0,
+    room: 64,
     put_piece: 64,
     put: 0,
+    err_put: 0,
 };
 
 fn list(alloc: Global, fails: u64) -> Result<Vec<u64>, AllocError> {
@@ -61,8 +65,13 @@ fn run_on<R: Threads + Sync>(
 {
     let text = Vec::from_slice(alloc, text)?;
     let mut source = MemorySource::new(text, streams.piece, list(alloc, streams.pull)?);
-    let mut out = MemorySink::new(alloc, 64, streams.put_piece, list(alloc, streams.put)?)?;
-    let mut err = MemorySink::new(alloc, 64, 64, Vec::new(alloc))?;
+    let mut out = MemorySink::new(
+        alloc,
+        streams.room,
+        streams.put_piece,
+        list(alloc, streams.put)?,
+    )?;
+    let mut err = MemorySink::new(alloc, 64, 64, list(alloc, streams.err_put)?)?;
     let status = run_within(
         rt,
         alloc,
@@ -209,40 +218,18 @@ fn a_text_that_is_cut_or_too_long_is_refused(rt: HostRuntime) -> Result<(), Fail
         run_on(&rt, rt.alloc(), &["rank"], text, 18, &CALM)?.status,
         Status::Done
     );
-    let cuts: [(usize, Status); 6] = [
-        (
-            6,
-            Status::BadText {
-                line: 2,
-                kind: Kind::NoEnd,
-            },
-        ),
-        (
-            30,
-            Status::BadText {
-                line: 6,
-                kind: Kind::NoEnd,
-            },
-        ),
-        (
-            54,
-            Status::BadText {
-                line: 10,
-                kind: Kind::NoEnd,
-            },
-        ),
-        (
-            57,
-            Status::BadText {
-                line: 10,
-                kind: Kind::Words,
-            },
-        ),
-        (59, Status::Done),
-        (60, Status::Done),
-    ];
-    for (length, want) in cuts {
-        let (front, _) = X.as_bytes().split_at(length.min(X.len()));
+    for k in 0..10u64 {
+        let (front, _) = X.as_bytes().split_at((6 * k as usize).min(X.len()));
+        let kind = if k == 0 { Kind::NoHeader } else { Kind::NoEnd };
+        let ran = run_on(&rt, rt.alloc(), &["rank"], front, LIMIT, &CALM)?;
+        assert_eq!(rt; ran.status, Status::BadText { line: k + 1, kind }, "at {k}");
+    }
+    let words = Status::BadText {
+        line: 10,
+        kind: Kind::Words,
+    };
+    for (length, want) in [(57, words), (59, Status::Done), (60, Status::Done)] {
+        let (front, _) = X.as_bytes().split_at(X.len().min(length));
         let ran = run_on(&rt, rt.alloc(), &["rank"], front, LIMIT, &CALM)?;
         assert_eq!(rt; ran.status, want, "at {length}");
     }
@@ -270,9 +257,7 @@ fn words_that_are_not_accepted_are_refused(rt: HostRuntime) -> Result<(), Fail> 
 
 #[test]
 fn a_source_that_fails_stops_the_run(rt: HostRuntime) -> Result<(), Fail> {
-    let cases: [(&str, usize, u64, Status); 8] = [
-        (X, 6, 1, Status::ReadFault),
-        (X, 6, 10, Status::ReadFault),
+    let cases: [(&str, usize, u64, Status); 7] = [
         (X, 6, 11, Status::Done),
         (
             "1 1 M\n1 1 x\n0 0 0\n",
@@ -284,6 +269,7 @@ fn a_source_that_fails_stops_the_run(rt: HostRuntime) -> Result<(), Fail> {
             },
         ),
         ("1 1 M\n1 1 x\n0 0 0\n", 8, 2, Status::ReadFault),
+        ("1 1 M\n1 1 x\n0 0 0\n", 6, 1, Status::ReadFault),
         ("1 1 M\n1 1 x\n0 0 0\n", 6, 2, Status::ReadFault),
         (
             "1 1 M\n1 1 x\n0 0 0\n",
@@ -309,8 +295,10 @@ fn a_source_that_fails_stops_the_run(rt: HostRuntime) -> Result<(), Fail> {
         let streams = Streams {
             piece,
             pull,
+            room: 64,
             put_piece: 64,
             put: 0,
+            err_put: 0,
         };
         let ran = run_on(
             &rt,
@@ -326,14 +314,39 @@ fn a_source_that_fails_stops_the_run(rt: HostRuntime) -> Result<(), Fail> {
 }
 
 #[test]
+fn each_pull_that_fails_stops_the_run(rt: HostRuntime) -> Result<(), Fail> {
+    for pull in 1..11 {
+        let streams = Streams {
+            piece: 6,
+            pull,
+            room: 64,
+            put_piece: 64,
+            put: 0,
+            err_put: 0,
+        };
+        let ran = run_on(&rt, rt.alloc(), &["rank"], X.as_bytes(), LIMIT, &streams)?;
+        assert_eq!(rt; ran.status, Status::ReadFault, "at {pull}");
+        assert_eq!(rt;
+            ran.err.content(),
+            b"error 6 read\n".as_slice(),
+            "at {pull}"
+        );
+        assert_eq!(rt; ran.out.content().len(), 0, "at {pull}");
+    }
+    Ok(())
+}
+
+#[test]
 fn an_output_that_fails_holds_what_it_took(rt: HostRuntime) -> Result<(), Fail> {
     let answer = b"rank 2\n".as_slice();
     for put in 1..8 {
         let streams = Streams {
             piece: 64,
             pull: 0,
+            room: 64,
             put_piece: 1,
             put,
+            err_put: 0,
         };
         let ran = run_on(&rt, rt.alloc(), &["rank"], X.as_bytes(), LIMIT, &streams)?;
         assert_eq!(rt; ran.status, Status::WriteFault, "at {put}");
@@ -343,6 +356,40 @@ fn an_output_that_fails_holds_what_it_took(rt: HostRuntime) -> Result<(), Fail> 
             "at {put}"
         );
     }
+    let small = Streams {
+        piece: 64,
+        pull: 0,
+        room: 3,
+        put_piece: 64,
+        put: 0,
+        err_put: 0,
+    };
+    let ran = run_on(&rt, rt.alloc(), &["rank"], X.as_bytes(), LIMIT, &small)?;
+    assert_eq!(rt; ran.status, Status::WriteFault);
+    assert_eq!(rt; ran.out.content(), b"ran".as_slice());
+    assert_eq!(rt; ran.err.content(), b"error 7 write\n".as_slice());
+    Ok(())
+}
+
+#[test]
+fn a_failing_error_stream_changes_no_status(rt: HostRuntime) -> Result<(), Fail> {
+    let streams = Streams {
+        piece: 64,
+        pull: 0,
+        room: 64,
+        put_piece: 64,
+        put: 0,
+        err_put: 1,
+    };
+    let words = ["rank", "--workers", "0"];
+    let ran = run_on(&rt, rt.alloc(), &words, X.as_bytes(), LIMIT, &streams)?;
+    assert_eq!(rt; ran.status, Status::Usage);
+    assert_eq!(rt; ran.err.content().len(), 0);
+    Ok(())
+}
+
+#[test]
+fn steady_streams_give_an_answer(rt: HostRuntime) -> Result<(), Fail> {
     let alloc = rt.alloc();
     let text = Vec::from_slice(alloc, X.as_bytes())?;
     let status = run(

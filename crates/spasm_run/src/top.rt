@@ -2,22 +2,21 @@
 ghost use Rattle.std.specs.Prelude.{◌≡◌, ◌<◌, ◌≤◌, ◌^◌, ℕ, List, IfOk};
 ghost use Rattle.residue_words.specs.Residues.{IsPrime};
 ghost use Rattle.row_space.specs.Echelon.{HasRank};
-ghost use Rattle.sms_text.specs.Text.{matrix_of};
 ghost use Rattle.spasm_run.specs.Words.{Accepted};
 ghost use Rattle.spasm_run.specs.Faults.{SaysWhy, status_of};
 ghost use Rattle.spasm_run.specs.Options.{bytes_of};
 ghost use Rattle.spasm_run.specs.Ran.{Completes, Ran};
-ghost use Rattle.spasm_run.specs.Texts.{AreInside, RankRead, text_items};
+ghost use Rattle.spasm_run.specs.Texts.{RankRead};
 
 use crate::gate::Gate;
-use crate::place::place;
+use crate::plain::plain_rows;
 use crate::rank::rank_of;
-use crate::read::{Text, read_text};
 use crate::status::Status;
 use crate::tell::{tell, write_rank};
 use crate::words::{Task, read_words};
 use residue_words::Modulus;
-use sms_text::{Sink, Source, TextError};
+use sms_text::{Reader, Sink, Source, TextError, read_rows};
+use sparse_rows::Rows;
 use std::alloc::{AllocError, Global};
 use std::thread::Threads;
 
@@ -139,27 +138,27 @@ fn find_rank<S: Source>(
     source: &mut S,
     limit: u64,
 ) -> Result<u64, TextError>
-    requires limit { limit ≤ 1099511627776 }
-    requires two_or_more { 2 ≤ p.now }
+    requires { limit ≤ 1099511627776 }
     ensures did { RankRead p.now limit (S.told source.old) (S.told source.new) (S.faults source.old) (S.faults source.new) result }
     ensures count { S.faults source.old ≤ S.faults source.new }
 {
-    let text = match read_text(alloc, p, source, limit) {
-        Ok(text) => text,
+    let Ok(mut reader) = Reader::new(alloc, limit) else {
+        return Err(TextError::Memory);
+    };
+    let rows = match read_rows(&mut reader, alloc, source, p) {
+        Ok(rows) => rows,
         Err(error) => return Err(error),
     };
-    match rank_of_text(alloc, p, &text) {
+    match rank_of_rows(alloc, &rows) {
         Ok(rank) => Ok(rank as u64),
         Err(_) => Err(TextError::Memory),
     }
 }
 
-// The rank of a text's matrix.
-fn rank_of_text(alloc: Global, p: &Modulus, text: &Text) -> Result<usize, AllocError>
-    requires two_or_more { 2 ≤ p.now }
-    requires inside { AreInside p.now text.now }
-    ensures { IfOk result (λ r. IsPrime p.now → HasRank p.now (matrix_of p.now text.now.head.m text.now.head.n (text_items text.now)) r) }
+// The rank of a matrix.
+fn rank_of_rows(alloc: Global, rows: &Rows) -> Result<usize, AllocError>
+    ensures { IfOk result (λ r. IsPrime rows.now.modulus → HasRank rows.now.modulus rows.now.matrix r) }
 {
-    let rows = place(alloc, p, text)?;
-    rank_of(alloc, p, text.head.n as usize, rows)
+    let plain = plain_rows(alloc, rows)?;
+    rank_of(alloc, &rows.modulus(), rows.width() as usize, plain)
 }

@@ -1,1 +1,3 @@
+pub mod Columns
+pub mod Kept
 pub mod Leads

@@ -83,6 +83,38 @@ fn first_error(
 }
 
 #[test]
+fn sizes_and_entries_are_read_and_an_error_stays(rt: HostRuntime) -> Result<(), Fail> {
+    let p = Modulus::new(7);
+    let long = TextError::Bad {
+        line: 2,
+        kind: Kind::Long,
+    };
+    let first = Entry { i: 0, j: 0, v: 2 };
+    let cases: [(&[u8], u64, u32, Result<Option<Entry>, TextError>); 2] = [
+        (b"3 3 M\n1 1 2\n1 2 4\n0 0 0\n", 99, 3, Ok(Some(first))),
+        (b"1 1 M\n1 1 1\n0 0 0\n", 10, 1, Err(long)),
+    ];
+    for (text, limit, size, want) in cases {
+        assert!(rt; limit <= 99);
+        let mut source = Pieces {
+            rest: text,
+            piece: 5,
+            offered: 0,
+        };
+        let mut reader = Reader::new(rt.alloc(), limit)?;
+        let Ok(head) = reader.header(&mut source) else {
+            return Err(Fail::new("no header"));
+        };
+        assert_eq!(rt; head, Head { m: size, n: size });
+        assert_eq!(rt; reader.entry(&mut source, &head, &p), want);
+        if want.is_err() {
+            assert_eq!(rt; reader.entry(&mut source, &head, &p), want);
+        }
+    }
+    Ok(())
+}
+
+#[test]
 fn the_first_fault_of_each_text_is_named(rt: HostRuntime) -> Result<(), Fail> {
     for piece in [1, 5, 65_536] {
         for (text, p, limit, line, kind) in TEXTS {

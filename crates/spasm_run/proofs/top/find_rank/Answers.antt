@@ -1,6 +1,14 @@
 -- The input is a text of this matrix.
-use Rattle.spasm_run.proofs.Whole.{rank_found}
+use Rattle.spasm_run.proofs.Whole.{rank_found, rank_failed, rank_unread}
 use Rattle.spasm_run.proofs.top.find_rank.Goals as goal
 
-pub returns-in-Ok-rank_of_text-clause-did : goal.returns-in-Ok-rank_of_text-clause-did
-returns-in-Ok-rank_of_text-clause-did g c = rank_found _ _ c.in-Ok.text _ _ _ _ _ c.in-Ok.ensures.did c.in-Ok-rank_of_text.ensures
+pub returns-in_default-clause-did : goal.returns-in_default-clause-did
+returns-in_default-clause-did g c = rank_unread _ _ _ _
+
+pub returns-in-Err-clause-did : goal.returns-in-Err-clause-did
+returns-in-Err-clause-did g c =
+    rank_failed c.args.p.now c.args.limit c.in-Err.error c.in-Ok.reader c.read_rows.new.reader (g.S.Source.told c.args.source.now) (g.S.Source.told c.read_rows.new.source) (g.S.Source.faults c.args.source.now) (g.S.Source.faults c.read_rows.new.source) c.in-Ok.ensures c.in-Err.ensures.did
+
+pub returns-in-Ok-rank_of_rows-clause-did : goal.returns-in-Ok-rank_of_rows-clause-did
+returns-in-Ok-rank_of_rows-clause-did g c =
+    rank_found c.args.p.now c.args.limit c.in-Ok-read_rows.rows _ c.in-Ok.reader c.read_rows.new.reader (g.S.Source.told c.args.source.now) (g.S.Source.told c.read_rows.new.source) (g.S.Source.faults c.args.source.now) (g.S.Source.faults c.read_rows.new.source) c.in-Ok.ensures c.in-Ok-read_rows.ensures.did c.in-Ok-rank_of_rows.ensures

@@ -1,7 +1,6 @@
-use Rattle.std.proofs.Common.{ℕ, ◌≡◌, ◌<◌, ◌≤◌, ◌+◌, ◌%◌, ◌∙◌, List, [], ◌∷◌, ◌++◌, ap, ap₂, arith, length, subst, sym}
+use Rattle.std.proofs.Common.{ℕ, ◌≡◌, ◌+◌, ◌%◌, ◌∙◌, List, [], ap, ap₂, arith, length, subst, sym}
 use Rattle.std.specs.List.{All, zip}
 use Rattle.std.proofs.lemmas.List.Elements.{All-same}
-use Rattle.residue_words.proofs.Vectors.{length_list_of}
 use Rattle.sparse_rows.specs.Rows.{Building, matrix_by, sum_at}
 use Rattle.sparse_rows.specs.Stored.{IsCell, picked, weight, with_row}
 use Rattle.residue_words.specs.Matrix.{list_of}
@@ -52,6 +51,9 @@ sum_cells-requires-clause-within c =
     let here : All (IsCell p n) (zip c.part-cols.result.now c.part-vals.result.now) = rw (cols, vals) (subst (λ t. All (IsCell t n) (zip (picked i f.rows.items f.cols.items) (picked i f.rows.items f.vals.items))) modulus
     (subst (λ t. All (IsCell f.modulus t) (zip (picked i f.rows.items f.cols.items) (picked i f.rows.items f.vals.items))) width all)) in
     All-same (IsCell p n) _ _ c.deref-in-loop-i-5.ensures.value (c.in_ok-sort_cells.ensures.within p n here)
+
+pub sum_cells-requires-clause-sorted : goal.sum_cells-requires-clause-sorted
+sum_cells-requires-clause-sorted c = rw c.deref-in-loop-i-5.ensures.value c.in_ok-sort_cells.ensures.sorted
 
 pub append-requires-clause-width : goal.append-requires-clause-width
 append-requires-clause-width c =

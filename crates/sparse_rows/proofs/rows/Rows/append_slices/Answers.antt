@@ -1,6 +1,6 @@
 use Rattle.std.proofs.Common.{◌≡◌, ◌∙◌, [], ◌∷◌, ◌++◌, ap, ap₂, arith, length, subst, sym}
 use Rattle.sparse_rows.specs.Rows.{ResidueMatrix}
-use Rattle.sparse_rows.specs.Stored.{IsSparse, spread, stored_matrix, with_row}
+use Rattle.sparse_rows.specs.Stored.{IsSparse, spread, with_row}
 use Rattle.sparse_rows.proofs.Stored.{matrix_push, stored_push}
 use Rattle.sparse_rows.proofs.rows.Rows.append_slices.Goals as goal
 use Rattle.sparse_rows.proofs.rows.Rows.append_slices.Goals.{In_ok-push}

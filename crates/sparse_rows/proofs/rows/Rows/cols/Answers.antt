@@ -1,4 +1,4 @@
-use Rattle.std.proofs.Common.{◌≡◌, ◌<◌, ◌-◌, ◌+◌, ◌∙◌, ap, ap₂, arith, length, slice_index, slice_range, subst, sym}
+use Rattle.std.proofs.Common.{◌≡◌, ◌<◌, ◌-◌, ◌+◌, ◌∙◌, ap, ap₂, arith, length, slice_index, slice_range, sym}
 use Rattle.residue_words.specs.Matrix.{row}
 use Rattle.sparse_rows.specs.Rows.{nonzeros, support}
 use Rattle.sparse_rows.specs.Stored.{IsSparse, part}

@@ -1,9 +1,9 @@
-use Rattle.std.proofs.Common.{ℕ, ◌≡◌, ◌+◌, ◌-◌, ◌<◌, ◌≤◌, ◌∙◌, List, ap, ap₂, arith, length, slice_index, sym, take}
+use Rattle.std.proofs.Common.{ℕ, ◌≡◌, ◌+◌, ◌-◌, ◌<◌, ◌∙◌, List, ap, ap₂, arith, length, slice_index, sym, take}
 use Rattle.std.proofs.lemmas.List.{get_or_past, take_all}
 use Rattle.residue_words.specs.Matrix.{row}
 use Rattle.sparse_rows.specs.Rows.{nonzeros, support}
 use Rattle.sparse_rows.specs.Stored.{entry_at}
-use Rattle.sparse_rows.proofs.Loops.{IsCopiedSoFar, copied_behind, copied_more}
+use Rattle.sparse_rows.proofs.Loops.{copied_behind, copied_more}
 use Rattle.sparse_rows.proofs.Spread.{entry_support}
 use Rattle.sparse_rows.proofs.rows.Rows.copy_shifted.Goals as goal
 use Rattle.sparse_rows.proofs.rows.Rows.copy_shifted.Goals.{After-loop-k}

@@ -1,4 +1,3 @@
-use Rattle.std.proofs.Common.{◌≡◌, length}
 use Rattle.sparse_rows.proofs.Loops.{IsIdentitySoFar}
 use Rattle.sparse_rows.proofs.rows.Rows.identity.Given as goal
 

@@ -1,4 +1,4 @@
-use Rattle.std.proofs.Common.{ℕ, ◌≡◌, ◌<◌, ◌%◌, ◌∙◌, List, ap, arith, length, subst}
+use Rattle.std.proofs.Common.{ℕ, ◌≡◌, ◌%◌, ◌∙◌, List, ap, arith, length, subst}
 use Rattle.residue_words.specs.Matrix.{IsMatrix, row}
 use Rattle.sparse_rows.specs.Rows.{ResidueMatrix, nonzeros, support}
 use Rattle.sparse_rows.proofs.Loops.{sparse_dot, sparse_dot_all, sparse_dot_more, sparse_dot_none}

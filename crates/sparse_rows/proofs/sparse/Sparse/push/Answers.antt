@@ -1,4 +1,4 @@
-use Rattle.std.proofs.Common.{◌≡◌, ◌<◌, ◌∙◌, [], ◌∷◌, ◌++◌, ap, ap₂, arith, length, slice_index, slice_set, sym}
+use Rattle.std.proofs.Common.{◌≡◌, ◌<◌, ◌∙◌, [], ◌∷◌, ◌++◌, ap, ap₂, arith, length, slice_index, slice_set}
 use Rattle.sparse_rows.specs.Stored.{IsSparse, spread}
 use Rattle.sparse_rows.proofs.Spread.{length_spread, narrow, sparse_push, spread_push, widen}
 use Rattle.sparse_rows.proofs.sparse.Sparse.push.Goals as goal

@@ -1,0 +1,80 @@
+// The form, as callers see it.
+ghost use Rattle.std.specs.Prelude.{◌≡◌, ◌≤◌, IfOk};
+ghost use Rattle.echelon_form.specs.Form.{IsEchelon, IsFormOf};
+
+use crate::kept::kept_rows;
+use crate::order::{leads_of, order_of};
+use crate::settle::{merged, shares_of};
+use sparse_rows::Rows;
+use std::alloc::{AllocError, Global};
+use std::marker::Model;
+use std::thread::Threads;
+
+/// The reduced row echelon form of a matrix: its rows, and of each the column of its first entry, the lead. Contracts see
+/// the modulus, the matrix and the list of the leads.
+#[derive(Drop)]
+pub struct Echelon {
+    rows: Rows,
+    leads: Vec<u32>,
+}
+
+impl Model for Echelon {
+    ghost use Rattle.echelon_form.specs.Form.{Form, IsEchelon};
+
+    ghost Value = { Form };
+
+    ghost view = { λ e. record { modulus = e.rows.modulus; matrix = e.rows.matrix; leads = e.leads.items } };
+
+    ghost invariant = { λ e. IsEchelon (record { modulus = e.rows.modulus; matrix = e.rows.matrix; leads = e.leads.items }) };
+}
+
+impl Echelon {
+    /// The form of a matrix, by so many workers: the same for every number of them. For a modulus that is not prime it is
+    /// some rows of that width.
+    ///
+    /// The rows are eliminated one after another by the caller, in the time of the entries that this makes; then each
+    /// worker settles a share of the rows that are left, each with 8 bytes a column. Where a thread cannot be started the
+    /// caller does its work.
+    pub fn of<R: Threads + Sync>(
+        rt: &R,
+        alloc: Global,
+        rows: &Rows,
+        workers: u32,
+    ) -> Result<Echelon, AllocError>
+        requires some { 1 ≤ workers }
+        requires few { workers ≤ 64 }
+        ensures { IfOk result (λ e. IsFormOf rows.now.modulus rows.now.matrix e) }
+    {
+        let kept = kept_rows(alloc, rows)?;
+        let order = order_of(alloc, &kept)?;
+        let shares = shares_of(rt, alloc, &kept, &order, workers as usize)?;
+        Ok(Echelon {
+            rows: merged(alloc, &kept, rows.modulus(), &order, &shares)?,
+            leads: leads_of(alloc, &order)?,
+        })
+    }
+
+    /// The rows of the form, by ascending leads.
+    pub fn rows(&self) -> &Rows
+        ensures modulus { result.now.modulus ≡ self.now.modulus }
+        ensures matrix { result.now.matrix ≡ self.now.matrix }
+    {
+        &self.rows
+    }
+
+    /// The lead of each row, ascending.
+    pub fn leads(&self) -> &[u32]
+        ensures value { result.now ≡ self.now.leads }
+        ensures sound { IsEchelon self.now }
+    {
+        self.leads.as_slice()
+    }
+
+    /// How many rows the form has; for a prime modulus that is the rank.
+    pub fn rank(&self) -> u32
+        ensures value { result ≡ self.now.matrix.height }
+        ensures sound { IsEchelon self.now }
+    {
+        self.rows.height()
+    }
+}

@@ -1,0 +1,104 @@
+// The settled rows, made by several workers.
+ghost use Rattle.std.specs.Prelude.{◌≡◌, ◌<◌, ◌≤◌, length, IfOk};
+ghost use Rattle.triangular_solve.specs.Leads.{IsSound};
+ghost use Rattle.echelon_form.specs.Settling.{AreSettled, AreShares, IsOrder, IsShare};
+
+use residue_words::Modulus;
+use sparse_rows::{Rows, Sparse};
+use std::alloc::{AllocError, Global};
+use std::thread;
+use std::thread::Threads;
+use triangular_solve::{Leads, Scratch};
+
+// What each worker makes, or that memory ran out for it.
+type Share = Result<Vec<Sparse>, AllocError>;
+
+// The shares of so many workers.
+pub(crate) fn shares_of<R: Threads + Sync>(
+    rt: &R,
+    alloc: Global,
+    kept: &Leads,
+    order: &[(u32, u32)],
+    workers: usize,
+) -> Result<Vec<Share>, AllocError>
+    requires some { 1 ≤ workers }
+    requires few { workers ≤ 64 }
+    requires order { IsOrder kept.now order.now }
+    ensures count { IfOk result (λ shares. length shares.items ≡ workers) }
+    ensures shares { IfOk result (λ shares. AreShares kept.now order.now shares.items) }
+{
+    thread::map_indices(
+        rt,
+        alloc,
+        workers,
+        &|worker| share_of(alloc, kept, order, worker, workers),
+    )
+}
+
+// The settled rows at the places worker, worker + workers, worker + 2 workers and so on.
+fn share_of(
+    alloc: Global,
+    kept: &Leads,
+    order: &[(u32, u32)],
+    worker: usize,
+    workers: usize,
+) -> Share
+    requires worker { worker < workers }
+    requires few { workers ≤ 64 }
+    requires order { IsOrder kept.now order.now }
+    ensures { IfOk result (λ share. IsShare kept.now order.now worker workers share.items) }
+{
+    let mut scratch = Scratch::new(alloc, kept.width())?;
+    let mut share = Vec::new(alloc);
+    let mut at = worker;
+    while at < order.len() {
+        share.push(kept.settle_with(alloc, order[at].1, &mut scratch)?)?;
+        at += workers;
+    }
+    Ok(share)
+}
+
+// The rows of the shares in the order of their places.
+pub(crate) fn merged(
+    alloc: Global,
+    kept: &Leads,
+    modulus: Modulus,
+    order: &[(u32, u32)],
+    shares: &[Share],
+) -> Result<Rows, AllocError>
+    requires modulus { modulus ≡ kept.now.modulus }
+    requires sound { IsSound kept.now }
+    requires order { IsOrder kept.now order.now }
+    requires some { 1 ≤ length shares.now }
+    requires shares { AreShares kept.now order.now shares.now }
+    ensures modulus { IfOk result (λ rows. rows.modulus ≡ modulus) }
+    ensures settled { IfOk result (λ rows. AreSettled kept.now order.now (length order.now) rows.matrix) }
+{
+    let mut rows = Rows::with_room(
+        alloc,
+        modulus,
+        kept.width(),
+        kept.height(),
+        entries_of(shares),
+    )?;
+    for t in 0..order.len() {
+        match &shares[t % shares.len()] {
+            Ok(share) => rows.append(&share[t / shares.len()])?,
+            Err(e) => return Err(*e),
+        }
+    }
+    Ok(rows)
+}
+
+// How many entries the shares have together.
+fn entries_of(shares: &[Share]) -> usize {
+    let mut sum: usize = 0;
+    for share in shares {
+        if let Ok(rows) = share {
+            for row in rows {
+                sum = sum.saturating_add(row.cols().len());
+            }
+        }
+    }
+    sum
+}

@@ -1,0 +1,10 @@
+pub mod Adding
+pub mod Appending
+pub mod Combining
+pub mod Dividing
+pub mod Draining
+pub mod Examples
+pub mod Extent
+pub mod LedRows
+pub mod Reducing
+pub mod Touched
