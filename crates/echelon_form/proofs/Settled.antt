@@ -115,7 +115,7 @@ form_of_settled {p} {q} {A} {E} {kept} {order} {leads} sound o s named same modu
     form = (map (λ c. c.0) order, settled_leads sound o s);
     span = same_span_chained p A kept.matrix E (span prime) (subst (λ n. SameSpan n kept.matrix E) modulus (settled_span sound o s));
   };
-  leads = λ prime. subst (HasLeads E) (sym named) (settled_leads sound o s);
+  leads = subst (HasLeads E) (sym named) (settled_leads sound o s);
 }
   where
     matrix : IsMatrix p E
@@ -126,5 +126,5 @@ pub echelon_of_form : {p : ℕ} {A : Matrix} (f : Form) → IsFormOf p A f → I
 echelon_of_form {p} {A} f h = record {
   matrix = subst (λ n. IsMatrix n f.matrix) (sym h.modulus) h.matrix;
   rank = h.rank;
-  leads = λ prime. h.leads (subst IsPrime h.modulus prime);
+  leads = h.leads;
 }
