@@ -5,9 +5,9 @@ use Rattle.std.proofs.Math.Seq.{get_or-append_seam}
 use Rattle.std.proofs.lemmas.Bool.{cases_eq, cases_lt}
 use Rattle.std.proofs.lemmas.List.{get_or-map, length-map}
 use Rattle.residue_words.specs.Residues.{IsPrime}
-use Rattle.residue_words.specs.Matrix.{Matrix, IsMatrix, IsVector, IsCombination, row}
+use Rattle.residue_words.specs.Matrix.{Matrix, IsMatrix, IsVector, IsCombination, entry, row}
 use Rattle.residue_words.proofs.Vectors.{combination_through}
-use Rattle.row_space.specs.Echelon.{HasLeads, SameSpan}
+use Rattle.row_space.specs.Echelon.{HasLeads, HasPlaces, SameSpan}
 use Rattle.row_space.proofs.Counting.{spanned_back}
 use Rattle.row_space.proofs.Spans.{places_independent, same_span_chained}
 use Rattle.sparse_rows.specs.Rows.{ResidueRow}
@@ -122,7 +122,7 @@ form_of_settled {p} {q} {A} {E} {kept} {order} {leads} sound o s named same modu
     form = (map (λ c. c.0) order, settled_leads sound o s);
     span = same_span_chained p A kept.matrix E (span prime) (subst (λ n. SameSpan n kept.matrix E) modulus (settled_span sound o s));
   };
-  leads = λ prime. subst (HasLeads E) (sym named) (settled_leads sound o s);
+  leads = subst (HasLeads E) (sym named) (settled_leads sound o s);
 }
   where
     matrix : IsMatrix p E
@@ -136,5 +136,5 @@ pub echelon_of_form : {p : ℕ} {A : Matrix} (f : Form) → IsFormOf p A f → I
 echelon_of_form {p} {A} f h = record {
   matrix = subst (λ n. IsMatrix n f.matrix) (sym h.modulus) h.matrix;
   rank = h.rank;
-  leads = λ prime. h.leads (subst IsPrime h.modulus prime);
+  leads = h.leads;
 }

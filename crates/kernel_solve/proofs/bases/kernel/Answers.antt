@@ -19,7 +19,7 @@ arranged-requires-clause-inside c = All-from_get_or (λ j. j < c.in_ok-at_leads.
       ap (λ xs. slice_index xs k) c.deref-2.ensures.value,
       c.in_ok-columns.ensures.free_long,
       ap length c.leads.ensures.value,
-      c.leads.ensures.long,
+      c.leads.ensures.sound.rank,
       ap (λ m. m.height) c.rows-rows.ensures.matrix,
       ap (λ m. m.width) c.in_ok-at_leads.ensures.matrix,
       ap (λ m. m.width) c.in_ok-free.ensures.matrix,
@@ -43,7 +43,7 @@ returns-clause-sound c =
     c.in_ok-by_place.by_place.matrix c.in_ok-basis.basis.matrix c.in_ok-columns.columns.free.items c.deref.result.now c.in_ok-columns.columns.order.items c.deref-2.result.now
     c.rows-rows.ensures.matrix c.in_ok-by_column.ensures.matrix c.in_ok-free.ensures.matrix c.deref.ensures.value c.in_ok-at_leads.ensures.matrix
     (c.in_ok-free.ensures.modulus ∙ c.in_ok-by_column.ensures.modulus ∙ c.rows-rows.ensures.modulus) c.in_ok-at_free.ensures.matrix len c.in_ok-by_place.ensures.matrix c.deref-2.ensures.value c.in_ok-basis.ensures.matrix in
-    rw (same, made) (basis_matrix p E c.args.form.now.leads c.in_ok-columns.columns.free.items c.in_ok-columns.columns.order.items two c.leads.ensures.sound c.leads.ensures.long columns)
+    rw (same, made) (basis_matrix p E c.args.form.now.leads c.in_ok-columns.columns.free.items c.in_ok-columns.columns.order.items two c.leads.ensures.sound.matrix c.leads.ensures.sound.rank columns)
 
 pub returns-clause-width : goal.returns-clause-width
 returns-clause-width c =
@@ -67,7 +67,7 @@ returns-clause-height c =
     c.in_ok-by_place.by_place.matrix c.in_ok-basis.basis.matrix c.in_ok-columns.columns.free.items c.deref.result.now c.in_ok-columns.columns.order.items c.deref-2.result.now
     c.rows-rows.ensures.matrix c.in_ok-by_column.ensures.matrix c.in_ok-free.ensures.matrix c.deref.ensures.value c.in_ok-at_leads.ensures.matrix
     (c.in_ok-free.ensures.modulus ∙ c.in_ok-by_column.ensures.modulus ∙ c.rows-rows.ensures.modulus) c.in_ok-at_free.ensures.matrix len c.in_ok-by_place.ensures.matrix c.deref-2.ensures.value c.in_ok-basis.ensures.matrix in
-    omega (arith, ap (λ m. m.height) made, c.in_ok-columns.ensures.free_long, ap length c.leads.ensures.value, c.leads.ensures.long, c.width.ensures.value, ap (λ m. m.width) c.rows-rows.ensures.matrix)
+    omega (arith, ap (λ m. m.height) made, c.in_ok-columns.ensures.free_long, ap length c.leads.ensures.value, c.leads.ensures.sound.rank, c.width.ensures.value, ap (λ m. m.width) c.rows-rows.ensures.matrix)
 
 pub returns-clause-kernel : goal.returns-clause-kernel
 returns-clause-kernel c = λ q A prime form.
@@ -83,4 +83,4 @@ returns-clause-kernel c = λ q A prime form.
     c.in_ok-by_place.by_place.matrix c.in_ok-basis.basis.matrix c.in_ok-columns.columns.free.items c.deref.result.now c.in_ok-columns.columns.order.items c.deref-2.result.now
     c.rows-rows.ensures.matrix c.in_ok-by_column.ensures.matrix c.in_ok-free.ensures.matrix c.deref.ensures.value c.in_ok-at_leads.ensures.matrix
     (c.in_ok-free.ensures.modulus ∙ c.in_ok-by_column.ensures.modulus ∙ c.rows-rows.ensures.modulus) c.in_ok-at_free.ensures.matrix len c.in_ok-by_place.ensures.matrix c.deref-2.ensures.value c.in_ok-basis.ensures.matrix in
-    rw made (subst (λ t. IsKernel q A (basis_of t E free order)) (sym form.modulus) (basis_kernel q A E leads free order prime (form.rref prime) (form.leads prime) columns))
+    rw made (subst (λ t. IsKernel q A (basis_of t E free order)) (sym form.modulus) (basis_kernel q A E leads free order prime (form.rref prime) form.leads columns))

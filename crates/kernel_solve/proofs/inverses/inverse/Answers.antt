@@ -29,7 +29,7 @@ returns-then-fills-clause-shape g c =
         arith,
         ap (λ m. m.width) c.in_ok-right_half.ensures.matrix,
         ap (λ m. m.height) c.rows.ensures.matrix,
-        c.leads.ensures.long,
+        c.leads.ensures.sound.rank,
         ap length c.leads.ensures.value,
         filled.0,
         c.width-width.ensures.value,
@@ -55,7 +55,7 @@ returns-then-fills-clause-inverse g c = λ prime.
     ) in
     let half : c.in_ok-right_half.field-0.matrix ≡ right_half A.width c.in_ok-form.form.matrix = c.in_ok-right_half.ensures.matrix ∙ ap₂ right_half c.width-width.ensures.value c.rows.ensures.matrix in
     subst (λ m. IsInverse p A m) (sym half)
-    (half_inverts p A c.in_ok-form.form.matrix leads prime.two_or_more c.modulus-modulus.ensures.sound c.requires.square (form.rref prime) (form.leads prime) last)
+    (half_inverts p A c.in_ok-form.form.matrix leads prime.two_or_more c.modulus-modulus.ensures.sound c.requires.square (form.rref prime) form.leads last)
 
 pub returns-clause-inverse : goal.returns-clause-inverse
 returns-clause-inverse g c = λ prime.
@@ -82,9 +82,9 @@ returns-clause-inverse g c = λ prime.
     ) in
     let not_so : c.fills.result ≡ false = c.if-fills.false in
     cc in
-    let far = not_filled p A F leads prime.two_or_more sound c.requires.square (form.rref prime) (form.leads prime) other in
+    let far = not_filled p A F leads prime.two_or_more sound c.requires.square (form.rref prime) form.leads other in
     let first = c.in_ok-null_row.ensures.first prime in
-    let some : (K : Matrix) → IsKernel p A K → 0 < K.height = λ K k. basis_some p A F leads prime.two_or_more sound c.requires.square (form.rref prime) (form.leads prime) far.0 far.1 K k in
+    let some : (K : Matrix) → IsKernel p A K → 0 < K.height = λ K k. basis_some p A F leads prime.two_or_more sound c.requires.square (form.rref prime) form.leads far.0 far.1 K k in
     let same : u ≡ row first.0 0 = first.2 (some first.0 first.1) in
     let null = first_null p A first.0 first.1 (some first.0 first.1) in (
       subst (λ v. IsNull p A v) (sym same) null.0,

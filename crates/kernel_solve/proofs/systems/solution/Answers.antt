@@ -22,12 +22,12 @@ returns-then-ends_at-clause-answers c = λ p A b prime m v form x.
       ap (λ m. m.width) c.rows-rows.ensures.matrix,
       form.width,
     ) in
-    lead_refutes p A b E leads prime.two_or_more m v (form.rref prime) (form.leads prime) some last x
+    lead_refutes p A b E leads prime.two_or_more m v (form.rref prime) form.leads some last x
 
 pub split_columns-requires-clause-rising : goal.split_columns-requires-clause-rising
 split_columns-requires-clause-rising c = λ k t a b. omega (
   arith,
-  c.leads-leads.ensures.rising k t a (omega (arith, ap length c.leads-leads.ensures.value)),
+  (c.leads-leads.ensures.sound.leads.1.rising) k t a (omega (arith, ap length c.leads-leads.ensures.value)),
   ap (λ ls. slice_index ls k) c.leads-leads.ensures.value,
   ap (λ ls. slice_index ls t) c.leads-leads.ensures.value,
 )
@@ -41,7 +41,7 @@ arranged-requires-clause-widths c = omega (
   ap (λ m. m.width) c.in_ok-at_leads.ensures.matrix,
   ap (λ m. m.width) c.in_ok-by_column.ensures.matrix,
   ap (λ m. m.height) c.rows-rows.ensures.matrix,
-  c.leads-leads.ensures.long,
+  c.leads-leads.ensures.sound.rank,
   ap length c.leads-leads.ensures.value,
   ap (λ m. m.width) c.in_ok-at_free.ensures.matrix,
   ap length c.new.ensures.row,
@@ -60,7 +60,7 @@ arranged-requires-clause-inside c = All-from_get_or (λ j. j < c.in_ok-at_leads.
       ap (λ m. m.width) c.in_ok-at_leads.ensures.matrix,
       ap (λ m. m.width) c.in_ok-by_column.ensures.matrix,
       ap (λ m. m.height) c.rows-rows.ensures.matrix,
-      c.leads-leads.ensures.long,
+      c.leads-leads.ensures.sound.rank,
       ap length c.leads-leads.ensures.value,
       ap (λ m. m.width) c.in_ok-at_free.ensures.matrix,
       ap length c.new.ensures.row,
@@ -87,7 +87,7 @@ returns-clause-shape c =
     column_made E c.rows-rows.result.now.matrix c.in_ok-by_column.by_column.matrix c.in_ok-at_leads.at_leads.matrix c.in_ok-at_free.at_free.matrix c.in_ok-x.x.matrix last z order c.deref.result.now
     c.rows-rows.ensures.matrix c.in_ok-by_column.ensures.matrix c.in_ok-at_leads.ensures.matrix c.in_ok-at_free.ensures.matrix c.in_ok-x.ensures.matrix c.deref.ensures.value in (
       c.in_ok-x.ensures.modulus ∙ c.in_ok-at_leads.ensures.modulus ∙ c.in_ok-by_column.ensures.modulus ∙ c.rows-rows.ensures.modulus,
-      rw made (column_matrix p E last leads free order z two c.leads-leads.ensures.sound (omega (arith, width, c.requires)) c.leads-leads.ensures.long columns side),
+      rw made (column_matrix p E last leads free order z two c.leads-leads.ensures.sound.matrix (omega (arith, width, c.requires)) c.leads-leads.ensures.sound.rank columns side),
       omega (arith, ap (λ m. m.height) made, columns.order_long, width, c.requires),
       ap (λ m. m.width) made,
     )
@@ -106,11 +106,11 @@ returns-clause-answers c = λ q A b prime m v form.
     let len : c.len.result ≡ length free = first_of (omega (arith, c.len.ensures), search rules) in
     let side : z ≡ zeros (length free) = c.new.ensures.row ∙ ap zeros len in
     let below : (k : ℕ) → k < length leads → slice_index leads k < last = λ k l.
-    below_last last E.width leads (omega (arith, width, c.requires)) c.leads-leads.ensures.inside c.leads-leads.ensures.rising
+    below_last last E.width leads (omega (arith, width, c.requires)) (λ k l. c.leads-leads.ensures.sound.leads.1.inside k (omega (arith, c.leads-leads.ensures.sound.rank))) (λ s t a b. c.leads-leads.ensures.sound.leads.1.rising s t a (omega (arith, c.leads-leads.ensures.sound.rank)))
     (λ h. let at_end : c.ends_at.result ≡ true = c.ends_at.ensures.1 (omega (arith, h.0, ap length c.leads-leads.ensures.value), ap (λ ls. slice_index ls (length ls - 1)) c.leads-leads.ensures.value ∙ h.1) in let not_at_end : c.ends_at.result ≡ false = c.if-ends_at.false in cc) k l in
     let made : c.in_ok-x.x.matrix ≡ column_of E last z order =
     column_made E c.rows-rows.result.now.matrix c.in_ok-by_column.by_column.matrix c.in_ok-at_leads.at_leads.matrix c.in_ok-at_free.at_free.matrix c.in_ok-x.x.matrix last z order c.deref.result.now
     c.rows-rows.ensures.matrix c.in_ok-by_column.ensures.matrix c.in_ok-at_leads.ensures.matrix c.in_ok-at_free.ensures.matrix c.in_ok-x.ensures.matrix c.deref.ensures.value in (
       ap (λ m. m.height) made ∙ columns.order_long ∙ same,
-      rw made (column_solves q E last leads free order z prime.two_or_more form.matrix (omega (arith, width, c.requires)) c.leads-leads.ensures.long columns side A b m v (form.rref prime) (form.leads prime) below same),
+      rw made (column_solves q E last leads free order z prime.two_or_more form.matrix (omega (arith, width, c.requires)) c.leads-leads.ensures.sound.rank columns side A b m v (form.rref prime) form.leads below same),
     )
