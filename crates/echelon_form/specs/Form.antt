@@ -10,11 +10,13 @@ pub record Form : Type 0 where
   pub matrix : Matrix
   pub leads : List ℕ
 
--- it is the form of A: for a prime modulus the one reduced echelon form with its leads, for others some rows of A's width
+-- it is the form of A: for a prime modulus the one reduced echelon form with its leads, for others some rows of A's width; never more
+-- rows than columns
 pub record IsFormOf (p : ℕ) (A : Matrix) (f : Form) : Type 0 where
   pub modulus : f.modulus ≡ p
   pub matrix : IsMatrix p f.matrix
   pub width : f.matrix.width ≡ A.width
+  pub short : f.matrix.height ≤ A.width
   pub rank : length f.leads ≡ f.matrix.height
   pub rref : IsPrime p → IsRref p A f.matrix
   pub leads : IsPrime p → HasLeads f.matrix f.leads
