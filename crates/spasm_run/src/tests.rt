@@ -473,6 +473,12 @@ fn rows_of(alloc: Global, modulus: &Modulus, text: &str) -> Result<Rows, Fail> {
     }
 }
 
+// The rank of a matrix by plain elimination.
+fn plain_rank(alloc: Global, rows: &Rows) -> Result<usize, AllocError> {
+    let plain = plain_rows(alloc, rows)?;
+    rank_of(alloc, &rows.modulus(), rows.width() as usize, plain)
+}
+
 #[test]
 fn the_form_has_the_rank_of_plain_elimination(rt: HostRuntime) -> Result<(), Fail> {
     let alloc = rt.alloc();
@@ -489,10 +495,8 @@ fn the_form_has_the_rank_of_plain_elimination(rt: HostRuntime) -> Result<(), Fai
         (7, "3 0 M\n0 0 0\n"),
     ];
     for (p, text) in cases {
-        let modulus = Modulus::new(p);
-        let rows = rows_of(alloc, &modulus, text)?;
-        let plain = plain_rows(alloc, &rows)?;
-        let rank = rank_of(alloc, &modulus, rows.width() as usize, plain)?;
+        let rows = rows_of(alloc, &Modulus::new(p), text)?;
+        let rank = plain_rank(alloc, &rows)?;
         let form = Echelon::of(&rt, alloc, &rows, 1)?;
         assert_eq!(rt; form.rank() as usize, rank, "at {text}");
     }
