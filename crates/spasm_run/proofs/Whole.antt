@@ -70,17 +70,11 @@ form_failed p limit e old new told told' f g begins did =
       finds = no_matrix_says p limit new x.0 f g e x.2;
     }
 
--- memory was wanted for the form, and before anything was read
-pub form_wanted : (p limit : ℕ) (result : Result ResidueMatrix TextError) (old new : ReaderState) (told told' : Option (List ℕ)) (f g : ℕ) → old ≡ new_reader limit →
-    RowsDid p old new told told' f g result → FormRead p limit told told' f g (Err error.Memory)
-form_wanted p limit result old new told told' f g begins did =
-    let P : ReaderState → Type 0 = λ o. RowsDid p o new told told' f g result in
-    let x = subst P begins did in record { bytes = x.0; ended = new.ended; taken = x.1.source; spent = λ e. x.1.spent e refl; finds = tt }
-
 before_nothing : (told : Option (List ℕ)) → told ≡ before [] told
 before_nothing None = refl
 before_nothing (Some bytes) = refl
 
+-- memory was wanted before anything was read
 pub form_unread : (p limit : ℕ) (told : Option (List ℕ)) (f : ℕ) → FormRead p limit told told f f (Err error.Memory)
 form_unread p limit told f = record { bytes = []; ended = false; taken = before_nothing told; spent = λ e. cc; finds = tt }
 

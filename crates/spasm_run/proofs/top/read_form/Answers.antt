@@ -1,5 +1,5 @@
 -- The input is a text of this matrix.
-use Rattle.spasm_run.proofs.Whole.{form_found, form_failed, form_wanted, form_unread}
+use Rattle.spasm_run.proofs.Whole.{form_found, form_failed, form_unread}
 use Rattle.spasm_run.proofs.top.read_form.Goals as goal
 
 pub returns-in_default-clause-did : goal.returns-in_default-clause-did
