@@ -1,5 +1,5 @@
 -- From what the parts of a run do to what it did.
-use Rattle.std.proofs.Common.{ℕ, Bool, true, false, ◌≡◌, List, [], ◌∷◌, ◌++◌, map, Option, None, Some, Result, Ok, Err, refl, sym, ap, ◌∙◌, subst, inl, inr, append-nil}
+use Rattle.std.proofs.Common.{ℕ, Bool, true, false, ◌≡◌, List, [], ◌∷◌, ◌++◌, Option, None, Some, Ok, Err, refl, sym, ap, ◌∙◌, subst, inl, inr, append-nil}
 use Rattle.residue_words.specs.Matrix.{Matrix}
 use Rattle.residue_words.specs.Residues.{IsPrime}
 use Rattle.row_space.specs.Echelon.{IsRref}
@@ -14,7 +14,7 @@ use Rattle.sms_text.specs.Whole.{RowsDid, IsNoMatrix}
 use Rattle.sms_text.proofs.Moving.{stays_at}
 use Rattle.sms_text.proofs.Runs.{with_items_got}
 use Rattle.sparse_rows.specs.Rows.{ResidueMatrix}
-use Rattle.sms_text.specs.Text.{Due, Header, Item, Got, Fault, FirstFault, Reads, Short, matrices, read}
+use Rattle.sms_text.specs.Text.{Due, Header, Got, Fault, FirstFault, Reads, Short, read}
 use Rattle.sms_text.specs.Writing.{Writes}
 use Rattle.spasm_run.specs.declared.status.Status.{Status}
 use Rattle.spasm_run.specs.declared.status.Status.TheVariants as status
