@@ -1,13 +1,13 @@
 -- The settled rows by ascending leads are the echelon form.
-use Rattle.std.proofs.Common.{ℕ, ◌≡◌, ◌+◌, ◌<◌, List, [], ◌∷◌, length, map, slice_index, slice_index_or, inl, inr, sym, refl, ap, subst, ◌∙◌, arith}
+use Rattle.std.proofs.Common.{ℕ, zero, suc, ◌≡◌, ◌+◌, ◌<◌, ◌≤◌, List, [], ◌∷◌, length, map, slice_index, slice_index_or, inl, inr, sym, refl, ap, subst, ◌∙◌, arith}
 use Rattle.std.proofs.Math.ListN.{get_or-append}
 use Rattle.std.proofs.Math.Seq.{get_or-append_seam}
 use Rattle.std.proofs.lemmas.Bool.{cases_eq, cases_lt}
 use Rattle.std.proofs.lemmas.List.{get_or-map, length-map}
 use Rattle.residue_words.specs.Residues.{IsPrime}
-use Rattle.residue_words.specs.Matrix.{Matrix, IsMatrix, IsVector, IsCombination, row}
+use Rattle.residue_words.specs.Matrix.{Matrix, IsMatrix, IsVector, IsCombination, entry, row}
 use Rattle.residue_words.proofs.Vectors.{combination_through}
-use Rattle.row_space.specs.Echelon.{HasLeads, SameSpan}
+use Rattle.row_space.specs.Echelon.{HasLeads, HasPlaces, SameSpan}
 use Rattle.row_space.proofs.Counting.{spanned_back}
 use Rattle.row_space.proofs.Spans.{places_independent, same_span_chained}
 use Rattle.sparse_rows.specs.Rows.{ResidueRow}
@@ -88,6 +88,12 @@ settled_leads {kept} {order} {E} sound o s = (
     rising : (k t : ℕ) → k < t → t < length order → slice_index leads k < slice_index leads t
     rising k t a b = omega (arith, at k (omega arith), at t b, o.rising k t none a b)
 
+-- rising columns are no more than there are columns
+rising_few : (r n : ℕ) (a : ℕ → ℕ) → ((k t : ℕ) → k < t → t < r → a k < a t) → ((k : ℕ) → k < r → a k < n) → r ≤ n
+rising_few zero n a up low = omega arith
+rising_few (suc r) n a up low =
+    omega (arith, low r (omega arith), rising_few r (a r) a (λ k t m l. up k t m (omega arith)) (λ k l. up k r l (omega arith)))
+
 -- as many independent rows of the kept rows' space span it
 pub settled_span : {kept : KeptRows} {order : List (ℕ × ℕ)} {E : Matrix} → IsSound kept → IsOrder kept order → AreSettled kept order (length order) E →
     SameSpan kept.modulus kept.matrix E
@@ -108,6 +114,7 @@ form_of_settled {p} {q} {A} {E} {kept} {order} {leads} sound o s named same modu
   modulus = same;
   matrix = matrix;
   width = s.width ∙ width;
+  short = subst (λ n. E.height ≤ n) (s.width ∙ width) (rising_few E.height E.width (slice_index (map (λ c. c.0) order)) places.rising places.inside);
   rank = ap length named ∙ length-map order (λ (c : ℕ × ℕ). c.0) ∙ sym s.height;
   rref = λ prime. record {
     matrix = matrix;
@@ -115,16 +122,19 @@ form_of_settled {p} {q} {A} {E} {kept} {order} {leads} sound o s named same modu
     form = (map (λ c. c.0) order, settled_leads sound o s);
     span = same_span_chained p A kept.matrix E (span prime) (subst (λ n. SameSpan n kept.matrix E) modulus (settled_span sound o s));
   };
-  leads = λ prime. subst (HasLeads E) (sym named) (settled_leads sound o s);
+  leads = subst (HasLeads E) (sym named) (settled_leads sound o s);
 }
   where
     matrix : IsMatrix p E
     matrix = subst (λ n. IsMatrix n E) modulus s.matrix
+
+    places : HasPlaces (λ j lead. j < lead) E.height E.width (entry E) (slice_index (map (λ c. c.0) order))
+    places = (settled_leads sound o s).1
 
 -- the form of any matrix is one
 pub echelon_of_form : {p : ℕ} {A : Matrix} (f : Form) → IsFormOf p A f → IsEchelon f
 echelon_of_form {p} {A} f h = record {
   matrix = subst (λ n. IsMatrix n f.matrix) (sym h.modulus) h.matrix;
   rank = h.rank;
-  leads = λ prime. h.leads (subst IsPrime h.modulus prime);
+  leads = h.leads;
 }

@@ -1,5 +1,5 @@
 -- What callers see of an echelon form.
-use Rattle.std.specs.Prelude.{◌≡◌, ℕ, List, length}
+use Rattle.std.specs.Prelude.{◌≡◌, ◌≤◌, ℕ, List, length}
 use Rattle.residue_words.specs.Residues.{IsPrime}
 use Rattle.residue_words.specs.Matrix.{Matrix, IsMatrix}
 use Rattle.row_space.specs.Echelon.{HasLeads, IsRref}
@@ -10,17 +10,18 @@ pub record Form : Type 0 where
   pub matrix : Matrix
   pub leads : List ℕ
 
--- it is the form of A: for a prime modulus the one reduced echelon form with its leads, for others some rows of A's width
+-- it is the form of A: rows of A's width with their leads, never more than columns; for a prime modulus the one reduced echelon form
 pub record IsFormOf (p : ℕ) (A : Matrix) (f : Form) : Type 0 where
   pub modulus : f.modulus ≡ p
   pub matrix : IsMatrix p f.matrix
   pub width : f.matrix.width ≡ A.width
+  pub short : f.matrix.height ≤ A.width
   pub rank : length f.leads ≡ f.matrix.height
   pub rref : IsPrime p → IsRref p A f.matrix
-  pub leads : IsPrime p → HasLeads f.matrix f.leads
+  pub leads : HasLeads f.matrix f.leads
 
--- what holds of each form: as many leads as rows, and for a prime modulus they are the leads
+-- what holds of each form: its rows have these leads
 pub record IsEchelon (f : Form) : Type 0 where
   pub matrix : IsMatrix f.modulus f.matrix
   pub rank : length f.leads ≡ f.matrix.height
-  pub leads : IsPrime f.modulus → HasLeads f.matrix f.leads
+  pub leads : HasLeads f.matrix f.leads

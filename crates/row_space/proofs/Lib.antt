@@ -3,6 +3,7 @@ pub mod Ends
 pub mod Example
 pub mod Exists
 pub mod FactorLaws
+pub mod InverseLaws
 pub mod KernelLaws
 pub mod ReadOff
 pub mod Refuting

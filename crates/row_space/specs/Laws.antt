@@ -2,9 +2,10 @@
 use Rattle.std.specs.Prelude.{◌≡◌, ◌<◌, ◌≤◌, ◌↔◌, ◌⊎◌, ℕ, List, length, slice_index}
 use Rattle.residue_words.specs.declared.plain.Pair.{Pair}
 use Rattle.residue_words.specs.Residues.{IsPrime}
-use Rattle.residue_words.specs.Matrix.{Matrix, IsMatrix, IsVector, IsCombination, entry, row}
+use Rattle.residue_words.specs.Matrix.{Matrix, IsMatrix, IsVector, IsCombination, entry, row, zeros}
 use Rattle.row_space.specs.Echelon.{HasLeads, HasRank, IsIndependent, IsRref, SameSpan}
-use Rattle.row_space.specs.Kernel.{IsKernel}
+use Rattle.row_space.specs.Inverse.{IsInverse}
+use Rattle.row_space.specs.Kernel.{IsKernel, IsNull}
 use Rattle.row_space.specs.Solution.{IsSolution, IsReducedSolution, IsRefutingCombination, Annuls, beside, refuting_rows, refuting_side, refuting_system}
 use Rattle.row_space.specs.Factors.{AreFactors, Certificate, IsValid, ShowsKernel, ShowsRref, TellsOf}
 
@@ -88,3 +89,15 @@ pub record RefutingSystemIs (p : ℕ) (A : Matrix) (b y : List ℕ) : Type 0 whe
 
 abbrev pub RefutingSystem : Type 0
 RefutingSystem = (p : ℕ) (A : Matrix) (b y : List ℕ) → 2 ≤ p → IsMatrix p A → IsVector p A.height b → RefutingSystemIs p A b y
+
+-- a square matrix has at most one inverse, and where it has one only the zero vector is null
+abbrev pub InverseIsUnique : Type 0
+InverseIsUnique = (p : ℕ) (A B C : Matrix) → 2 ≤ p → A.height ≡ A.width → IsInverse p A B → IsInverse p A C → B ≡ C
+
+abbrev pub InverseExcludesNull : Type 0
+InverseExcludesNull = (p : ℕ) (A B : Matrix) (v : List ℕ) → A.height ≡ A.width → IsInverse p A B → IsNull p A v → v ≡ zeros A.width
+
+-- where A x = b has no solution, some y solves the refuting system
+abbrev pub RefutingIsSolvable : Type 0
+RefutingIsSolvable = (p : ℕ) (A : Matrix) (b : List ℕ) → IsPrime p → IsMatrix p A → IsVector p A.height b → ((x : List ℕ) → ¬ IsSolution p A b x) →
+    (y : List ℕ) × IsSolution p (refuting_rows A b) (refuting_side A.width) y

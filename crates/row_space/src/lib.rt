@@ -4,7 +4,7 @@
 #![tactic(auto)]
 
 ghost use Rattle.row_space.specs.Example.{IsWorked};
-ghost use Rattle.row_space.specs.Laws.{RrefIsUnique, RankIsUnique, KernelIsUnique, SolutionIsUnique, RefutationIsUnique, SpanFixesHeight, Alternative, RrefExists, FactorsGiveRank, FactorsGiveRref, FactorsGiveKernel, CertificateIsTrue, RankGivesKernel, RankGivesRref, LastLeadRefutes, RrefSolves, RefutingSystem};
+ghost use Rattle.row_space.specs.Laws.{RrefIsUnique, RankIsUnique, KernelIsUnique, SolutionIsUnique, RefutationIsUnique, SpanFixesHeight, Alternative, RrefExists, FactorsGiveRank, FactorsGiveRref, FactorsGiveKernel, CertificateIsTrue, RankGivesKernel, RankGivesRref, LastLeadRefutes, RrefSolves, RefutingSystem, InverseIsUnique, InverseExcludesNull, RefutingIsSolvable};
 
 /// A matrix has at most one reduced echelon form.
 pub fn rref_is_unique()
@@ -89,6 +89,21 @@ pub fn rref_solves()
 /// The reduced solution of the refuting system is the refuting combination.
 pub fn refuting_system_refutes()
     ensures { RefutingSystem }
+{}
+
+/// Where `A x = b` has no solution, the refuting system has one, for a prime modulus.
+pub fn refuting_is_solvable()
+    ensures { RefutingIsSolvable }
+{}
+
+/// A square matrix has at most one inverse.
+pub fn inverse_is_unique()
+    ensures { InverseIsUnique }
+{}
+
+/// Where a square matrix has an inverse, its only null vector is zero.
+pub fn inverse_excludes_null()
+    ensures { InverseExcludesNull }
 {}
 
 /// The definitions, worked on an example of 3 x 3 modulo 7.

@@ -10,7 +10,7 @@ use Rattle.spasm_run.specs.Words.{Given, spelling, AreKnown, IsInRange, IsValueO
 use Rattle.spasm_run.specs.Options.{IsCommandOf, IsModulus, IsModulusOf, IsOneCommand, bytes_of}
 use Rattle.spasm_run.specs.declared.words.Command.{Command}
 use Rattle.spasm_run.specs.declared.words.Task.{Task}
-use Rattle.spasm_run.specs.declared.words.Task.TheVariants.{Rank}
+use Rattle.spasm_run.specs.declared.words.Task.TheVariants.{Rank, Rref}
 
 -- the words that give a modulus: none, one or two
 pub data Forms (ws : List (List ℕ)) (n : ℕ) : Type 0 where
@@ -103,36 +103,38 @@ one_form ws m n (Apart v e q) (Default f d) = cc
 one_form ws m n (Apart v e q) (Joined w f r) = cc
 one_form ws m n (Apart v e q) (Apart w f r) = let t : v ≡ w = cc in q.1 ∙ ap value t ∙ sym r.1
 
-named : (words : List (List ℕ)) (t : Task) (rest : List (List ℕ)) → words ≡ task_name t ∷ rest → words ≡ codes "rank" ∷ rest
-named words Rank rest e = e
-
 -- the words after the task's name give its options
-pub accepted_options : (words : List (List ℕ)) (c : Command) → Accepted words c → (rest : List (List ℕ)) × (words ≡ codes "rank" ∷ rest) × IsModulus rest c.modulus
-accepted_options words c a =
-    (flat_map spelling a.options, named words c.task _ a.spelled, record { options = a.options; spelled = refl; known = a.known; modulus = a.modulus })
+pub accepted_options : (words : List (List ℕ)) (c : Command) → Accepted words c → (rest : List (List ℕ)) × (words ≡ task_name c.task ∷ rest) × IsModulus rest c.modulus
+accepted_options words c a = (flat_map spelling a.options, a.spelled, record { options = a.options; spelled = refl; known = a.known; modulus = a.modulus })
 
 -- the task's name and options are a command's words
-pub accepted : (n : ℕ) (rest : List (List ℕ)) → IsModulus rest n → Accepted (codes "rank" ∷ rest) (record { task = Rank; modulus = n })
-accepted n rest m = record { options = m.options; spelled = ap (λ (l : List (List ℕ)). codes "rank" ∷ l) m.spelled; known = m.known; modulus = m.modulus }
+pub accepted : (t : Task) (n : ℕ) (rest : List (List ℕ)) → IsModulus rest n → Accepted (task_name t ∷ rest) (record { task = t; modulus = n })
+accepted t n rest m = record { options = m.options; spelled = ap (λ (l : List (List ℕ)). task_name t ∷ l) m.spelled; known = m.known; modulus = m.modulus }
 
-same_task : (s t : Task) → s ≡ t
-same_task Rank Rank = refl
+-- no two tasks have one name
+one_task : (s t : Task) → task_name s ≡ task_name t → s ≡ t
+one_task Rank Rank e = refl
+one_task Rank Rref e = absurd (let d : 97 ≡ 114 = ap (λ (l : List ℕ). get_or l 1 0) e in omega arith)
+one_task Rref Rank e = absurd (let d : 114 ≡ 97 = ap (λ (l : List ℕ). get_or l 1 0) e in omega arith)
+one_task Rref Rref e = refl
 
-same_command : (c d : Command) → c.modulus ≡ d.modulus → c ≡ d
-same_command c d e =
-    let of : Task → ℕ → Command = λ t n. record { task = t; modulus = n } in
-    ap (λ (t : Task). of t c.modulus) (same_task c.task d.task) ∙ ap (of d.task) e
+same_command : (c d : Command) → c.task ≡ d.task → c.modulus ≡ d.modulus → c ≡ d
+same_command c d s e =
+    let of : Task → ℕ → Command = λ t n. record { task = t; modulus = n } in ap (λ (t : Task). of t c.modulus) s ∙ ap (of d.task) e
 
-tails : (w a b : List (List ℕ)) (x : List ℕ) → w ≡ x ∷ a → w ≡ x ∷ b → b ≡ a
-tails w a b x e f = cc
+heads : (w a b : List (List ℕ)) (x y : List ℕ) → w ≡ x ∷ a → w ≡ y ∷ b → x ≡ y
+heads w a b x y e f = cc
+
+tails : (w a b : List (List ℕ)) (x y : List ℕ) → w ≡ x ∷ a → w ≡ y ∷ b → b ≡ a
+tails w a b x y e f = cc
 
 pub one_command : IsOneCommand
 one_command words c d a b =
     let x = accepted_options words c a in
     let y = accepted_options words d b in
     let P : List (List ℕ) → Type 0 = λ l. IsModulus l d.modulus in
-    let m = subst P (tails words x.0 y.0 _ x.1 y.1) y.2 in
-    same_command c d (one_form x.0 c.modulus d.modulus (modulus_forms x.0 c.modulus x.2) (modulus_forms x.0 d.modulus m))
+    let m = subst P (tails words x.0 y.0 _ _ x.1 y.1) y.2 in
+    same_command c d (one_task c.task d.task (heads words x.0 y.0 _ _ x.1 y.1)) (one_form x.0 c.modulus d.modulus (modulus_forms x.0 c.modulus x.2) (modulus_forms x.0 d.modulus m))
 
 -- no modulus is given by words of another form
 pub unknown_word : (w : List ℕ) → ((v : List ℕ) → w ≢ codes "--modulus=" ++ v) → (n : ℕ) → ¬ IsModulus (w ∷ []) n
@@ -244,22 +246,31 @@ same_word w l k e t h f = not_false (pointwise eqb w k) _ (bytes_eq-Decides w k)
 pub other_word : (w l k : List ℕ) → k ≡ l → (t : Bool) → t ≡ not (pointwise eqb w k) → t ≡ true → w ≢ l
 other_word w l k e t h f = λ d. not_true (pointwise eqb w k) _ (bytes_eq-Decides w k) (sym h ∙ f) (d ∙ sym e)
 
+-- two words are not equal where their equality is false
+pub unequal_word : (w l k : List ℕ) → k ≡ l → (t : Bool) → t ≡ pointwise eqb w k → t ≡ false → w ≢ l
+unequal_word w l k e t h f = λ d. let g : false ≡ true = sym (sym h ∙ f) ∙ (bytes_eq-Decides w k).1 (d ∙ sym e) in absurd cc
+
 -- what the options' result says of all words
 pub no_command : (c : Command) → ¬ Accepted [] c
-no_command c a = let x = accepted_options [] c a in absurd (let e : [] ≡ codes "rank" ∷ x.0 = x.1 in cc)
+no_command c a = let x = accepted_options [] c a in absurd (let e : [] ≡ task_name c.task ∷ x.0 = x.1 in cc)
 
-pub other_command : (w : List ℕ) (ws : List (List ℕ)) → w ≢ codes "rank" → (c : Command) → ¬ Accepted (w ∷ ws) c
-other_command w ws h c a = let x = accepted_options (w ∷ ws) c a in h (let e : w ∷ ws ≡ codes "rank" ∷ x.0 = x.1 in cc)
+pub other_command : (w : List ℕ) (ws : List (List ℕ)) → ((t : Task) → w ≢ task_name t) → (c : Command) → ¬ Accepted (w ∷ ws) c
+other_command w ws h c a = let x = accepted_options (w ∷ ws) c a in h c.task (let e : w ∷ ws ≡ task_name c.task ∷ x.0 = x.1 in cc)
 
 pub unknown_options : (w : List ℕ) (ws : List (List ℕ)) → ((n : ℕ) → ¬ IsModulus ws n) → (c : Command) → ¬ Accepted (w ∷ ws) c
 unknown_options w ws h c a =
     let x = accepted_options (w ∷ ws) c a in
     let P : List (List ℕ) → Type 0 = λ l. IsModulus l c.modulus in
-    let e : x.0 ≡ ws = let f : w ∷ ws ≡ codes "rank" ∷ x.0 = x.1 in cc in
+    let e : x.0 ≡ ws = let f : w ∷ ws ≡ task_name c.task ∷ x.0 = x.1 in cc in
     h c.modulus (subst P e x.2)
 
-pub known_options : (w : List ℕ) (ws : List (List ℕ)) (n : ℕ) → w ≡ codes "rank" → IsModulus ws n → Accepted (w ∷ ws) (record { task = Rank; modulus = n })
-known_options w ws n e m = let P : List ℕ → Type 0 = λ l. Accepted (l ∷ ws) (record { task = Rank; modulus = n }) in subst P (sym e) (accepted n ws m)
+pub known_options : (w : List ℕ) (ws : List (List ℕ)) (t : Task) (n : ℕ) → w ≡ task_name t → IsModulus ws n → Accepted (w ∷ ws) (record { task = t; modulus = n })
+known_options w ws t n e m = let P : List ℕ → Type 0 = λ l. Accepted (l ∷ ws) (record { task = t; modulus = n }) in subst P (sym e) (accepted t n ws m)
+
+-- a name that is neither task's
+pub no_task : (w : List ℕ) → w ≢ codes "rank" → w ≢ codes "rref" → (t : Task) → w ≢ task_name t
+no_task w h k Rank = h
+no_task w h k Rref = k
 
 pub no_words_left : (ws : List (Bor (List ℕ))) → length ws ≡ 0 → (c : Command) → ¬ Accepted (bytes_of ws) c
 no_words_left ws e c a = let P : List (List ℕ) → Type 0 = λ l. Accepted l c in no_command c (subst P (no_words ws e) a)

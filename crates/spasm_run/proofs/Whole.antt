@@ -1,7 +1,9 @@
 -- From what the parts of a run do to what it did.
 use Rattle.std.proofs.Common.{ℕ, Bool, true, false, ◌≡◌, List, [], ◌∷◌, ◌++◌, Option, None, Some, Ok, Err, refl, sym, ap, ◌∙◌, subst, inl, inr, append-nil}
+use Rattle.residue_words.specs.Matrix.{Matrix}
 use Rattle.residue_words.specs.Residues.{IsPrime}
-use Rattle.row_space.specs.Echelon.{HasRank}
+use Rattle.row_space.specs.Echelon.{IsRref}
+use Rattle.echelon_form.specs.Form.{Form, IsFormOf}
 use Rattle.sms_text.specs.declared.kind.TextError.{TextError}
 use Rattle.sms_text.specs.declared.kind.TextError.TheVariants as error
 use Rattle.sms_text.specs.declared.write.WriteFault.{WriteFault}
@@ -12,24 +14,25 @@ use Rattle.sms_text.specs.Whole.{RowsDid, IsNoMatrix}
 use Rattle.sms_text.proofs.Moving.{stays_at}
 use Rattle.sms_text.proofs.Runs.{with_items_got}
 use Rattle.sparse_rows.specs.Rows.{ResidueMatrix}
-use Rattle.sms_text.specs.Text.{Header, Got, Fault, read}
+use Rattle.sms_text.specs.Text.{Due, Header, Got, Fault, FirstFault, Reads, Short, read}
 use Rattle.sms_text.specs.Writing.{Writes}
 use Rattle.spasm_run.specs.declared.status.Status.{Status}
 use Rattle.spasm_run.specs.declared.status.Status.TheVariants as status
 use Rattle.spasm_run.specs.declared.words.Command.{Command}
-use Rattle.spasm_run.specs.declared.words.Task.TheVariants.{Rank}
-use Rattle.spasm_run.specs.Answers.{rank_text, wanted}
+use Rattle.spasm_run.specs.declared.words.Task.{Task}
+use Rattle.spasm_run.specs.declared.words.Task.TheVariants.{Rank, Rref}
+use Rattle.spasm_run.specs.Answers.{Answer, AnswerOf, wanted}
 use Rattle.spasm_run.specs.Faults.{status_of}
 use Rattle.spasm_run.specs.Ran.{Ran, HasCause, HasAnswer, Completes}
-use Rattle.spasm_run.specs.Texts.{Finds, RankRead}
+use Rattle.spasm_run.specs.Texts.{Finds, FormRead, form_text}
 use Rattle.spasm_run.specs.Words.{Accepted}
 use Rattle.spasm_run.proofs.Options.{one_command}
 use Rattle.spasm_run.proofs.Stays.{fault_of_all}
 
--- the rank of the matrix that was read is that of the input
-pub rank_found : (p limit : ℕ) (A : ResidueMatrix) (r : ℕ) (old new : ReaderState) (told told' : Option (List ℕ)) (f g : ℕ) → old ≡ new_reader limit → RowsDid p old new told told' f g (Ok A) →
-    (IsPrime A.modulus → HasRank A.modulus A.matrix r) → RankRead p limit told told' f g (Ok r)
-rank_found p limit A r old new told told' f g begins did ranks =
+-- the form of the matrix that was read is that of the input's
+pub form_found : (p limit : ℕ) (A : ResidueMatrix) (e : Form) (old new : ReaderState) (told told' : Option (List ℕ)) (f g : ℕ) → old ≡ new_reader limit → RowsDid p old new told told' f g (Ok A) →
+    IsFormOf A.modulus A.matrix e → FormRead p limit told told' f g (Ok e)
+form_found p limit A e old new told told' f g begins did form =
     let P : ReaderState → Type 0 = λ o. RowsDid p o new told told' f g (Ok A) in
     let x = subst P begins did in
     let taken = x.0 in
@@ -42,8 +45,10 @@ rank_found p limit A r old new told told' f g begins did ranks =
       finds = (
         whole.items,
         lines (new.kept ++ []),
+        A.matrix,
         ap (λ bs. read p new.ended limit 1 (Header ∷ []) (lines bs)) (sym (append-nil taken)) ∙ whole.stands.reads new.ended [] [] (stays_at new.ended) ∙ with_items_got whole.items (lines (new.kept ++ [])),
-        λ prime. (A.matrix, whole.matrix, (let Q : ℕ → Type 0 = λ m. IsPrime m → HasRank m A.matrix r in subst Q whole.modulus ranks prime)),
+        whole.matrix,
+        (let Q : ℕ → Type 0 = λ m. IsPrime m → IsRref m A.matrix e.matrix in subst Q whole.modulus form.rref),
       );
     }
 
@@ -53,10 +58,9 @@ no_matrix_says p limit new taken f g (error.Bad line k) why = why.1 []
 no_matrix_says p limit new taken f g error.Read why = (why.1 [], why.2)
 no_matrix_says p limit new taken f g error.Memory why = tt
 
--- no matrix was read
-pub rank_failed : (p limit : ℕ) (e : TextError) (old new : ReaderState) (told told' : Option (List ℕ)) (f g : ℕ) → old ≡ new_reader limit → RowsDid p old new told told' f g (Err e) →
-    RankRead p limit told told' f g (Err e)
-rank_failed p limit e old new told told' f g begins did =
+pub form_failed : (p limit : ℕ) (e : TextError) (old new : ReaderState) (told told' : Option (List ℕ)) (f g : ℕ) → old ≡ new_reader limit → RowsDid p old new told told' f g (Err e) →
+    FormRead p limit told told' f g (Err e)
+form_failed p limit e old new told told' f g begins did =
     let P : ReaderState → Type 0 = λ o. RowsDid p o new told told' f g (Err e) in
     let x = subst P begins did in record {
       bytes = x.0;
@@ -71,71 +75,83 @@ before_nothing None = refl
 before_nothing (Some bytes) = refl
 
 -- memory was wanted before anything was read
-pub rank_unread : (p limit : ℕ) (told : Option (List ℕ)) (f : ℕ) → RankRead p limit told told f f (Err error.Memory)
-rank_unread p limit told f = record { bytes = []; ended = false; taken = before_nothing told; spent = λ e. cc; finds = tt }
+pub form_unread : (p limit : ℕ) (told : Option (List ℕ)) (f : ℕ) → FormRead p limit told told f f (Err error.Memory)
+form_unread p limit told f = record { bytes = []; ended = false; taken = before_nothing told; spent = λ e. cc; finds = tt }
 
-abbrev rank_command : ℕ → Command
-rank_command p = record { task = Rank; modulus = p }
+-- each task reads one matrix
+one_matrix : (t : Task) → Header ∷ [] ≡ wanted t
+one_matrix Rank = refl
+one_matrix Rref = refl
 
-answer_found : (ws : List (List ℕ)) (p limit r : ℕ) (told told' : Option (List ℕ)) (f f' : ℕ) (found : RankRead p limit told told' f f' (Ok r)) →
-    HasAnswer (rank_command p) found.bytes found.ended limit (rank_text r)
-answer_found ws p limit r told told' f f' found = record {
-  items = found.finds.0;
-  rest = found.finds.1;
-  reads = found.finds.2;
-  answers = λ prime. let x = found.finds.3 prime in (x.0, r, x.1, x.2, refl);
-}
+-- the echelon form answers each task
+form_answers : (t : Task) (p : ℕ) (A E : Matrix) → IsRref p A E → AnswerOf t p (A ∷ []) (form_text t E)
+form_answers Rank p A E h = (A, E.height, refl, (E, h, refl), refl)
+form_answers Rref p A E h = (A, E, refl, h, refl)
 
--- the rank was found and written, or not written; or no rank was found
-pub ran_done : (ws : List (List ℕ)) (q p limit r : ℕ) (told told' : Option (List ℕ)) (f f' : ℕ) (held held' : Option (List ℕ)) (g g' : ℕ) → q ≡ p → Accepted ws (rank_command p) →
-    RankRead q limit told told' f f' (Ok r) → held' ≡ behind held (rank_text r) → Ran ws limit told told' f f' held held' g g' status.Done
-ran_done ws q p limit r told told' f f' held held' g g' same accepted read_at written =
-    let P : ℕ → Type 0 = λ m. RankRead m limit told told' f f' (Ok r) in
+answer_found : (c : Command) (limit : ℕ) (e : Form) (told told' : Option (List ℕ)) (f f' : ℕ) (found : FormRead c.modulus limit told told' f f' (Ok e)) →
+    HasAnswer c found.bytes found.ended limit (form_text c.task e.matrix)
+answer_found c limit e told told' f f' found =
+    let (items, rest, A, reads, values, form) = found.finds in
+    let P : List Due → Type 0 = λ dues. Reads found.bytes found.ended limit dues c.modulus items rest in
+    let Q : List Matrix → Type 0 = λ ms. Answer c ms (form_text c.task e.matrix) in record {
+      items = items;
+      rest = rest;
+      reads = subst P (one_matrix c.task) reads;
+      answers = λ prime. subst Q (sym values) (form_answers c.task c.modulus A e.matrix (form prime));
+    }
+
+-- the form was found, and its answer written, or not written; or no form was found
+pub ran_done : (ws : List (List ℕ)) (q : ℕ) (c : Command) (limit : ℕ) (e : Form) (told told' : Option (List ℕ)) (f f' : ℕ) (held held' : Option (List ℕ)) (g g' : ℕ) → q ≡ c.modulus → Accepted ws c →
+    FormRead q limit told told' f f' (Ok e) → held' ≡ behind held (form_text c.task e.matrix) → Ran ws limit told told' f f' held held' g g' status.Done
+ran_done ws q c limit e told told' f f' held held' g g' same accepted read_at written =
+    let P : ℕ → Type 0 = λ m. FormRead m limit told told' f f' (Ok e) in
     let found = subst P same read_at in record {
       bytes = found.bytes;
       ended = found.ended;
       taken = found.taken;
       spent = found.spent;
-      cause = (rank_command p, rank_text r, accepted, answer_found ws p limit r told told' f f' found, written);
+      cause = (c, form_text c.task e.matrix, accepted, answer_found c limit e told told' f f' found, written);
     }
 
-pub ran_unwritten : (ws : List (List ℕ)) (q p limit r : ℕ) (told told' : Option (List ℕ)) (f f' : ℕ) (held held' : Option (List ℕ)) (g g' : ℕ) (fault : WriteFault) → q ≡ p → Accepted ws (rank_command p) →
-    RankRead q limit told told' f f' (Ok r) → Writes (Err fault) (rank_text r) held held' g g' → Ran ws limit told told' f f' held held' g g' status.WriteFault
-ran_unwritten ws q p limit r told told' f f' held held' g g' fault same accepted read_at (part, rest, cut, put, rose) =
-    let P : ℕ → Type 0 = λ m. RankRead m limit told told' f f' (Ok r) in
+pub ran_unwritten : (ws : List (List ℕ)) (q : ℕ) (c : Command) (limit : ℕ) (e : Form) (told told' : Option (List ℕ)) (f f' : ℕ) (held held' : Option (List ℕ)) (g g' : ℕ) (fault : WriteFault) → q ≡ c.modulus → Accepted ws c →
+    FormRead q limit told told' f f' (Ok e) → Writes (Err fault) (form_text c.task e.matrix) held held' g g' → Ran ws limit told told' f f' held held' g g' status.WriteFault
+ran_unwritten ws q c limit e told told' f f' held held' g g' fault same accepted read_at (part, rest, cut, put, rose) =
+    let P : ℕ → Type 0 = λ m. FormRead m limit told told' f f' (Ok e) in
     let found = subst P same read_at in record {
       bytes = found.bytes;
       ended = found.ended;
       taken = found.taken;
       spent = found.spent;
       cause = (
-        rank_command p,
+        c,
         part,
         rest,
         accepted,
-        (let P : List ℕ → Type 0 = λ l. HasAnswer (rank_command p) found.bytes found.ended limit l in subst P cut (answer_found ws p limit r told told' f f' found)),
+        (let P : List ℕ → Type 0 = λ l. HasAnswer c found.bytes found.ended limit l in subst P cut (answer_found c limit e told told' f f' found)),
         put,
         rose,
       );
     }
 
-failed_cause : (ws : List (List ℕ)) (p limit : ℕ) (bytes : List ℕ) (ended : Bool) (f f' : ℕ) (held : Option (List ℕ)) (g g' : ℕ) (e : TextError) → Accepted ws (rank_command p) →
-    Finds p bytes ended limit f f' (Err e) → HasCause ws limit bytes ended f f' held held g g' (status_of e)
-failed_cause ws p limit bytes ended f f' held g g' (error.Bad line k) accepted finds = (rank_command p, accepted, finds, refl)
-failed_cause ws p limit bytes ended f f' held g g' error.Read accepted finds = (rank_command p, accepted, finds.0, finds.1, refl)
-failed_cause ws p limit bytes ended f f' held g g' error.Memory accepted finds = refl
+failed_cause : (ws : List (List ℕ)) (c : Command) (limit : ℕ) (bytes : List ℕ) (ended : Bool) (f f' : ℕ) (held : Option (List ℕ)) (g g' : ℕ) (e : TextError) → Accepted ws c →
+    Finds c.modulus bytes ended limit f f' (Err e) → HasCause ws limit bytes ended f f' held held g g' (status_of e)
+failed_cause ws c limit bytes ended f f' held g g' (error.Bad line k) accepted finds =
+    let P : List Due → Type 0 = λ dues. FirstFault bytes ended limit dues c.modulus line k in (c, accepted, subst P (one_matrix c.task) finds, refl)
+failed_cause ws c limit bytes ended f f' held g g' error.Read accepted finds =
+    let P : List Due → Type 0 = λ dues. read c.modulus ended limit 1 dues (lines bytes) ≡ Short in (c, accepted, subst P (one_matrix c.task) finds.0, finds.1, refl)
+failed_cause ws c limit bytes ended f f' held g g' error.Memory accepted finds = refl
 
-pub ran_unread : (ws : List (List ℕ)) (q p limit : ℕ) (told told' : Option (List ℕ)) (f f' : ℕ) (held : Option (List ℕ)) (g g' : ℕ) (e : TextError) (s : Status) → q ≡ p → Accepted ws (rank_command p) →
-    RankRead q limit told told' f f' (Err e) → s ≡ status_of e → Ran ws limit told told' f f' held held g g' s
-ran_unread ws q p limit told told' f f' held g g' e s same accepted read_at is =
-    let P : ℕ → Type 0 = λ m. RankRead m limit told told' f f' (Err e) in
+pub ran_unread : (ws : List (List ℕ)) (q : ℕ) (c : Command) (limit : ℕ) (told told' : Option (List ℕ)) (f f' : ℕ) (held : Option (List ℕ)) (g g' : ℕ) (e : TextError) (s : Status) → q ≡ c.modulus → Accepted ws c →
+    FormRead q limit told told' f f' (Err e) → s ≡ status_of e → Ran ws limit told told' f f' held held g g' s
+ran_unread ws q c limit told told' f f' held g g' e s same accepted read_at is =
+    let P : ℕ → Type 0 = λ m. FormRead m limit told told' f f' (Err e) in
     let found = subst P same read_at in
     let Q : Status → Type 0 = λ t. HasCause ws limit found.bytes found.ended f f' held held g g' t in record {
       bytes = found.bytes;
       ended = found.ended;
       taken = found.taken;
       spent = found.spent;
-      cause = subst Q (sym is) (failed_cause ws p limit found.bytes found.ended f f' held g g' e accepted found.finds);
+      cause = subst Q (sym is) (failed_cause ws c limit found.bytes found.ended f f' held g g' e accepted found.finds);
     }
 
 -- nothing was read where no command is accepted

@@ -4,11 +4,12 @@ use Rattle.std.specs.List.{Contains, flat_map}
 use Rattle.sms_text.specs.Numbers.{is_number, value}
 use Rattle.spasm_run.specs.declared.words.Command.{Command}
 use Rattle.spasm_run.specs.declared.words.Task.{Task}
-use Rattle.spasm_run.specs.declared.words.Task.TheVariants.{Rank}
+use Rattle.spasm_run.specs.declared.words.Task.TheVariants.{Rank, Rref}
 
 -- the name of a command, its first word
 abbrev pub task_name : Task → List ℕ
 task_name Rank = codes "rank"
+task_name Rref = codes "rref"
 
 -- an option as it is given: its name and its value, joined to it by = or standing as a word of its own
 pub record Given : Type 0 where

@@ -12,6 +12,7 @@ mod top;
 mod words;
 
 pub use gate::{Gate, Open, Point};
+pub use plain::plain_rows;
 pub use rank::rank_of;
 pub use status::Status;
 pub use top::{run, run_within};

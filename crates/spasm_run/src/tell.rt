@@ -5,12 +5,28 @@ ghost use Rattle.sms_text.specs.Writing.{Writes};
 ghost use Rattle.spasm_run.specs.Answers.{rank_text};
 ghost use Rattle.spasm_run.specs.Faults.{SaysWhy};
 ghost use Rattle.spasm_run.specs.Ran.{fault_line};
+ghost use Rattle.spasm_run.specs.Texts.{form_text};
 
 use crate::status::{Status, kind_number};
-use sms_text::{Sink, WriteFault, write_number, write_text};
+use crate::words::Task;
+use echelon_form::Echelon;
+use sms_text::{Sink, WriteFault, write_number, write_rows, write_text};
 
-/// Writes the answer to the rank of a matrix.
-pub fn write_rank<K: Sink>(out: &mut K, rank: u64) -> Result<(), WriteFault>
+/// Writes what is answered to a command where this is the form of its matrix. It takes no memory.
+pub fn write_answer<K: Sink>(out: &mut K, task: Task, form: &Echelon) -> Result<(), WriteFault>
+    requires height { form.now.matrix.height ≤ 2147483647 }
+    requires width { form.now.matrix.width ≤ 2147483647 }
+    ensures did { Writes result (form_text task form.now.matrix) (K.held out.old) (K.held out.new) (K.faults out.old) (K.faults out.new) }
+    ensures count { K.faults out.old ≤ K.faults out.new }
+{
+    match task {
+        Task::Rank => write_rank(out, u64::from(form.rank())),
+        Task::Rref => write_rows(out, form.rows()),
+    }
+}
+
+// Writes the answer to the rank of a matrix.
+fn write_rank<K: Sink>(out: &mut K, rank: u64) -> Result<(), WriteFault>
     ensures did { Writes result (rank_text rank) (K.held out.old) (K.held out.new) (K.faults out.old) (K.faults out.new) }
     ensures count { K.faults out.old ≤ K.faults out.new }
 {

@@ -2,9 +2,14 @@
 ghost use Rattle.std.specs.Prelude.{◌<◌, ◌≤◌};
 
 use crate::gate::Open;
+use crate::plain::plain_rows;
+use crate::rank::rank_of;
 use crate::status::Status;
 use crate::top::{run, run_within};
-use sms_text::{Kind, MemorySink, MemorySource, SteadySink, SteadySource};
+use echelon_form::Echelon;
+use residue_words::Modulus;
+use sms_text::{Kind, MemorySink, MemorySource, Reader, SteadySink, SteadySource, read_rows};
+use sparse_rows::Rows;
 use std::alloc::{AllocError, Global};
 use std::test::Fail;
 use std::thread::Threads;
@@ -113,6 +118,58 @@ fn ranks_are_as_known(rt: HostRuntime) -> Result<(), Fail> {
         assert_eq!(rt; ran.status, Status::Done, "at {text}");
         assert_eq!(rt; ran.out.content(), want.as_bytes(), "at {text}");
         assert_eq!(rt; ran.err.content().len(), 0, "at {text}");
+    }
+    Ok(())
+}
+
+#[test]
+fn forms_are_as_known(rt: HostRuntime) -> Result<(), Fail> {
+    let cases: [(&str, &str, &str); 9] = [
+        ("7", X, "2 3 M\n1 1 1\n1 2 2\n2 3 1\n0 0 0\n"),
+        ("7", "0 5 M\n0 0 0\n", "0 5 M\n0 0 0\n"),
+        (
+            "2147483647",
+            "1 1 M\n1 1 -1\n0 0 0\n",
+            "1 1 M\n1 1 1\n0 0 0\n",
+        ),
+        (
+            "7",
+            "1 2 M\n1 1 100000000000000000000000000000000000000000000000000000000000\n1 2 1\n0 0 0\n",
+            "1 2 M\n1 1 1\n1 2 3\n0 0 0\n",
+        ),
+        (
+            "7",
+            "% made by hand\r\n\r\n2 2 R\r\n2 2 5\r\n# middle\r\n1 1 3\r\n0 0 0\r\n",
+            "2 2 M\n1 1 1\n2 2 1\n0 0 0\n",
+        ),
+        (
+            "4294967311",
+            "1 2 M\n1 1 2\n1 2 1\n0 0 0\n",
+            "1 2 M\n1 1 1\n1 2 2147483656\n0 0 0\n",
+        ),
+        (
+            "7",
+            "1 2 M\n1 1 1/2\n1 2 -3/4\n0 0 0\n",
+            "1 2 M\n1 1 1\n1 2 2\n0 0 0\n",
+        ),
+        (
+            "7",
+            "1000000 1000000 M\n1 1000000 3\n1000000 1 2\n0 0 0\n",
+            "2 1000000 M\n1 1 1\n2 1000000 1\n0 0 0\n",
+        ),
+        ("7", "5 0 M\n0 0 0\n", "0 0 M\n0 0 0\n"),
+    ];
+    for (p, text, want) in cases {
+        let ran = run_on(
+            &rt,
+            rt.alloc(),
+            &["rref", "--modulus", p],
+            text.as_bytes(),
+            LIMIT,
+            &CALM,
+        )?;
+        assert_eq!(rt; ran.status, Status::Done, "at {text}");
+        assert_eq!(rt; ran.out.content(), want.as_bytes(), "at {text}");
     }
     Ok(())
 }
@@ -238,12 +295,13 @@ fn a_text_that_is_cut_or_too_long_is_refused(rt: HostRuntime) -> Result<(), Fail
 
 #[test]
 fn words_that_are_not_accepted_are_refused(rt: HostRuntime) -> Result<(), Fail> {
-    let cases: [&[&str]; 7] = [
+    let cases: [&[&str]; 8] = [
         &["rank", "--workers", "0"],
         &["rank", "--modulus", "1"],
         &["rank", "--modulus", "281474976710656"],
         &["rank", "--modulus", "7", "--modulus=7"],
         &["rang"],
+        &["rre"],
         &[],
         &["--help"],
     ];
@@ -402,5 +460,45 @@ fn steady_streams_give_an_answer(rt: HostRuntime) -> Result<(), Fail> {
         &Open,
     );
     assert_eq!(rt; status, Status::Done);
+    Ok(())
+}
+
+// The matrix that a text stands for.
+fn rows_of(alloc: Global, modulus: &Modulus, text: &str) -> Result<Rows, Fail> {
+    let mut source = SteadySource::new(Vec::from_slice(alloc, text.as_bytes())?, 64);
+    let mut reader = Reader::new(alloc, 99)?;
+    match read_rows(&mut reader, alloc, &mut source, modulus) {
+        Ok(rows) => Ok(rows),
+        Err(_) => Err(Fail::new("not read")),
+    }
+}
+
+// The rank of a matrix by plain elimination.
+fn plain_rank(alloc: Global, rows: &Rows) -> Result<usize, AllocError> {
+    let plain = plain_rows(alloc, rows)?;
+    rank_of(alloc, &rows.modulus(), rows.width() as usize, plain)
+}
+
+#[test]
+fn the_form_has_the_rank_of_plain_elimination(rt: HostRuntime) -> Result<(), Fail> {
+    let alloc = rt.alloc();
+    let cases: [(u64, &str); 7] = [
+        (7, X),
+        (
+            7,
+            "3 3 M\n1 1 1\n2 1 1\n2 2 1\n2 3 1\n3 1 1\n3 2 1\n3 3 2\n0 0 0\n",
+        ),
+        (3, "3 3 M\n1 2 1\n1 3 2\n2 2 2\n2 3 1\n3 1 1\n0 0 0\n"),
+        (2, "2 2 M\n1 1 1\n1 2 1\n2 1 1\n2 2 1\n0 0 0\n"),
+        (5, "2 3 M\n1 3 4\n2 2 3\n2 3 4\n0 0 0\n"),
+        (7, "0 3 M\n0 0 0\n"),
+        (7, "3 0 M\n0 0 0\n"),
+    ];
+    for (p, text) in cases {
+        let rows = rows_of(alloc, &Modulus::new(p), text)?;
+        let rank = plain_rank(alloc, &rows)?;
+        let form = Echelon::of(&rt, alloc, &rows, 1)?;
+        assert_eq!(rt; form.rank() as usize, rank, "at {text}");
+    }
     Ok(())
 }

@@ -1,23 +1,19 @@
 // A run, from words and bytes to an answer.
 ghost use Rattle.std.specs.Prelude.{◌≡◌, ◌<◌, ◌≤◌, ◌^◌, ℕ, List, IfOk};
-ghost use Rattle.residue_words.specs.Residues.{IsPrime};
-ghost use Rattle.row_space.specs.Echelon.{HasRank};
 ghost use Rattle.spasm_run.specs.Words.{Accepted};
 ghost use Rattle.spasm_run.specs.Faults.{SaysWhy, status_of};
 ghost use Rattle.spasm_run.specs.Options.{bytes_of};
 ghost use Rattle.spasm_run.specs.Ran.{Completes, Ran};
-ghost use Rattle.spasm_run.specs.Texts.{RankRead};
+ghost use Rattle.spasm_run.specs.Texts.{FormRead};
 
 use crate::gate::Gate;
-use crate::plain::plain_rows;
-use crate::rank::rank_of;
 use crate::status::Status;
-use crate::tell::{tell, write_rank};
-use crate::words::{Task, read_words};
+use crate::tell::{tell, write_answer};
+use crate::words::{Command, Task, read_words};
+use echelon_form::Echelon;
 use residue_words::Modulus;
 use sms_text::{Reader, Sink, Source, TextError, read_rows};
-use sparse_rows::Rows;
-use std::alloc::{AllocError, Global};
+use std::alloc::Global;
 use std::thread::Threads;
 
 // The most bytes of an input, 2^40.
@@ -51,7 +47,7 @@ pub fn run<R: Threads + Sync, S: Source, K: Sink, E: Sink, G: Gate>(
 
 /// The same for an input of at most `limit` bytes, a limit of at most 2^40.
 pub fn run_within<R: Threads + Sync, S: Source, K: Sink, E: Sink, G: Gate>(
-    _rt: &R,
+    rt: &R,
     alloc: Global,
     words: &[&str],
     source: &mut S,
@@ -68,13 +64,14 @@ pub fn run_within<R: Threads + Sync, S: Source, K: Sink, E: Sink, G: Gate>(
     ensures out_count { K.faults out.old ≤ K.faults out.new }
     ensures err_count { E.faults err.old ≤ E.faults err.new }
 {
-    let status = answer(alloc, words, source, out, limit);
+    let status = answer(rt, alloc, words, source, out, limit);
     tell(err, status);
     status
 }
 
 // Reads, computes and writes the answer.
-fn answer<S: Source, K: Sink>(
+fn answer<R: Threads + Sync, S: Source, K: Sink>(
+    rt: &R,
     alloc: Global,
     words: &[&str],
     source: &mut S,
@@ -91,28 +88,29 @@ fn answer<S: Source, K: Sink>(
         None => return Status::Usage,
     };
     match command.task {
-        Task::Rank => answer_rank(alloc, command.modulus, source, out, limit),
+        Task::Rank | Task::Rref => answer_by_form(rt, alloc, command, source, out, limit),
     }
 }
 
-// Reads a matrix, and writes its rank.
-fn answer_rank<S: Source, K: Sink>(
+// Reads a matrix, and writes what its echelon form answers.
+fn answer_by_form<R: Threads + Sync, S: Source, K: Sink>(
+    rt: &R,
     alloc: Global,
-    modulus: u64,
+    command: Command,
     source: &mut S,
     out: &mut K,
     limit: u64,
 ) -> Status
     requires limit { limit ≤ 1099511627776 }
-    requires two_or_more { 2 ≤ modulus }
-    requires in_range { modulus < 2 ^ 48 }
-    ensures ran { (ws : List (List ℕ)) → Accepted ws (record { task = Task.Rank; modulus = modulus }) → Ran ws limit (S.told source.old) (S.told source.new) (S.faults source.old) (S.faults source.new) (K.held out.old) (K.held out.new) (K.faults out.old) (K.faults out.new) result }
+    requires two_or_more { 2 ≤ command.modulus }
+    requires in_range { command.modulus < 2 ^ 48 }
+    ensures ran { (ws : List (List ℕ)) → Accepted ws command → Ran ws limit (S.told source.old) (S.told source.new) (S.faults source.old) (S.faults source.new) (K.held out.old) (K.held out.new) (K.faults out.old) (K.faults out.new) result }
     ensures source_count { S.faults source.old ≤ S.faults source.new }
     ensures out_count { K.faults out.old ≤ K.faults out.new }
 {
-    let p = Modulus::new(modulus);
-    match find_rank(alloc, &p, source, limit) {
-        Ok(rank) => match write_rank(out, rank) {
+    let p = Modulus::new(command.modulus);
+    match read_form(rt, alloc, &p, source, limit) {
+        Ok(form) => match write_answer(out, command.task, &form) {
             Ok(()) => Status::Done,
             Err(_) => Status::WriteFault,
         },
@@ -131,15 +129,17 @@ fn fault_status(error: TextError) -> Status
     }
 }
 
-// The rank of the matrix that is read.
-fn find_rank<S: Source>(
+// The echelon form of the matrix that is read.
+fn read_form<R: Threads + Sync, S: Source>(
+    rt: &R,
     alloc: Global,
     p: &Modulus,
     source: &mut S,
     limit: u64,
-) -> Result<u64, TextError>
+) -> Result<Echelon, TextError>
     requires { limit ≤ 1099511627776 }
-    ensures did { RankRead p.now limit (S.told source.old) (S.told source.new) (S.faults source.old) (S.faults source.new) result }
+    ensures did { FormRead p.now limit (S.told source.old) (S.told source.new) (S.faults source.old) (S.faults source.new) result }
+    ensures sizes { IfOk result (λ form. (form.matrix.height ≤ 2147483647) × (form.matrix.width ≤ 2147483647)) }
     ensures count { S.faults source.old ≤ S.faults source.new }
 {
     let Ok(mut reader) = Reader::new(alloc, limit) else {
@@ -149,16 +149,8 @@ fn find_rank<S: Source>(
         Ok(rows) => rows,
         Err(error) => return Err(error),
     };
-    match rank_of_rows(alloc, &rows) {
-        Ok(rank) => Ok(rank as u64),
+    match Echelon::of(rt, alloc, &rows, 1) {
+        Ok(form) => Ok(form),
         Err(_) => Err(TextError::Memory),
     }
-}
-
-// The rank of a matrix.
-fn rank_of_rows(alloc: Global, rows: &Rows) -> Result<usize, AllocError>
-    ensures { IfOk result (λ r. IsPrime rows.now.modulus → HasRank rows.now.modulus rows.now.matrix r) }
-{
-    let plain = plain_rows(alloc, rows)?;
-    rank_of(alloc, &rows.modulus(), rows.width() as usize, plain)
 }

@@ -1,7 +1,7 @@
 // The words of the command line.
 ghost use Rattle.std.specs.Prelude.{◌≡◌, ◌≢◌, ◌++◌, ℕ, List, [], ◌∷◌, true, false, codes, min, MatchOption};
 ghost use Rattle.sms_text.specs.Numbers.{is_number, value};
-ghost use Rattle.spasm_run.specs.Words.{IsInRange};
+ghost use Rattle.spasm_run.specs.Words.{IsInRange, task_name};
 ghost use Rattle.spasm_run.specs.Options.{IsCommandOf, IsModulusOf, IsOneCommand, bytes_of};
 
 // The options' modulus where none is given.
@@ -17,6 +17,8 @@ const CAP: u64 = 281_474_976_710_656;
 pub enum Task {
     /// The rank of a matrix.
     Rank,
+    /// The reduced row echelon form of a matrix.
+    Rref,
 }
 
 /// What is asked for, and modulo what.
@@ -43,16 +45,26 @@ pub fn read_words(words: &[&str]) -> Option<Command>
 fn read_command(name: &[u8], options: &[&str]) -> Option<Command>
     ensures { IsCommandOf (name.now ∷ bytes_of options.now) result }
 {
-    if name != b"rank".as_slice() {
+    let Some(task) = task_of(name) else {
         return None;
-    }
+    };
     match read_modulus(options) {
-        Some(modulus) => Some(Command {
-            task: Task::Rank,
-            modulus,
-        }),
+        Some(modulus) => Some(Command { task, modulus }),
         None => None,
     }
+}
+
+// The task of this name.
+fn task_of(name: &[u8]) -> Option<Task>
+    ensures { MatchOption result ((t : Task) → name.now ≢ task_name t) (λ t. name.now ≡ task_name t) }
+{
+    if name == b"rank".as_slice() {
+        return Some(Task::Rank);
+    }
+    if name == b"rref".as_slice() {
+        return Some(Task::Rref);
+    }
+    None
 }
 
 /// Words ask for one command at most.

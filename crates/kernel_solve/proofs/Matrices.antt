@@ -1,0 +1,89 @@
+-- The entries of matrices put together of others, and that they are matrices of residues.
+use Rattle.std.proofs.Common.{ℕ, ◌≡◌, ◌+◌, ◌-◌, ◌%◌, ◌<◌, ◌≤◌, inl, inr, List, [], ◌++◌, length, slice_index, cond, eqb, refl, ap, ap₂, ◌∙◌, arith, mod-lt}
+use Rattle.std.proofs.lemmas.Bool.{cases_eq, cases_lt, cond-true, cond-false, eq-eqb, ne_eqb}
+use Rattle.std.proofs.lemmas.List.{get_or-map, get_or_append_left, get_or-append_right, length-append, length-map}
+use Rattle.std.proofs.lemmas.List.FromFn.{get_or-map-range_with_len, length-map-range_with_len}
+use Rattle.residue_words.specs.Matrix.{Matrix, IsMatrix, entry, row}
+use Rattle.residue_words.proofs.Vectors.{entry_matrix_of, entry_residue, is_matrix_of}
+use Rattle.sparse_rows.specs.Rows.{beside, identity, selected, transposed}
+use Rattle.kernel_solve.specs.Columns.{arranged, negated}
+
+-- a transposed matrix
+pub transposed_entry : (M : Matrix) (i j : ℕ) → i < M.width → j < M.height → entry (transposed M) i j ≡ entry M j i
+transposed_entry M i j a b = entry_matrix_of M.width M.height (λ i j. entry M j i) i j a b
+
+pub transposed_matrix : {p : ℕ} {M : Matrix} → IsMatrix p M → IsMatrix p (transposed M)
+transposed_matrix {p} {M} m = is_matrix_of p M.width M.height (λ i j. entry M j i) (λ i j a b. entry_residue p M m j i b a)
+
+-- selected rows
+pub selected_row : (M : Matrix) (named : List ℕ) (i : ℕ) → i < length named → row (selected M named) i ≡ row M (slice_index named i)
+selected_row M named i l = get_or-map (row M) named i 0 [] l
+
+pub selected_entry : (M : Matrix) (named : List ℕ) (i j : ℕ) → i < length named → entry (selected M named) i j ≡ entry M (slice_index named i) j
+selected_entry M named i j l = ap (λ u. slice_index u j) (selected_row M named i l)
+
+pub selected_matrix : {p : ℕ} {M : Matrix} → IsMatrix p M → (named : List ℕ) → ((i : ℕ) → i < length named → slice_index named i < M.height) → IsMatrix p (selected M named)
+selected_matrix {p} {M} m named inside = record {
+  len = length-map named (row M);
+  each = λ i l. rw (selected_row M named i l) (m.each (slice_index named i) (inside i l));
+}
+
+-- two matrices side by side
+pub beside_row : (A B : Matrix) (i : ℕ) → i < A.height → row (beside A B) i ≡ row A i ++ row B i
+beside_row A B i l = get_or-map-range_with_len (λ i. row A i ++ row B i) 0 A.height i i [] l (omega arith)
+
+pub beside_left : {p : ℕ} {A : Matrix} → IsMatrix p A → (B : Matrix) (i j : ℕ) → i < A.height → j < A.width → entry (beside A B) i j ≡ entry A i j
+beside_left {p} {A} m B i j a b = ap (λ u. slice_index u j) (beside_row A B i a) ∙ get_or_append_left (row A i) (row B i) 0 j (omega (arith, (m.each i a).len))
+
+pub beside_right : {p : ℕ} {A : Matrix} → IsMatrix p A → (B : Matrix) (i j : ℕ) → i < A.height → entry (beside A B) i (A.width + j) ≡ entry B i j
+beside_right {p} {A} m B i j a =
+    ap (λ u. slice_index u (A.width + j)) (beside_row A B i a) ∙ get_or-append_right (row A i) (row B i) A.width (A.width + j) 0 (m.each i a).len (omega arith)
+    ∙ ap (slice_index (row B i)) (let e : A.width + j - A.width ≡ j = omega arith in e)
+
+pub beside_matrix : {p : ℕ} {A B : Matrix} → IsMatrix p A → IsMatrix p B → A.height ≡ B.height → IsMatrix p (beside A B)
+beside_matrix {p} {A} {B} a b same = record {
+  len = length-map-range_with_len (λ i. row A i ++ row B i) 0 A.height;
+  each = λ i l. rw (beside_row A B i l) (record {
+    len = length-append (row A i) (row B i) ∙ ap₂ (λ x y. x + y) (a.each i l).len (b.each i (omega arith)).len;
+    residues = λ j o. elim (cases_lt j A.width) [
+      | inl s ↦ omega (arith, get_or_append_left (row A i) (row B i) 0 j (omega (arith, (a.each i l).len)), (a.each i l).residues j s)
+      | inr s ↦ omega (arith, get_or-append_right (row A i) (row B i) A.width j 0 (a.each i l).len s, (b.each i (omega arith)).residues (j - A.width) (omega arith))
+    ];
+  });
+}
+
+-- the negative matrix
+pub negated_entry : (p : ℕ) (M : Matrix) (i j : ℕ) → i < M.height → j < M.width → entry (negated p M) i j ≡ (p - entry M i j) % p
+negated_entry p M i j a b = entry_matrix_of M.height M.width (λ i j. (p - entry M i j) % p) i j a b
+
+pub negated_matrix : (p : ℕ) (M : Matrix) → 0 < p → IsMatrix p (negated p M)
+negated_matrix p M pos = is_matrix_of p M.height M.width (λ i j. (p - entry M i j) % p) (λ i j a b. mod-lt _ pos)
+
+-- the identity
+pub identity_entry : (n i j : ℕ) → i < n → j < n → entry (identity n) i j ≡ cond (eqb i j) 1 0
+identity_entry n i j a b = entry_matrix_of n n (λ i j. cond (eqb i j) 1 0) i j a b
+
+pub identity_same : (n i : ℕ) → i < n → entry (identity n) i i ≡ 1
+identity_same n i l = identity_entry n i i l l ∙ cond-true (eqb i i) 1 0 (eq-eqb i i refl)
+
+pub identity_other : (n i j : ℕ) → i < n → j < n → (i ≡ j → ⊥) → entry (identity n) i j ≡ 0
+identity_other n i j a b d = identity_entry n i j a b ∙ cond-false (eqb i j) 1 0 (ne_eqb i j d)
+
+pub identity_matrix : (p n : ℕ) → 2 ≤ p → IsMatrix p (identity n)
+identity_matrix p n two = is_matrix_of p n n (λ i j. cond (eqb i j) 1 0) (λ i j a b. elim (cases_eq i j) [
+  | inl e ↦ omega (arith, cond-true {A = ℕ} (eqb i j) 1 0 (eq-eqb i j e))
+  | inr d ↦ omega (arith, cond-false {A = ℕ} (eqb i j) 1 0 (ne_eqb i j d))
+])
+
+-- the columns of [A | B] in an order
+pub arranged_left : {p : ℕ} {A : Matrix} → IsMatrix p A → (B : Matrix) (order : List ℕ) (j i k : ℕ) → j < length order → i < A.height → slice_index order j ≡ k → k < A.width →
+    entry (arranged A B order) j i ≡ entry A i k
+arranged_left {p} {A} m B order j i k a b e l =
+    selected_entry (transposed (beside A B)) order j i a ∙ ap (λ t. entry (transposed (beside A B)) t i) e
+    ∙ transposed_entry (beside A B) k i (omega arith) b ∙ beside_left m B i k b l
+
+pub arranged_right : {p : ℕ} {A : Matrix} → IsMatrix p A → (B : Matrix) (order : List ℕ) (j i k : ℕ) → j < length order → i < A.height → slice_index order j ≡ A.width + k → k < B.width →
+    entry (arranged A B order) j i ≡ entry B i k
+arranged_right {p} {A} m B order j i k a b e l =
+    selected_entry (transposed (beside A B)) order j i a ∙ ap (λ t. entry (transposed (beside A B)) t i) e
+    ∙ transposed_entry (beside A B) (A.width + k) i (omega arith) b ∙ beside_right m B i k b

@@ -1,0 +1,17 @@
+//! What an echelon form tells: the kernel basis, the solution of a system or that there is none, the system for what refutes it, and the inverse.
+//!
+//! For moduli that are no primes each call is safe and gives matrices of the sizes told, and nothing else is said of them.
+#![tactic(auto)]
+
+mod bases;
+mod inverses;
+mod outcome;
+mod places;
+mod systems;
+#[cfg(test)]
+mod tests;
+
+pub use bases::{kernel, left_kernel};
+pub use inverses::inverse;
+pub use outcome::Inverse;
+pub use systems::{Found, refuting_system, solution};
