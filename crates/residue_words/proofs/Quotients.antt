@@ -1,4 +1,4 @@
--- Quotients found by a product with a reciprocal: w stands for 2^64, z for 1 or 2^32, m is the quotient of z w by p, with remainder e.
+-- Quotients found by a product with a reciprocal: w stands for 2^64 or 2^32, z for 1, 2^32 or a residue, m is the quotient of z w by p, with remainder e.
 use Rattle.std.proofs.Common.{ℕ, ◌≡◌, ◌≢◌, ◌+◌, ◌*◌, ◌/◌, ◌%◌, ◌<◌, ◌≤◌, sym, ap, ◌∙◌, arith, mod-lt}
 use Rattle.std.proofs.Math.Nat.{div-add-mod, lt_of_mul-lt-mul_left, mul-le-mul_left, mul-le-mul_right}
 use Rattle.std.proofs.lemmas.Nat.{mod-mul-add}
@@ -28,13 +28,13 @@ estimate_near w z p m e x high low q f pos h1 h2 h3 le lf lh ll =
     lt_of_mul-lt-mul_left w less
 
 -- where nothing is shifted out, it leaves less than twice p
-pub estimate_nearer : (w p m e x q f : ℕ) → 0 < w → p * m + e ≡ w → w * q + f ≡ x * m →
-    e < p → f < w → x < w → x < q * p + 2 * p
-estimate_nearer w p m e x q f pos h1 h3 le lf lh =
-    let one : x * e ≤ w * e = mul-le-mul_right e (omega arith) in
+pub estimate_nearer : (w z p m e y q f : ℕ) → 0 < w → p * m + e ≡ z * w → w * q + f ≡ y * m →
+    e < p → f < w → y < w → z * y < q * p + 2 * p
+estimate_nearer w z p m e y q f pos h1 h3 le lf lh =
+    let one : y * e ≤ w * e = mul-le-mul_right e (omega arith) in
     let two : w * (e + 1) ≤ w * p = mul-le-mul_left w (omega arith) in
     let three : f * p ≤ w * p = mul-le-mul_right p (omega arith) in
-    let less : w * x < w * (q * p + 2 * p) = omega (arith, rest_scaled w 1 p m e x x 0 q f (omega arith) (omega arith) h3) in
+    let less : w * (z * y) < w * (q * p + 2 * p) = omega (arith, rest_scaled w z p m e (z * y) y 0 q f h1 (omega arith) h3) in
     lt_of_mul-lt-mul_left w less
 
 -- what a multiple of p leaves below p is the residue
@@ -56,8 +56,18 @@ narrow_low w x p m q pos e g =
 
 pub narrow_near : (w x p m q : ℕ) → 0 < w → p ≢ 0 → x < w → m ≡ w / p → q ≡ x * m / w → x < q * p + 2 * p
 narrow_near w x p m q pos nonzero less e g =
-    estimate_nearer w p m (w % p) x q (x * m % w) pos (reciprocal_split w p m e) (quotient_split w (x * m) q g)
-    (mod-lt w (omega arith)) (mod-lt (x * m) pos) less
+    let near = estimate_nearer w 1 p m (w % p) x q (x * m % w) pos (reciprocal_split w p m e ∙ omega arith) (quotient_split w (x * m) q g) (mod-lt w (omega arith)) (mod-lt (x * m) pos) less in
+    omega arith
+
+-- the estimate q of a y / p by the quotient m of a w by p is never too large, and too small by at most 1
+pub prepared_low : (w a y p m q : ℕ) → 0 < w → m ≡ a * w / p → q ≡ m * y / w → q * p ≤ a * y
+prepared_low w a y p m q pos e g =
+    estimate_low w a p m (a * w % p) (a * y) y 0 q (m * y % w) pos (reciprocal_split (a * w) p m e) (omega arith) (quotient_split w (m * y) q g ∙ omega arith)
+
+pub prepared_near : (w a y p m q : ℕ) → 0 < w → 0 < p → y < w → m ≡ a * w / p → q ≡ m * y / w → a * y < q * p + 2 * p
+prepared_near w a y p m q pos nonzero less e g =
+    estimate_nearer w a p m (a * w % p) y q (m * y % w) pos (reciprocal_split (a * w) p m e) (quotient_split w (m * y) q g ∙ omega arith)
+    (mod-lt (a * w) nonzero) (mod-lt (m * y) pos) less
 
 -- the estimate q of x / p by the high part of x and the quotient m of z w by p is never too large, and too small by at most 2
 pub wide_low : (w z x p m high q : ℕ) → 0 < w → m ≡ z * w / p → high ≡ x / z → q ≡ high * m / w → q * p ≤ x

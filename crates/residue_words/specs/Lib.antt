@@ -2,3 +2,4 @@ pub mod Fold
 pub mod Matrix
 pub mod Reciprocal
 pub mod Residues
+pub mod Shoup

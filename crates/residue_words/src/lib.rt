@@ -6,13 +6,15 @@
 mod fold;
 mod modulus;
 pub mod plain;
+mod shoup;
 
 pub use fold::Fold;
 pub use modulus::Modulus;
+pub use shoup::Shoup;
 
 #[cfg(test)]
 mod tests {
-    use super::{Fold, Modulus};
+    use super::{Fold, Modulus, Shoup};
     use std::test::Fail;
 
     // Each row: p, a, b, then a + b, a - b, -a and a b modulo p.
@@ -57,6 +59,15 @@ mod tests {
         (281474976710597, 123456789012345, 620967110571),
     ];
 
+    // Each row: p, a, the quotient of a 2^32 by p, y, and a y modulo p.
+    const PREPARED: [(u64, u64, u64, u64, u64); 5] = [
+        (2, 1, 2147483648, 2147483647, 1),
+        (7, 3, 1840700269, 5, 1),
+        (7, 3, 1840700269, 2147483647, 3),
+        (2147483647, 2147483646, 4294967293, 2147483646, 1),
+        (2147483647, 2147483646, 4294967293, 2147483647, 0),
+    ];
+
     // Each row: the digits, p, the residue of the number, and whether the number is 0.
     const FOLDS: [(&str, u64, u64, bool); 7] = [
         ("", 7, 0, true),
@@ -99,6 +110,17 @@ mod tests {
         for (p, a, inverse) in INVERSES {
             assert!(rt; 2 <= p && p < LIMIT && 0 < a && a < p);
             assert_eq!(rt; Modulus::new(p).inv(a), inverse, "1 / {a} modulo {p}");
+        }
+        Ok(())
+    }
+
+    #[test]
+    fn prepared_products_agree_with_values_from_outside(rt: HostRuntime) -> Result<(), Fail> {
+        for (p, a, quotient, y, product) in PREPARED {
+            assert!(rt; 2 <= p && p < 2147483648 && a < p && y < 2147483648);
+            let prepared = Shoup::of(a, &Modulus::new(p));
+            assert_eq!(rt; prepared.quotient(), quotient, "{a} 2^32 / {p}");
+            assert_eq!(rt; prepared.times(y), product, "{a} {y} modulo {p}");
         }
         Ok(())
     }
