@@ -1,4 +1,4 @@
-use Rattle.std.proofs.Common.{◌+◌, ◌*◌, ◌/◌, ◌<◌, ◌≤◌, refl, arith, lit<}
+use Rattle.std.proofs.Common.{◌+◌, ◌*◌, ◌/◌, refl, arith, lit<}
 use Rattle.residue_words.proofs.Quotients.{prepared_low, prepared_near, rest_residue}
 use Rattle.residue_words.proofs.shoup.Shoup.times.Goals as goal
 
