@@ -7,9 +7,11 @@ ghost use Rattle.std_edge.specs.Edge.{Read as GaveBytes, Written as GainedBytes}
 
 #[cfg(test)]
 mod tests;
+mod words;
 
 use sms_text::{Pulled, Put, Sink, Source};
 use std::io::{Read, Write};
+pub use words::{NoWords, words_of};
 
 /// A reader of std as a source. It doesn't tell what is left, and counts its errors. An interrupted read is an error like any other.
 #[derive(Drop)]

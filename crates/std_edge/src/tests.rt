@@ -1,5 +1,6 @@
-use crate::{FromRead, ToWrite};
+use crate::{FromRead, ToWrite, words_of};
 use sms_text::{Pulled, Put, Sink, Source};
+use std::env::{Env, FillError};
 use std::io;
 use std::io::{ErrorKind, Read, Write};
 use std::test::Fail;
@@ -65,5 +66,53 @@ fn a_writer_gains_what_it_takes_and_fails_where_it_fails(rt: HostRuntime) -> Res
     assert_eq!(rt; sink.put(b"3"), Put::Took(1));
     let mut full: &mut [u8] = &mut [];
     assert_eq!(rt; ToWrite::new(&mut full).put(b"3"), Put::Failed);
+    Ok(())
+}
+
+// The words that a program is started with.
+#[derive(Drop)]
+struct Started<'a> {
+    words: &'a [&'a [u8]],
+}
+
+impl<'a> Env for Started<'a> {
+    fn arg(&self, i: usize, buf: &mut [u8]) -> Result<usize, FillError> {
+        match self.words.get(i) {
+            Some(word) if word.len() <= buf.len() => {
+                buf[..word.len()].copy_from_slice(word);
+                Ok(word.len())
+            }
+            Some(_) => Err(FillError::TooLong),
+            None => Err(FillError::NotPresent),
+        }
+    }
+
+    fn var(&self, _name: &str, _buf: &mut [u8]) -> Result<usize, FillError> {
+        Err(FillError::NotPresent)
+    }
+
+    fn var_at(&self, _i: usize, _buf: &mut [u8]) -> Result<usize, FillError> {
+        Err(FillError::NotPresent)
+    }
+}
+
+#[test]
+fn words_stand_behind_the_program_s_name_and_are_text(rt: HostRuntime) -> Result<(), Fail> {
+    let alloc = rt.alloc();
+    let started = Started {
+        words: &[b"spasm", b"rank", b"--modulus=7", b""],
+    };
+    let words = words_of(&(started, alloc))?;
+    assert_eq!(rt; words.len(), 3);
+    assert_eq!(rt; words[0].as_str(), "rank");
+    assert_eq!(rt; words[1].as_str(), "--modulus=7");
+    assert_eq!(rt; words[2].as_str(), "");
+    let started = Started {
+        words: &[b"spasm", b"rank", b"\xff"],
+    };
+    match words_of(&(started, alloc)) {
+        Ok(_) => panic!(rt; "a word that isn't UTF-8 was taken"),
+        Err(none) => assert_eq!(rt; none.code(), 2),
+    }
     Ok(())
 }
