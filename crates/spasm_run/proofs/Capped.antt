@@ -1,5 +1,5 @@
 -- Numbers that are capped, digit by digit.
-use Rattle.std.proofs.Common.{◌≡◌, ◌+◌, ◌-◌, ◌*◌, ◌<◌, ◌≤◌, ℕ, List, [], ◌∷◌, Bool, true, false, ◌&&◌, min, arith, ap, sym, ◌∙◌}
+use Rattle.std.proofs.Common.{◌≡◌, ◌+◌, ◌-◌, ◌*◌, ◌≤◌, ℕ, List, [], ◌∷◌, Bool, true, ◌&&◌, min, arith, ap, sym, ◌∙◌}
 use Rattle.std.proofs.lemmas.Bool.Decides.{nat_tests}
 use Rattle.sms_text.specs.Numbers.{is_digit, is_number, are_digits, value, value_from}
 
@@ -27,13 +27,3 @@ capped_more w left rest b m n e h k r i =
       same = same_capped n (10 * m + (b - 48)) rest (omega arith) ∙ sym (ap (λ (l : List ℕ). min (value_from m l) 281474976710656) e) ∙ i.same;
       small = omega arith;
     }
-
--- a byte that is no digit
-pub none_at : (w left rest : List ℕ) (b n : ℕ) → left ≡ b ∷ rest → is_digit b ≡ false → IsCapped w n left → is_number w ≡ false
-none_at w left rest b n e h i = i.digits ∙ ap are_digits e ∙ ap (λ (t : Bool). t && are_digits rest) h
-
-pub low_test : (b : ℕ) → b < 48 → is_digit b ≡ false
-low_test b h = grind (arith, nat_tests)
-
-pub high_test : (b : ℕ) → 57 < b → is_digit b ≡ false
-high_test b h = grind (arith, nat_tests)

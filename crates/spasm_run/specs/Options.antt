@@ -1,24 +1,41 @@
 -- The options of a command, as its words are read.
-use Rattle.std.specs.Prelude.{◌≡◌, ℕ, List, [], ◌∷◌, Option, MatchOption, map}
+use Rattle.std.specs.Prelude.{◌≡◌, ◌≢◌, ℕ, List, [], Option, Some, None, MatchOption, map}
 use Rattle.std.specs.Borrow.{Bor}
-use Rattle.std.specs.List.{flat_map}
+use Rattle.clap.specs.Words.{Row, fault_of, first_of, subcommand_of, subcommand_rows_of}
+use Rattle.clap.specs.declared.parser.matches.ArgMatches.{ArgMatches}
 use Rattle.spasm_run.specs.declared.words.Command.{Command}
-use Rattle.spasm_run.specs.Words.{Given, spelling, AreKnown, IsValueOf, modulus_name, Accepted}
+use Rattle.spasm_run.specs.Words.{Accepted, IsInRange, Rule, modulus_rule, rounds_rule, task_name, workers_rule}
+use Rattle.spasm_run.specs.Line.{command_line}
 
 -- the bytes of the words
 abbrev pub bytes_of : List (Bor (List ℕ)) → List (List ℕ)
 bytes_of words = map (λ w. w.now) words
 
--- these words spell options that give this modulus
-pub record IsModulus (words : List (List ℕ)) (n : ℕ) : Type 0 where
-  pub options : List Given
-  pub spelled : words ≡ flat_map spelling options
-  pub known : AreKnown options (modulus_name ∷ [])
-  pub modulus : IsValueOf options modulus_name 2 281474976710655 42013 n
+-- what clap makes of the words, if it takes them
+abbrev pub AreTaken : List (List ℕ) → Option ArgMatches → Type 0
+AreTaken words result = MatchOption result (fault_of command_line words ≢ [])
+    (λ m. (fault_of command_line words ≡ []) × (subcommand_rows_of m ≡ subcommand_of command_line words))
 
--- the modulus that these words give, if they do
-abbrev pub IsModulusOf : List (List ℕ) → Option ℕ → Type 0
-IsModulusOf words result = MatchOption result ((n : ℕ) → ¬ IsModulus words n) (IsModulus words)
+-- n is the number that a text spells, in its range; or the one that stands where there is no text
+abbrev pub IsNumber : ℕ → ℕ → ℕ → Option (List ℕ) → ℕ → Type 0
+IsNumber low high absent None n = n ≡ absent
+IsNumber low high absent (Some w) n = IsInRange low high w n
+
+-- the number, if there is one
+abbrev pub IsNumberOf : ℕ → ℕ → ℕ → Option (List ℕ) → Option ℕ → Type 0
+IsNumberOf low high absent text result = MatchOption result ((n : ℕ) → ¬ IsNumber low high absent text n) (IsNumber low high absent text)
+
+-- the rows give this number for the option
+abbrev pub Gives : Rule → List Row → ℕ → Type 0
+Gives rule rows n = IsNumber rule.low rule.high rule.absent (first_of rule.name rows) n
+
+-- the command that was entered and its rows ask for c
+pub record Says (entered : Option (List ℕ × List Row)) (c : Command) : Type 0 where
+  pub rows : List Row
+  pub entered_as : entered ≡ Some (task_name c.task, rows)
+  pub modulus : Gives modulus_rule rows c.modulus
+  pub workers : Gives workers_rule rows c.workers
+  pub rounds : Gives rounds_rule rows c.rounds
 
 -- the command that these words ask for, if they are accepted
 abbrev pub IsCommandOf : List (List ℕ) → Option Command → Type 0

@@ -1,11 +1,19 @@
 // The words of the command line.
-ghost use Rattle.std.specs.Prelude.{◌≡◌, ◌≢◌, ◌++◌, ℕ, List, [], ◌∷◌, true, false, codes, min, MatchOption};
+ghost use Rattle.std.specs.Prelude.{◌≡◌, ◌≢◌, ◌≤◌, ◌↔◌, ℕ, List, Option, Some, None, true, false, codes, min, IfOk, IsTrue, MatchOption, option_map};
+ghost use Rattle.std.specs.List.{list_any};
+ghost use Rattle.std.specs.Str.{bytes_eq};
+ghost use Rattle.clap.specs.Words.{App, Row, Text, app_of, fault_of, first_value, found_of, subcommand_of, subcommand_rows_of};
 ghost use Rattle.sms_text.specs.Numbers.{is_number, value};
-ghost use Rattle.spasm_run.specs.Words.{IsInRange, task_name};
-ghost use Rattle.spasm_run.specs.Options.{IsCommandOf, IsModulusOf, IsOneCommand, bytes_of};
+ghost use Rattle.spasm_run.specs.Words.{IsInRange};
+ghost use Rattle.spasm_run.specs.Options.{IsCommandOf, IsNumberOf, IsOneCommand, AreTaken, Says, bytes_of};
 
-// The options' modulus where none is given.
-const MODULUS: u64 = 42_013;
+mod line;
+#[cfg(test)]
+mod tests;
+
+use clap::ArgMatches;
+use clap::error::ErrorKind;
+use std::alloc::{AllocError, Global};
 
 // The largest modulus, and above it a number that is as good as any larger one.
 const LARGEST: u64 = 281_474_976_710_655;
@@ -19,52 +27,41 @@ pub enum Task {
     Rank,
     /// The reduced row echelon form of a matrix.
     Rref,
+    /// A basis of the vectors that a matrix takes to zero.
+    Kernel,
+    /// A solution of a system, or that there is none.
+    Solve,
+    /// A basis of the rows that a matrix takes to zero from the left.
+    LeftKernel,
+    /// The inverse of a matrix, or that there is none.
+    Inverse,
 }
 
-/// What is asked for, and modulo what.
+/// What is asked for, modulo what, and how it is to be worked out.
 #[derive(Clone, Copy, Debug, PartialEq, Eq)]
 pub struct Command {
     /// What is asked for.
     pub task: Task,
     /// The modulus, from 2 to 2^48 - 1.
     pub modulus: u64,
+    /// How many workers share the elimination, from 1 to 64.
+    pub workers: u32,
+    /// How many rounds of pivots are looked for before the elimination, from 0 to 16.
+    pub rounds: u32,
 }
 
 /// The command that the words ask for: a task's name and its options, each given at most once, as `--name=value` or `--name value`.
-/// `None` where the words aren't accepted.
-pub fn read_words(words: &[&str]) -> Option<Command>
-    ensures { IsCommandOf (bytes_of words.now) result }
+/// `None` where the words aren't accepted. The only error is want of memory.
+pub fn read_words<'a>(alloc: Global, words: &'a [&'a str]) -> Result<Option<Command>, AllocError>
+    ensures { IfOk result (IsCommandOf (bytes_of words.now)) }
 {
-    match words.split_first() {
-        Some((name, options)) => read_command(name.as_bytes(), options),
-        None => None,
+    if has_dashes(words) {
+        return Ok(None);
     }
-}
-
-// The command of this name with these options.
-fn read_command(name: &[u8], options: &[&str]) -> Option<Command>
-    ensures { IsCommandOf (name.now ∷ bytes_of options.now) result }
-{
-    let Some(task) = task_of(name) else {
-        return None;
-    };
-    match read_modulus(options) {
-        Some(modulus) => Some(Command { task, modulus }),
-        None => None,
+    match matches_of(alloc, words)? {
+        Some(matches) => Ok(command_of(&matches)),
+        None => Ok(None),
     }
-}
-
-// The task of this name.
-fn task_of(name: &[u8]) -> Option<Task>
-    ensures { MatchOption result ((t : Task) → name.now ≢ task_name t) (λ t. name.now ≡ task_name t) }
-{
-    if name == b"rank".as_slice() {
-        return Some(Task::Rank);
-    }
-    if name == b"rref".as_slice() {
-        return Some(Task::Rref);
-    }
-    None
 }
 
 /// Words ask for one command at most.
@@ -72,63 +69,64 @@ pub fn at_most_one_command()
     ensures { IsOneCommand }
 {}
 
-// The modulus that these options give, or the default one.
-fn read_modulus(options: &[&str]) -> Option<u64>
-    ensures { IsModulusOf (bytes_of options.now) result }
+// Whether one of the words is `--`.
+fn has_dashes(words: &[&str]) -> bool
+    ensures { result ≡ list_any (λ word. bytes_eq word.now (codes "--")) words.now }
 {
-    if options.len() == 0 {
-        return Some(MODULUS);
-    }
-    if options.len() == 1 {
-        return joined_modulus(options[0].as_bytes());
-    }
-    if options.len() == 2 {
-        return apart_modulus(options[0].as_bytes(), options[1].as_bytes());
-    }
-    None
+    words.iter().any(|word| *word == "--")
 }
 
-// The modulus that one word gives.
-fn joined_modulus(word: &[u8]) -> Option<u64>
-    ensures { IsModulusOf (word.now ∷ []) result }
+// What `clap` makes of the words, where it takes them.
+fn matches_of<'a>(alloc: Global, words: &'a [&'a str]) -> Result<Option<ArgMatches<'a>>, AllocError>
+    ensures { IfOk result (AreTaken (bytes_of words.now)) }
 {
-    modulus_value(joined_value(word)?)
-}
-
-// The modulus that two words give.
-fn apart_modulus(name: &[u8], value: &[u8]) -> Option<u64>
-    ensures { IsModulusOf (name.now ∷ value.now ∷ []) result }
-{
-    if name != b"--modulus".as_slice() {
-        return None;
-    }
-    modulus_value(value)
-}
-
-// What stands behind the name in a word that gives the modulus by itself.
-fn joined_value(word: &[u8]) -> Option<&[u8]>
-    ensures { MatchOption result ((v : List ℕ) → word.now ≢ codes "--modulus=" ++ v) (λ v. word.now ≡ codes "--modulus=" ++ v.now) }
-{
-    if word.len() < 10 {
-        return None;
-    }
-    let (name, value) = word.split_at(10);
-    if name == b"--modulus=".as_slice() {
-        Some(value)
-    } else {
-        None
+    let line = line::command(alloc)?;
+    match line.try_get_matches_from(words) {
+        Ok(matches) => Ok(Some(matches)),
+        Err(error) => {
+            if error.kind() == ErrorKind::OutOfMemory {
+                return Err(AllocError);
+            }
+            Ok(None)
+        }
     }
 }
 
-// The modulus that a value spells.
-fn modulus_value(word: &[u8]) -> Option<u64>
-    ensures { MatchOption result ((n : ℕ) → ¬ IsInRange 2 281474976710655 word.now n) (λ n. IsInRange 2 281474976710655 word.now n) }
+// The command that the matches give, where each number is in its range.
+fn command_of(matches: &ArgMatches<'_>) -> Option<Command>
+    ensures { MatchOption result ((c : Command) → ¬ Says (subcommand_rows_of matches.now) c) (Says (subcommand_rows_of matches.now)) }
+{
+    let (name, options) = matches.subcommand()?;
+    let task = line::task_of(name)?;
+    let modulus = number_of(options, "modulus", 2, LARGEST, 42_013)?;
+    let workers = number_of(options, "workers", 1, 64, 1)?;
+    let rounds = number_of(options, "rounds", 0, 16, 3)?;
+    Some(Command {
+        task,
+        modulus,
+        workers: workers as u32,
+        rounds: rounds as u32,
+    })
+}
+
+// The number that the option of this name gives, or the one that stands where it is absent.
+fn number_of(options: &ArgMatches<'_>, name: &str, low: u64, high: u64, absent: u64) -> Option<u64>
+    requires { high ≤ LARGEST }
+    ensures { IsNumberOf low high absent (first_value (found_of options.now) name.now) result }
+{
+    match options.get_str(name) {
+        Some(text) => number_in(text.as_bytes(), low, high),
+        None => Some(absent),
+    }
+}
+
+// The number that digits spell, if it lies from low to high.
+fn number_in(word: &[u8], low: u64, high: u64) -> Option<u64>
+    requires { high ≤ LARGEST }
+    ensures { MatchOption result ((n : ℕ) → ¬ IsInRange low high word.now n) (IsInRange low high word.now) }
 {
     let number = capped_number(word)?;
-    if number < 2 {
-        return None;
-    }
-    if LARGEST < number {
+    if number < low || high < number {
         return None;
     }
     Some(number)
@@ -136,7 +134,7 @@ fn modulus_value(word: &[u8]) -> Option<u64>
 
 // The number that digits spell, or the cap if it is larger. `None` if the word isn't all digits, or is empty.
 fn capped_number(word: &[u8]) -> Option<u64>
-    ensures { MatchOption result (is_number word.now ≡ false) (λ n. (is_number word.now ≡ true) × (n ≡ min (value word.now) 281474976710656)) }
+    ensures { MatchOption result (is_number word.now ≡ false) (λ n. (is_number word.now ≡ true) × (n ≡ min (value word.now) CAP)) }
 {
     if word.is_empty() {
         return None;
