@@ -34,7 +34,7 @@ pub entry_tail : (c : ℕ) (cs : List ℕ) (v : ℕ) (vs : List ℕ) (j : ℕ) �
 entry_tail c cs v vs j d = cond-false (eqb c j) v (entry_at cs vs j) (ne_eqb c j d)
 
 -- before the first stored column the row is 0
-entry_before : (k n : ℕ) (cs vs : List ℕ) (j : ℕ) → j < k → Ascends k n cs → entry_at cs vs j ≡ 0
+pub entry_before : (k n : ℕ) (cs vs : List ℕ) (j : ℕ) → j < k → Ascends k n cs → entry_at cs vs j ≡ 0
 entry_before k n [] vs j l a = refl
 entry_before k n (c ∷ cs) [] j l a = refl
 entry_before k n (c ∷ cs) (v ∷ vs) j l a = entry_tail c cs v vs j (omega (arith, a.0)) ∙ entry_before (c + 1) n cs vs j (omega (arith, a.0)) a.2

@@ -61,7 +61,7 @@ impl Rows {
     }
 
     // Appends the row that these columns and values stand for. After an `Err` the matrix is as before.
-    fn append_slices(&mut self, cols: &[u32], vals: &[u64]) -> Result<(), AllocError>
+    pub(crate) fn append_slices(&mut self, cols: &[u32], vals: &[u64]) -> Result<(), AllocError>
         requires height_small { self.old.matrix.height < 2147483648 }
         requires sparse { IsSparse self.old.modulus self.old.matrix.width cols.now vals.now }
         ensures modulus { self.new.modulus ≡ self.old.modulus }

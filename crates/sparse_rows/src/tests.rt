@@ -100,6 +100,20 @@ fn small_matrices(rt: HostRuntime) -> Result<(), Fail> {
         listed(alloc, &x)?.as_slice()
     );
     assert_eq!(rt; built(alloc, 1, 1, &[(0, 0, 3), (0, 0, 4)])?.entries(), 0);
+    let mixed = [
+        (1, 3, 1),
+        (1, 1, 6),
+        (0, 2, 0),
+        (1, 3, 5),
+        (1, 1, 1),
+        (0, 4, 3),
+        (1, 0, 2),
+        (1, 4, 0),
+    ];
+    assert_eq!(rt;
+        listed(alloc, &built(alloc, 2, 5, &mixed)?)?.as_slice(),
+        [(0, 4, 3), (1, 0, 2), (1, 3, 6)].as_slice()
+    );
     assert_eq!(rt;
         listed(alloc, &Rows::identity(alloc, 2, &p)?)?.as_slice(),
         [(0, 0, 1), (1, 1, 1)].as_slice()

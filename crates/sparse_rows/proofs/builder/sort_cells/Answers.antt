@@ -3,6 +3,7 @@ use Rattle.std.specs.List.{zip}
 use Rattle.std.proofs.lemmas.List.{length-take-le, take_all, take_more}
 use Rattle.std.proofs.lemmas.List.Elements.{All-same}
 use Rattle.std.proofs.lemmas.List.Sorted.{All-permutation, IsNonDecreasingBy-from_sort_by_key, sum_by-IsPermutation}
+use Rattle.std.proofs.lemmas.Slice.Zip.{length-zip}
 use Rattle.sparse_rows.specs.Stored.{IsCell, weight}
 use Rattle.sparse_rows.proofs.Summed.{zip_push}
 use Rattle.sparse_rows.proofs.builder.sort_cells.Goals as goal
@@ -21,6 +22,10 @@ loop-k-preserved c =
 -- all pairs are there
 filled : (c : After-sort_unstable_by_key) → c.loop-k.cells.items ≡ zip c.args.cols.now c.args.vals.now
 filled c = c.loop-k.invariant ∙ ap₂ zip (take_all c.loop-k.k c.args.cols.now c.loop-k-test.false) (take_all c.loop-k.k c.args.vals.now (omega (arith, c.loop-k-test.false, c.requires)))
+
+pub returns-clause-long : goal.returns-clause-long
+returns-clause-long c =
+    omega (arith, c.sort_unstable_by_key.ensures.len, c.sort_unstable_by_key.new.self.ok.0, c.loop-k.cells.ok.0, ap length (filled c), length-zip c.args.cols.now c.args.vals.now, c.requires)
 
 pub returns-clause-sorted : goal.returns-clause-sorted
 returns-clause-sorted c = IsNonDecreasingBy-from_sort_by_key (λ (t : ℕ × ℕ). t.0) c.sort_unstable_by_key.new.self.items c.sort_unstable_by_key.ensures.sorted (λ a r q k. search rules)
