@@ -8,7 +8,8 @@ use Rattle.row_space.specs.Echelon.{SameSpan}
 use Rattle.row_space.specs.Rows.{of_rows}
 use Rattle.row_space.proofs.Rows as Rows
 use Rattle.row_space.proofs.Spans.{same_span_turned}
-use Rattle.triangular_solve.specs.Leads.{Appends, KeptRows, IsSound, with_row}
+use Rattle.sparse_rows.specs.Stored.{with_row}
+use Rattle.triangular_solve.specs.Leads.{Appends, KeptRows, IsSound}
 use Rattle.echelon_form.specs.Keeping.{Keeps}
 
 -- a matrix is that of its rows, also with one row more

@@ -13,7 +13,8 @@ use Rattle.row_space.specs.Rows.{DiffersBy, of_rows}
 use Rattle.row_space.proofs.Rows as Rows
 use Rattle.row_space.proofs.Rows.{span_with_scaled}
 use Rattle.sparse_rows.specs.Rows.{ResidueRow, support}
-use Rattle.triangular_solve.specs.Leads.{KeptRows, IsSound, IsRest, Appends, with_row}
+use Rattle.sparse_rows.specs.Stored.{with_row}
+use Rattle.triangular_solve.specs.Leads.{KeptRows, IsSound, IsRest, Appends}
 use Rattle.triangular_solve.specs.Kept.{IsKept, IsLed, IsTailOf, Extends, whole, whole_matrix, leads_of}
 use Rattle.triangular_solve.specs.declared.kept.Led.{Led}
 use Rattle.triangular_solve.proofs.LedRows.{no_led, led, lead_at, kept_rows}

@@ -5,6 +5,7 @@ use Rattle.residue_words.specs.Matrix.{Matrix, IsMatrix, IsVector, IsCombination
 use Rattle.row_space.specs.Echelon.{SameSpan}
 use Rattle.row_space.specs.Rows.{DiffersBy}
 use Rattle.sparse_rows.specs.Rows.{support, nonzeros}
+use Rattle.sparse_rows.specs.Stored.{with_row}
 
 -- what callers see of kept rows: the modulus, the rows as a matrix, and their leads
 pub record KeptRows : Type 0 where
@@ -38,10 +39,6 @@ pub record IsSound (kept : KeptRows) : Type 0 where
 pub record IsRest (p : ℕ) (K : Matrix) (leads v w : List ℕ) : Type 0 where
   pub zero_at_leads : (k : ℕ) → k < K.height → slice_index w (slice_index leads k) ≡ 0
   pub differs : DiffersBy p K v w
-
--- the matrix with one more row
-abbrev pub with_row : Matrix → List ℕ → Matrix
-with_row A v = record { height = A.height + 1; width = A.width; rows = A.rows ++ v ∷ [] }
 
 -- one row with this lead was appended, the others stay, and for a prime modulus the row space is that of the old rows with v
 pub record Appends (p : ℕ) (old new : KeptRows) (v : List ℕ) (lead : ℕ) : Type 0 where
