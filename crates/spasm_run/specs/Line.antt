@@ -7,10 +7,11 @@ use Rattle.spasm_run.specs.Words.{rules, task_name}
 use Rattle.spasm_run.specs.declared.words.Task.{Task}
 use Rattle.spasm_run.specs.declared.words.Task.TheVariants as task
 
--- the tasks, and the names of the options
+-- the tasks
 abbrev pub tasks : List Task
 tasks = task.Rank ∷ task.Rref ∷ task.Kernel ∷ task.Solve ∷ task.LeftKernel ∷ task.Inverse ∷ []
 
+-- the names of the options
 abbrev pub option_names : List (List ℕ)
 option_names = map (λ rule. rule.name) rules
 

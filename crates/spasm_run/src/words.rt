@@ -1,8 +1,8 @@
 // The words of the command line.
-ghost use Rattle.std.specs.Prelude.{◌≡◌, ◌≢◌, ◌≤◌, ◌↔◌, ℕ, List, Option, Some, None, true, false, codes, min, IfOk, IsTrue, MatchOption, option_map};
+ghost use Rattle.std.specs.Prelude.{◌≡◌, ◌≤◌, ℕ, true, false, codes, min, IfOk, MatchOption};
 ghost use Rattle.std.specs.List.{list_any};
 ghost use Rattle.std.specs.Str.{bytes_eq};
-ghost use Rattle.clap.specs.Words.{App, Row, Text, app_of, fault_of, first_value, found_of, subcommand_of, subcommand_rows_of};
+ghost use Rattle.clap.specs.Words.{first_value, found_of, subcommand_rows_of};
 ghost use Rattle.sms_text.specs.Numbers.{is_number, value};
 ghost use Rattle.spasm_run.specs.Words.{IsInRange};
 ghost use Rattle.spasm_run.specs.Options.{IsCommandOf, IsNumberOf, IsOneCommand, AreTaken, Says, bytes_of};
