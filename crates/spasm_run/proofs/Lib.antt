@@ -1,4 +1,3 @@
-pub mod Capped
 pub mod Elimination
 pub mod Options
 pub mod Spreading
