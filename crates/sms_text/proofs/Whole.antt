@@ -129,17 +129,17 @@ entry_falls p h b (Some e) old mid new told told' told'' f f' g is did =
     takes_room p (Body h.m h.n) mid new told' told'' f' g _ (line_takes p (Body h.m h.n) mid new told' told'' f' g (entry_judged h (Ok (Some e))) is.stands.sound did)
 
 -- the value at a place is the sum of what was pushed there
-value_sum : (i j : ℕ) (ts : List Triple) → value_at i j (map triple_item ts ++ Closing ∷ []) ≡ sum_at i j ts
-value_sum i j [] = refl
-value_sum i j (t ∷ ts) = ap (λ n. (if t.i == i && t.j == j then t.v else 0) + n) (value_sum i j ts)
+value_sum : (i j : ℕ) (ts : List Triple) (more : List Item) → value_at i j ((map triple_item ts ++ Closing ∷ []) ++ more) ≡ sum_at i j ts
+value_sum i j [] more = refl
+value_sum i j (t ∷ ts) more = ap (λ n. (if t.i == i && t.j == j then t.v else 0) + n) (value_sum i j ts more)
 
-no_matrices : (p : ℕ) (ts : List Triple) → matrices p (map triple_item ts ++ Closing ∷ []) ≡ []
-no_matrices p [] = refl
-no_matrices p (t ∷ ts) = no_matrices p ts
+no_matrices : (p : ℕ) (ts : List Triple) (more : List Item) → matrices p ((map triple_item ts ++ Closing ∷ []) ++ more) ≡ matrices p more
+no_matrices p [] more = refl
+no_matrices p (t ∷ ts) more = no_matrices p ts more
 
--- a text is one matrix, which is built of its entries
-whole_matrix : (p m n : ℕ) (ts : List Triple) → matrices p (Sizes m n ∷ (map triple_item ts ++ Closing ∷ [])) ≡ built p m n ts ∷ []
-whole_matrix p m n ts = simp (value_sum, no_matrices)
+-- a text is one matrix, which is built of its entries, whatever follows
+whole_matrix : (p m n : ℕ) (ts : List Triple) (more : List Item) → matrices p ((Sizes m n ∷ (map triple_item ts ++ Closing ∷ [])) ++ more) ≡ built p m n ts ∷ matrices p more
+whole_matrix p m n ts more = simp (value_sum, no_matrices)
 
 -- the matrix was made of what was pushed, or memory was wanted
 abbrev pub IsMade : Building → Result ResidueMatrix TextError → Type 0
@@ -159,7 +159,7 @@ reading_closes p h b None old mid new told told' told'' f f' g (Ok A) is did ope
       record {
         items = _;
         stands = line_reads p old mid new told' told'' f' g is.taken _ (Body h.m h.n) _ is.stands t opened;
-        matrix = whole_matrix p h.m h.n b.pushed ∙ ap (λ B. B ∷ []) (sym (made.1 ∙ rw (is.modulus, is.height, is.width) refl));
+        matrix = λ more. whole_matrix p h.m h.n b.pushed more ∙ ap (λ B. B ∷ matrices p more) (sym (made.1 ∙ rw (is.modulus, is.height, is.width) refl));
         modulus = made.0 ∙ is.modulus;
       },
     )

@@ -39,11 +39,11 @@ IsNoMatrix p old new taken f g error.Read = (new.error ≡ Some error.Read)
 IsNoMatrix p old new taken f g error.Memory = (new.error ≡ Some error.Memory)
     ⊎ ((items : List Item) × (due : List Due) × IsBetween p old new taken items due)
 
--- a whole text was read, of which this is the one matrix
+-- a whole text was read, of which this is the one matrix, whatever items follow
 pub record IsWhole (p : ℕ) (old new : ReaderState) (taken : List ℕ) (A : ResidueMatrix) : Type 0 where
   pub items : List Item
   pub stands : IsBetween p old new taken items []
-  pub matrix : matrices p items ≡ A.matrix ∷ []
+  pub matrix : (more : List Item) → matrices p (items ++ more) ≡ A.matrix ∷ matrices p more
   pub modulus : A.modulus ≡ p
 
 -- Of a call that was to read a whole text: the bytes that it took from the source, and what they say.
