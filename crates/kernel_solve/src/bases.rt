@@ -45,6 +45,7 @@ pub fn left_kernel<R: Threads + Sync>(
     ensures modulus { IfOk result (λ rows. rows.modulus ≡ a.now.modulus) }
     ensures sound { IfOk result (λ rows. IsMatrix rows.modulus rows.matrix) }
     ensures width { IfOk result (λ rows. rows.matrix.width ≡ a.now.matrix.height) }
+    ensures height { IfOk result (λ rows. rows.matrix.height ≤ a.now.matrix.height) }
     ensures kernel { IfOk result (λ rows. IsPrime a.now.modulus → IsKernel a.now.modulus (transposed a.now.matrix) rows.matrix) }
 {
     let columns = a.transpose(alloc)?;

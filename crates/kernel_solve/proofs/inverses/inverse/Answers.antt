@@ -3,8 +3,7 @@ use Rattle.residue_words.specs.Matrix.{Matrix, IsMatrix, row}
 use Rattle.residue_words.proofs.Vectors.{length_list_of}
 use Rattle.sparse_rows.specs.Rows.{beside, identity, transposed}
 use Rattle.row_space.specs.Inverse.{IsInverse}
-use Rattle.row_space.specs.Kernel.{IsKernel, IsNull}
-use Rattle.row_space.proofs.Unique.{kernel_unique}
+use Rattle.row_space.specs.Kernel.{IsNull}
 use Rattle.echelon_form.specs.Form.{IsFormOf}
 use Rattle.kernel_solve.specs.Columns.{right_half}
 use Rattle.kernel_solve.proofs.Inverting.{basis_some, first_null, form_same, half_inverts, half_matrix, not_filled}
@@ -84,10 +83,10 @@ returns-clause-inverse g c = λ prime.
     cc in
     let far = not_filled p A F leads prime.two_or_more sound c.requires.square (form.rref prime) form.leads other in
     let first = c.in_ok-null_row.ensures.first prime in
-    let some : (K : Matrix) → IsKernel p A K → 0 < K.height = λ K k. basis_some p A F leads prime.two_or_more sound c.requires.square (form.rref prime) form.leads far.0 far.1 K k in
-    let same : u ≡ row first.0 0 = first.2 (some first.0 first.1) in
-    let null = first_null p A first.0 first.1 (some first.0 first.1) in (
+    let some : 0 < first.0.height = basis_some p A F leads prime.two_or_more sound c.requires.square (form.rref prime) form.leads far.0 far.1 first.0 first.1 in
+    let same : u ≡ row first.0 0 = first.2 some in
+    let null = first_null p A first.0 first.1 some in (
       subst (λ v. IsNull p A v) (sym same) null.0,
       λ e. null.1 (sym same ∙ e),
-      λ K k. (some K k, same ∙ ap (λ m. row m 0) (kernel_unique p A first.0 K prime.two_or_more first.1 k)),
+      (first.0, first.1, some, same),
     )
