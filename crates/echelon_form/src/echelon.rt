@@ -62,6 +62,14 @@ impl Echelon {
         &self.rows
     }
 
+    /// The rows of the form alone. It takes no memory.
+    pub fn into_rows(self) -> Rows
+        ensures modulus { result.modulus ≡ self.modulus }
+        ensures matrix { result.matrix ≡ self.matrix }
+    {
+        self.rows
+    }
+
     /// The lead of each row, ascending.
     pub fn leads(&self) -> &[u32]
         ensures value { result.now ≡ self.now.leads }
