@@ -12,7 +12,6 @@ use Rattle.sms_text.specs.Written.{text_of}
 use Rattle.sparse_rows.specs.Rows.{matrix_by, transposed}
 use Rattle.spasm_run.specs.declared.status.Status.{Status}
 use Rattle.spasm_run.specs.declared.status.Status.TheVariants.{Shape, Wide}
-use Rattle.spasm_run.specs.declared.words.Command.{Command}
 use Rattle.spasm_run.specs.declared.words.Task.{Task}
 use Rattle.spasm_run.specs.declared.words.Task.TheVariants.{Rank, Rref, Kernel, Solve, LeftKernel, Inverse}
 
@@ -61,6 +60,3 @@ AnswerOf Solve p (A ∷ B ∷ []) text = SolvesTo p A (column B) text
 AnswerOf LeftKernel p (A ∷ []) text = (K : Matrix) × IsKernel p (transposed A) K × (text ≡ text_of K)
 AnswerOf Inverse p (A ∷ []) text = InvertsTo p A text
 AnswerOf task p values text = ⊥
-
-abbrev pub Answer : Command → List Matrix → List ℕ → Type 0
-Answer c values text = AnswerOf c.task c.modulus values text

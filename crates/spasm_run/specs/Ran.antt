@@ -11,7 +11,7 @@ use Rattle.spasm_run.specs.declared.status.Status.{Status}
 use Rattle.spasm_run.specs.declared.status.Status.TheVariants as status
 use Rattle.spasm_run.specs.declared.words.Command.{Command}
 use Rattle.spasm_run.specs.Words.{Accepted}
-use Rattle.spasm_run.specs.Answers.{Answer, misfit, wanted}
+use Rattle.spasm_run.specs.Answers.{AnswerOf, misfit, wanted}
 
 -- the number of a kind of fault
 abbrev pub kind_number : Kind → ℕ
@@ -57,7 +57,7 @@ pub record HasAnswer (c : Command) (bytes : List ℕ) (ended : Bool) (limit : �
   pub rest : List Line
   pub reads : Reads bytes ended limit (wanted c.task) c.modulus items rest
   pub fits : misfit c.task (matrices c.modulus items) ≡ None
-  pub answers : IsPrime c.modulus → Answer c (matrices c.modulus items) text
+  pub answers : IsPrime c.modulus → AnswerOf c.task c.modulus (matrices c.modulus items) text
 
 -- the input is whole, and the matrices read from it are refused for their shapes
 pub record IsMisfit (c : Command) (bytes : List ℕ) (ended : Bool) (limit : ℕ) (s : Status) : Type 0 where

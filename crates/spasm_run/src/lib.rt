@@ -1,7 +1,9 @@
 //! The top call of the program: from words and bytes to an answer.
 #![tactic(auto)]
 
+mod answers;
 mod gate;
+mod input;
 mod plain;
 mod rank;
 mod status;
