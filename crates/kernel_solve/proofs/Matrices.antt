@@ -1,12 +1,15 @@
 -- The entries of matrices put together of others, and that they are matrices of residues.
-use Rattle.std.proofs.Common.{ℕ, ◌≡◌, ◌+◌, ◌-◌, ◌%◌, ◌<◌, ◌≤◌, inl, inr, List, [], ◌++◌, length, slice_index, cond, eqb, refl, ap, ap₂, ◌∙◌, arith, mod-lt}
+use Rattle.std.proofs.Common.{ℕ, ◌≡◌, ◌+◌, ◌-◌, ◌%◌, ◌<◌, ◌≤◌, inl, inr, List, [], ◌∷◌, ◌++◌, length, map, slice_index, slice_index_or, cond, eqb, refl, sym, ap, ap₂, ◌∙◌, arith, mod-lt}
+use Rattle.std.specs.List.{range_with_len}
 use Rattle.std.proofs.lemmas.Bool.{cases_eq, cases_lt, cond-true, cond-false, eq-eqb, ne_eqb}
 use Rattle.std.proofs.lemmas.List.{get_or-map, get_or_append_left, get_or-append_right, length-append, length-map}
 use Rattle.std.proofs.lemmas.List.FromFn.{get_or-map-range_with_len, length-map-range_with_len}
-use Rattle.residue_words.specs.Matrix.{Matrix, IsMatrix, entry, row}
-use Rattle.residue_words.proofs.Vectors.{entry_matrix_of, entry_residue, is_matrix_of}
+use Rattle.residue_words.specs.Matrix.{Matrix, IsMatrix, IsVector, entry, row}
+use Rattle.residue_words.proofs.Vectors.{at_list_of, entry_matrix_of, entry_residue, is_matrix_of, vector_of}
 use Rattle.sparse_rows.specs.Rows.{beside, identity, selected, transposed}
-use Rattle.kernel_solve.specs.Columns.{arranged, negated}
+use Rattle.sparse_rows.proofs.Spread.{map_range_equal}
+use Rattle.row_space.specs.Solution.{beside as with_side}
+use Rattle.kernel_solve.specs.Columns.{arranged, column, negated}
 
 -- a transposed matrix
 pub transposed_entry : (M : Matrix) (i j : ℕ) → i < M.width → j < M.height → entry (transposed M) i j ≡ entry M j i
@@ -51,6 +54,29 @@ beside_matrix {p} {A} {B} a b same = record {
     ];
   });
 }
+
+-- a list of one item
+pub one_item : {X : Type 0} (d : X) (xs : List X) → length xs ≡ 1 → xs ≡ slice_index_or xs 0 d ∷ []
+one_item d [] e = absurd (omega arith)
+one_item d (x ∷ []) e = refl
+one_item d (x ∷ y ∷ xs) e = absurd (omega arith)
+
+-- a column is a vector, and beside a matrix it is the matrix with this side
+pub column_vector : {p : ℕ} {B : Matrix} → IsMatrix p B → 0 < B.width → IsVector p B.height (column B)
+column_vector {p} {B} m some = vector_of p B.height (λ i. entry B i 0) (λ i l. entry_residue p B m i 0 l some)
+
+sized : ℕ → ℕ → List (List ℕ) → Matrix
+sized h w r = record { height = h; width = w; rows = r }
+
+pub beside_column : {p : ℕ} (A : Matrix) {B : Matrix} → IsMatrix p B → A.height ≡ B.height → B.width ≡ 1 → beside A B ≡ with_side A (column B)
+unfolding sized
+beside_column {p} A {B} m heights narrow =
+    let g : ℕ → List ℕ = λ i. row A i ++ row B i in
+    let f : ℕ → List ℕ = λ i. row A i ++ slice_index (column B) i ∷ [] in
+    let same : (i : ℕ) → 0 ≤ i → i < 0 + A.height → g i ≡ f i = λ i a l.
+    let inside : i < B.height = omega arith in
+    ap (λ u. row A i ++ u) (one_item 0 (row B i) ((m.each i inside).len ∙ narrow) ∙ ap (λ x. x ∷ []) (sym (at_list_of B.height (λ i. entry B i 0) i inside))) in
+    ap (λ w. sized A.height (A.width + w) (map g (range_with_len 0 A.height))) narrow ∙ ap (sized A.height (A.width + 1)) (map_range_equal g f 0 A.height same)
 
 -- the negative matrix
 pub negated_entry : (p : ℕ) (M : Matrix) (i j : ℕ) → i < M.height → j < M.width → entry (negated p M) i j ≡ (p - entry M i j) % p

@@ -1,12 +1,13 @@
 -- The refuting system is the system for a combination y with y A = 0 and y . b = 1.
-use Rattle.std.proofs.Common.{ℕ, ◌≡◌, ◌+◌, ◌*◌, ◌%◌, ◌<◌, ◌↔◌, List, [], ◌∷◌, ◌++◌, map, slice_index, sym, ap, ap₂, ◌∙◌, arith, mul_comm}
+use Rattle.std.proofs.Common.{ℕ, ◌≡◌, ◌+◌, ◌*◌, ◌%◌, ◌<◌, ◌≤◌, ◌↔◌, inl, inr, List, [], ◌∷◌, ◌++◌, map, slice_index, sym, ap, ap₂, subst, ◌∙◌, arith, mul_comm}
 use Rattle.std.specs.List.{range_with_len}
-use Rattle.std.proofs.lemmas.List.{get_or_append_left, get_or_push, same_from_push}
+use Rattle.std.proofs.lemmas.Bool.{cases_eq}
+use Rattle.std.proofs.lemmas.List.{get_or_append_left, get_or_push, length-append, same_from_push}
 use Rattle.std.proofs.lemmas.List.FromFn.{fill_by_all, get_or-map-range_with_len, length-map-range_with_len, map-range_with_len_more}
 use Rattle.residue_words.specs.Residues.{sum_below}
-use Rattle.residue_words.specs.Matrix.{Matrix, row, entry, list_of, apply, combine, dot, zeros}
+use Rattle.residue_words.specs.Matrix.{Matrix, IsMatrix, IsVector, row, entry, list_of, apply, combine, dot, zeros}
 use Rattle.residue_words.proofs.Sums.{sum_equal}
-use Rattle.residue_words.proofs.Vectors.{at_list_of, at_zeros, length_list_of, list_of_equal, list_of_more}
+use Rattle.residue_words.proofs.Vectors.{at_list_of, at_zeros, entry_residue, length_list_of, list_of_equal, list_of_more, vector_of}
 use Rattle.row_space.specs.Kernel.{IsNull}
 use Rattle.row_space.specs.Solution.{Annuls, IsSolution, beside, refuting_rows, refuting_side, refuting_system}
 use Rattle.row_space.specs.Laws.{RefutingSystem}
@@ -22,6 +23,31 @@ refuting_end : (A : Matrix) (b : List ℕ) → row (refuting_rows A b) A.width �
 refuting_end A b =
     get_or_push (map (λ j. list_of A.height (λ i. entry A i j)) (range_with_len 0 A.width)) (list_of A.height (slice_index b)) [] A.width
     (length-map-range_with_len (λ j. list_of A.height (λ i. entry A i j)) 0 A.width)
+
+-- it is a matrix of residues, and its right-hand side a vector
+pub refuting_matrix : (p : ℕ) (A : Matrix) (b : List ℕ) → IsMatrix p A → IsVector p A.height b → IsMatrix p (refuting_rows A b)
+refuting_matrix p A b m v = record {
+  len =
+      length-append (map (λ j. list_of A.height (λ i. entry A i j)) (range_with_len 0 A.width)) (list_of A.height (slice_index b) ∷ [])
+      ∙ ap (λ n. n + 1) (length-map-range_with_len (λ j. list_of A.height (λ i. entry A i j)) 0 A.width);
+  each = λ j l. elim (cases_eq j A.width) [
+    | inl e ↦ subst (IsVector p A.height) (sym (ap (row (refuting_rows A b)) e ∙ refuting_end A b)) (vector_of p A.height (slice_index b) v.residues)
+    | inr d ↦
+        let less : j < A.width = omega arith in
+        subst (IsVector p A.height) (sym (refuting_column A b j less)) (vector_of p A.height (λ i. entry A i j) (λ i o. entry_residue p A m i j o less))
+  ];
+}
+
+pub side_vector : (p n : ℕ) → 2 ≤ p → IsVector p (n + 1) (refuting_side n)
+side_vector p n two = record {
+  len = length-append (zeros n) (1 ∷ []) ∙ ap (λ k. k + 1) (length_list_of n (λ j. 0));
+  residues = λ j l. elim (cases_eq j n) [
+    | inl e ↦ subst (λ t. t < p) (sym (ap (slice_index (refuting_side n)) e ∙ get_or_push (zeros n) 1 0 n (length_list_of n (λ j. 0)))) (omega arith)
+    | inr d ↦
+        let less : j < n = omega arith in
+        subst (λ t. t < p) (sym (get_or_append_left (zeros n) (1 ∷ []) 0 j (omega (arith, length_list_of n (λ j. 0))) ∙ at_zeros n j less)) (omega arith)
+  ];
+}
 
 -- its values at y: y A, and y . b
 refuting_values : (p : ℕ) (A : Matrix) (b y : List ℕ) → apply p (refuting_rows A b) y ≡ combine p y A ++ dot p A.height y b ∷ []

@@ -6,7 +6,7 @@ use Rattle.spasm_run.specs.declared.status.Status.{Status}
 use Rattle.spasm_run.specs.declared.status.Status.TheVariants as status
 use Rattle.spasm_run.specs.Ran.{Tells, fault_line}
 
--- the status of a text that wasn't read
+-- the status of a run whose text wasn't read
 abbrev pub status_of : TextError → Status
 status_of (error.Bad line k) = status.BadText line k
 status_of error.Read = status.ReadFault

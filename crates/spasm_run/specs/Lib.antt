@@ -1,7 +1,9 @@
 pub mod Answers
 pub mod Faults
+pub mod Found
+pub mod Line
 pub mod Options
 pub mod Plain
 pub mod Ran
-pub mod Texts
+pub mod Taken
 pub mod Words

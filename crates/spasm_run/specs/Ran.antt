@@ -1,5 +1,5 @@
 -- What a run did: each status with its cause.
-use Rattle.std.specs.Prelude.{◌≡◌, ◌⊎◌, Bool, true, ℕ, List, [], ◌∷◌, ◌++◌, Option, Some, codes}
+use Rattle.std.specs.Prelude.{◌≡◌, ◌⊎◌, Bool, true, ℕ, List, [], ◌∷◌, ◌++◌, Option, None, Some, codes}
 use Rattle.std.specs.Fmt.{decimal}
 use Rattle.residue_words.specs.Residues.{IsPrime}
 use Rattle.sms_text.specs.declared.kind.Kind.{Kind}
@@ -11,7 +11,7 @@ use Rattle.spasm_run.specs.declared.status.Status.{Status}
 use Rattle.spasm_run.specs.declared.status.Status.TheVariants as status
 use Rattle.spasm_run.specs.declared.words.Command.{Command}
 use Rattle.spasm_run.specs.Words.{Accepted}
-use Rattle.spasm_run.specs.Answers.{Answer, wanted}
+use Rattle.spasm_run.specs.Answers.{AnswerOf, misfit, wanted}
 
 -- the number of a kind of fault
 abbrev pub kind_number : Kind → ℕ
@@ -51,12 +51,20 @@ code_of status.WriteFault = 7
 code_of status.Memory = 8
 code_of (status.Wide height width) = 9
 
--- the input is whole: these are the matrices read from it, and this is a text of the answer for a prime modulus
+-- the input is whole: these are the matrices read from it, of the shapes that are wanted, and this is a text of the answer for a prime modulus
 pub record HasAnswer (c : Command) (bytes : List ℕ) (ended : Bool) (limit : ℕ) (text : List ℕ) : Type 0 where
   pub items : List Item
   pub rest : List Line
   pub reads : Reads bytes ended limit (wanted c.task) c.modulus items rest
-  pub answers : IsPrime c.modulus → Answer c (matrices c.modulus items) text
+  pub fits : misfit c.task (matrices c.modulus items) ≡ None
+  pub answers : IsPrime c.modulus → AnswerOf c.task c.modulus (matrices c.modulus items) text
+
+-- the input is whole, and the matrices read from it are refused for their shapes
+pub record IsMisfit (c : Command) (bytes : List ℕ) (ended : Bool) (limit : ℕ) (s : Status) : Type 0 where
+  pub items : List Item
+  pub rest : List Line
+  pub reads : Reads bytes ended limit (wanted c.task) c.modulus items rest
+  pub refused : misfit c.task (matrices c.modulus items) ≡ Some s
 
 -- why a run ended so: these bytes were taken from the source, `ended` says whether it gave its end, and the counts of faults of the source
 -- and of the output went from f to f' and from g to g'; the output's content went from held to held'
@@ -67,13 +75,15 @@ HasCause words limit bytes ended f f' held held' g g' status.No = ⊥
 HasCause words limit bytes ended f f' held held' g g' status.Usage = ((c : Command) → ¬ Accepted words c) × (held' ≡ held)
 HasCause words limit bytes ended f f' held held' g g' (status.BadText line k) =
     (c : Command) × Accepted words c × FirstFault bytes ended limit (wanted c.task) c.modulus line k × (held' ≡ held)
-HasCause words limit bytes ended f f' held held' g g' (status.Shape height width) = ⊥
+HasCause words limit bytes ended f f' held held' g g' (status.Shape height width) =
+    (c : Command) × Accepted words c × IsMisfit c bytes ended limit (status.Shape height width) × (held' ≡ held)
 HasCause words limit bytes ended f f' held held' g g' status.ReadFault =
     (c : Command) × Accepted words c × (read c.modulus ended limit 1 (wanted c.task) (lines bytes) ≡ Short) × Rose f f' × (held' ≡ held)
 HasCause words limit bytes ended f f' held held' g g' status.WriteFault =
     (c : Command) × (part rest : List ℕ) × Accepted words c × HasAnswer c bytes ended limit (part ++ rest) × (held' ≡ behind held part) × Rose g g'
 HasCause words limit bytes ended f f' held held' g g' status.Memory = held' ≡ held
-HasCause words limit bytes ended f f' held held' g g' (status.Wide height width) = ⊥
+HasCause words limit bytes ended f f' held held' g g' (status.Wide height width) =
+    (c : Command) × Accepted words c × IsMisfit c bytes ended limit (status.Wide height width) × (held' ≡ held)
 
 -- the error stream gained its line, or a prefix of it where its count rose
 abbrev pub Tells : List ℕ → Option (List ℕ) → Option (List ℕ) → ℕ → ℕ → Type 0
@@ -87,11 +97,12 @@ pub record Ran (words : List (List ℕ)) (limit : ℕ) (told told' : Option (Lis
   pub spent : ended ≡ true → IsSpent told'
   pub cause : HasCause words limit bytes ended f f' held held' g g' s
 
--- Where a source that tells had this valid input left, for words that are accepted and a prime modulus, and no count of faults rose, the run was done, or it wanted memory.
+-- Where a source that tells had this valid input left, of the shapes that are wanted, for words that are accepted and a prime modulus, and no count
+-- of faults rose, the run was done, or it wanted memory.
 abbrev pub IsDoneOrMemory : Status → Type 0
 IsDoneOrMemory s = (s ≡ status.Done) ⊎ (s ≡ status.Memory)
 
 abbrev pub Completes : List (List ℕ) → ℕ → Option (List ℕ) → ℕ → ℕ → ℕ → ℕ → Status → Type 0
 Completes words limit told f f' g g' s = (c : Command) (bytes : List ℕ) (items : List Item) (rest : List Line) →
     Accepted words c → IsPrime c.modulus → told ≡ Some bytes → Reads bytes true limit (wanted c.task) c.modulus items rest →
-    ¬ Rose f f' → ¬ Rose g g' → IsDoneOrMemory s
+    misfit c.task (matrices c.modulus items) ≡ None → ¬ Rose f f' → ¬ Rose g g' → IsDoneOrMemory s

@@ -1,7 +1,9 @@
 //! The top call of the program: from words and bytes to an answer.
 #![tactic(auto)]
 
+mod answers;
 mod gate;
+mod input;
 mod plain;
 mod rank;
 mod status;
@@ -17,3 +19,4 @@ pub use rank::rank_of;
 pub use status::Status;
 pub use top::{run, run_within};
 pub use words::{Command, Task, at_most_one_command, read_words};
+pub use words::line::command;

@@ -1,8 +1,10 @@
 // How a run ends.
 ghost use Rattle.std.specs.Prelude.{◌≡◌};
+ghost use Rattle.spasm_run.specs.Faults.{status_of};
 ghost use Rattle.spasm_run.specs.Ran.{code_of, kind_number};
 
-use sms_text::Kind;
+use sms_text::{Kind, TextError};
+use std::alloc::AllocError;
 
 /// How a run ended. Each has a code, which is the program's exit status.
 #[derive(Clone, Copy, Debug, PartialEq, Eq)]
@@ -58,6 +60,29 @@ impl Status {
             Status::Memory => 8,
             Status::Wide { .. } => 9,
         }
+    }
+}
+
+impl From<TextError> for Status {
+    ghost from_gives = { λ error status. status ≡ status_of error };
+
+    // How a run ends whose text wasn't read.
+    fn from(error: TextError) -> Status {
+        match error {
+            TextError::Bad { line, kind } => Status::BadText { line, kind },
+            TextError::Read => Status::ReadFault,
+            TextError::Memory => Status::Memory,
+        }
+    }
+}
+
+impl From<AllocError> for Status {
+    ghost use Rattle.spasm_run.specs.declared.status.Status.TheVariants.{Memory};
+
+    ghost from_gives = { λ _ status. status ≡ Memory };
+
+    fn from(_error: AllocError) -> Status {
+        Status::Memory
     }
 }
 

@@ -2,26 +2,30 @@
 ghost use Rattle.std.specs.Prelude.{◌≡◌, ◌≤◌, ◌++◌, [], ◌∷◌};
 ghost use Rattle.std.specs.Fmt.{decimal};
 ghost use Rattle.sms_text.specs.Writing.{Writes};
+ghost use Rattle.sms_text.specs.Written.{text_of};
 ghost use Rattle.spasm_run.specs.Answers.{rank_text};
 ghost use Rattle.spasm_run.specs.Faults.{SaysWhy};
+ghost use Rattle.spasm_run.specs.Found.{HasSmallSizes, IsSmall, answer_text};
 ghost use Rattle.spasm_run.specs.Ran.{fault_line};
-ghost use Rattle.spasm_run.specs.Texts.{form_text};
 
+use crate::answers::Answer;
 use crate::status::{Status, kind_number};
-use crate::words::Task;
-use echelon_form::Echelon;
 use sms_text::{Sink, WriteFault, write_number, write_rows, write_text};
+use sparse_rows::Rows;
 
-/// Writes what is answered to a command where this is the form of its matrix. It takes no memory.
-pub fn write_answer<K: Sink>(out: &mut K, task: Task, form: &Echelon) -> Result<(), WriteFault>
-    requires height { form.now.matrix.height ≤ 2147483647 }
-    requires width { form.now.matrix.width ≤ 2147483647 }
-    ensures did { Writes result (form_text task form.now.matrix) (K.held out.old) (K.held out.new) (K.faults out.old) (K.faults out.new) }
+/// Writes an answer. It takes no memory.
+pub fn write_answer<K: Sink>(out: &mut K, answer: &Answer) -> Result<(), WriteFault>
+    requires { IsSmall answer.now }
+    ensures did { Writes result (answer_text answer.now) (K.held out.old) (K.held out.new) (K.faults out.old) (K.faults out.new) }
     ensures count { K.faults out.old ≤ K.faults out.new }
 {
-    match task {
-        Task::Rank => write_rank(out, u64::from(form.rank())),
-        Task::Rref => write_rows(out, form.rows()),
+    match answer {
+        Answer::Rank(rank) => write_rank(out, u64::from(*rank)),
+        Answer::Matrix(rows) => write_rows(out, rows),
+        Answer::Solution(x) => write_titled(out, "solution\n", x),
+        Answer::Refutation(y) => write_titled(out, "no solution\n", y),
+        Answer::Inverse(b) => write_titled(out, "inverse\n", b),
+        Answer::Singular(v) => write_titled(out, "singular\n", v),
     }
 }
 
@@ -32,6 +36,16 @@ fn write_rank<K: Sink>(out: &mut K, rank: u64) -> Result<(), WriteFault>
 {
     write_with_number(out, "rank ", rank)?;
     write_text(out, "\n")
+}
+
+// Writes a title, and the text of a matrix behind it.
+fn write_titled<K: Sink>(out: &mut K, title: &str, rows: &Rows) -> Result<(), WriteFault>
+    requires { HasSmallSizes rows.now.matrix }
+    ensures did { Writes result (title.now ++ text_of rows.now.matrix) (K.held out.old) (K.held out.new) (K.faults out.old) (K.faults out.new) }
+    ensures count { K.faults out.old ≤ K.faults out.new }
+{
+    write_text(out, title)?;
+    write_rows(out, rows)
 }
 
 /// Writes the line of a fault to the error stream, if the status has one. Where the stream fails, nothing more is done.

@@ -1,18 +1,22 @@
 // A run, from words and bytes to an answer.
 ghost use Rattle.std.specs.Prelude.{◌≡◌, ◌<◌, ◌≤◌, ◌^◌, ℕ, List, IfOk};
 ghost use Rattle.spasm_run.specs.Words.{Accepted};
-ghost use Rattle.spasm_run.specs.Faults.{SaysWhy, status_of};
+ghost use Rattle.spasm_run.specs.Faults.{SaysWhy};
+ghost use Rattle.spasm_run.specs.Found.{Finds, IsSmall};
 ghost use Rattle.spasm_run.specs.Options.{bytes_of};
 ghost use Rattle.spasm_run.specs.Ran.{Completes, Ran};
-ghost use Rattle.spasm_run.specs.Texts.{FormRead};
+ghost use Rattle.spasm_run.specs.Taken.{Taking};
 
+use crate::answers::{
+    Answer, find_form, find_inverse, find_kernel, find_left_kernel, find_rank, find_solution,
+};
 use crate::gate::Gate;
+use crate::input::{read_one, read_two};
 use crate::status::Status;
 use crate::tell::{tell, write_answer};
 use crate::words::{Command, Task, read_words};
-use echelon_form::Echelon;
 use residue_words::Modulus;
-use sms_text::{Reader, Sink, Source, TextError, read_rows};
+use sms_text::{Sink, Source};
 use std::alloc::Global;
 use std::thread::Threads;
 
@@ -26,10 +30,10 @@ const LIMIT: u64 = 1_099_511_627_776;
 /// bytes, and the first faulty line is named. Memory is wanted for the entries, at most 40 bytes each while they are read, and for the rows;
 /// none for writing.
 /// `rt` and `gate` serve commands that search with several workers.
-pub fn run<R: Threads + Sync, S: Source, K: Sink, E: Sink, G: Gate>(
+pub fn run<'a, R: Threads + Sync, S: Source, K: Sink, E: Sink, G: Gate>(
     rt: &R,
     alloc: Global,
-    words: &[&str],
+    words: &'a [&'a str],
     source: &mut S,
     out: &mut K,
     err: &mut E,
@@ -46,10 +50,10 @@ pub fn run<R: Threads + Sync, S: Source, K: Sink, E: Sink, G: Gate>(
 }
 
 /// The same for an input of at most `limit` bytes, a limit of at most 2^40.
-pub fn run_within<R: Threads + Sync, S: Source, K: Sink, E: Sink, G: Gate>(
+pub fn run_within<'a, R: Threads + Sync, S: Source, K: Sink, E: Sink, G: Gate>(
     rt: &R,
     alloc: Global,
-    words: &[&str],
+    words: &'a [&'a str],
     source: &mut S,
     out: &mut K,
     err: &mut E,
@@ -70,10 +74,10 @@ pub fn run_within<R: Threads + Sync, S: Source, K: Sink, E: Sink, G: Gate>(
 }
 
 // Reads, computes and writes the answer.
-fn answer<R: Threads + Sync, S: Source, K: Sink>(
+fn answer<'a, R: Threads + Sync, S: Source, K: Sink>(
     rt: &R,
     alloc: Global,
-    words: &[&str],
+    words: &'a [&'a str],
     source: &mut S,
     out: &mut K,
     limit: u64,
@@ -83,74 +87,65 @@ fn answer<R: Threads + Sync, S: Source, K: Sink>(
     ensures source_count { S.faults source.old ≤ S.faults source.new }
     ensures out_count { K.faults out.old ≤ K.faults out.new }
 {
-    let command = match read_words(words) {
-        Some(command) => command,
-        None => return Status::Usage,
-    };
-    match command.task {
-        Task::Rank | Task::Rref => answer_by_form(rt, alloc, command, source, out, limit),
+    match find(rt, alloc, words, source, limit) {
+        Ok(answer) => match write_answer(out, &answer) {
+            Ok(()) => Status::Done,
+            Err(_) => Status::WriteFault,
+        },
+        Err(status) => status,
     }
 }
 
-// Reads a matrix, and writes what its echelon form answers.
-fn answer_by_form<R: Threads + Sync, S: Source, K: Sink>(
+// The answer to what the words ask for, or how a run ends without one.
+fn find<'a, R: Threads + Sync, S: Source>(
+    rt: &R,
+    alloc: Global,
+    words: &'a [&'a str],
+    source: &mut S,
+    limit: u64,
+) -> Result<Answer, Status>
+    requires { limit ≤ 1099511627776 }
+    ensures found { Taking (S.told source.old) (S.told source.new) (Finds (bytes_of words.now) limit (S.faults source.old) (S.faults source.new) result) }
+    ensures small { IfOk result IsSmall }
+    ensures count { S.faults source.old ≤ S.faults source.new }
+{
+    match read_words(alloc, words) {
+        Ok(Some(command)) => find_for(rt, alloc, command, source, limit),
+        Ok(None) => Err(Status::Usage),
+        Err(_) => Err(Status::Memory),
+    }
+}
+
+// The answer to a command, or how a run ends without one.
+fn find_for<R: Threads + Sync, S: Source>(
     rt: &R,
     alloc: Global,
     command: Command,
     source: &mut S,
-    out: &mut K,
     limit: u64,
-) -> Status
+) -> Result<Answer, Status>
     requires limit { limit ≤ 1099511627776 }
     requires two_or_more { 2 ≤ command.modulus }
     requires in_range { command.modulus < 2 ^ 48 }
-    ensures ran { (ws : List (List ℕ)) → Accepted ws command → Ran ws limit (S.told source.old) (S.told source.new) (S.faults source.old) (S.faults source.new) (K.held out.old) (K.held out.new) (K.faults out.old) (K.faults out.new) result }
-    ensures source_count { S.faults source.old ≤ S.faults source.new }
-    ensures out_count { K.faults out.old ≤ K.faults out.new }
-{
-    let p = Modulus::new(command.modulus);
-    match read_form(rt, alloc, &p, source, limit) {
-        Ok(form) => match write_answer(out, command.task, &form) {
-            Ok(()) => Status::Done,
-            Err(_) => Status::WriteFault,
-        },
-        Err(error) => fault_status(error),
-    }
-}
-
-// How a run ends whose text wasn't read.
-fn fault_status(error: TextError) -> Status
-    ensures { result ≡ status_of error }
-{
-    match error {
-        TextError::Bad { line, kind } => Status::BadText { line, kind },
-        TextError::Read => Status::ReadFault,
-        TextError::Memory => Status::Memory,
-    }
-}
-
-// The echelon form of the matrix that is read.
-fn read_form<R: Threads + Sync, S: Source>(
-    rt: &R,
-    alloc: Global,
-    p: &Modulus,
-    source: &mut S,
-    limit: u64,
-) -> Result<Echelon, TextError>
-    requires { limit ≤ 1099511627776 }
-    ensures did { FormRead p.now limit (S.told source.old) (S.told source.new) (S.faults source.old) (S.faults source.new) result }
-    ensures sizes { IfOk result (λ form. (form.matrix.height ≤ 2147483647) × (form.matrix.width ≤ 2147483647)) }
+    requires some { 1 ≤ command.workers }
+    requires few { command.workers ≤ 64 }
+    ensures found { (words : List (List ℕ)) → Accepted words command → Taking (S.told source.old) (S.told source.new) (Finds words limit (S.faults source.old) (S.faults source.new) result) }
+    ensures small { IfOk result IsSmall }
     ensures count { S.faults source.old ≤ S.faults source.new }
 {
-    let Ok(mut reader) = Reader::new(alloc, limit) else {
-        return Err(TextError::Memory);
-    };
-    let rows = match read_rows(&mut reader, alloc, source, p) {
-        Ok(rows) => rows,
-        Err(error) => return Err(error),
-    };
-    match Echelon::of(rt, alloc, &rows, 1) {
-        Ok(form) => Ok(form),
-        Err(_) => Err(TextError::Memory),
+    let p = Modulus::new(command.modulus);
+    let workers = command.workers;
+    match command.task {
+        Task::Rank => find_rank(rt, alloc, &read_one(alloc, &p, source, limit)?, workers),
+        Task::Rref => find_form(rt, alloc, &read_one(alloc, &p, source, limit)?, workers),
+        Task::Kernel => find_kernel(rt, alloc, &read_one(alloc, &p, source, limit)?, workers),
+        Task::Solve => {
+            let (a, b) = read_two(alloc, &p, source, limit)?;
+            find_solution(rt, alloc, &a, &b, workers)
+        }
+        Task::LeftKernel => {
+            find_left_kernel(rt, alloc, &read_one(alloc, &p, source, limit)?, workers)
+        }
+        Task::Inverse => find_inverse(rt, alloc, &read_one(alloc, &p, source, limit)?, workers),
     }
 }

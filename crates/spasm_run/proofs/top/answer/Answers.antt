@@ -1,6 +1,6 @@
--- Words that aren't accepted are refused; others are a command.
-use Rattle.spasm_run.proofs.Whole.{ran_refused}
+-- An answer was found, and written or not; or none was found.
+use Rattle.spasm_run.proofs.Whole.{ran_done, ran_unwritten, ran_without}
 use Rattle.spasm_run.proofs.top.answer.Goals as goal
 
-pub returns-in-None-clause-ran : goal.returns-in-None-clause-ran
-returns-in-None-clause-ran g c = ran_refused _ _ _ _ _ _ c.in-None.ensures
+pub returns-clause-ran : goal.returns-clause-ran
+returns-clause-ran g c = ran_without _ _ _ _ _ _ _ _ _ c.in-Err.ensures.found

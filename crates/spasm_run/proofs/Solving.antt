@@ -1,0 +1,144 @@
+-- From the echelon forms of systems to their answers.
+use Rattle.std.proofs.Common.{ℕ, ◌≡◌, ◌+◌, ◌<◌, ◌≤◌, ◌++◌, inl, inr, List, [], ◌∷◌, None, length, slice_index, sym, ap, subst, ◌∙◌, arith}
+use Rattle.std.specs.Prelude.{codes}
+use Rattle.std.proofs.lemmas.Bool.Decides.{nat_tests}
+use Rattle.residue_words.specs.Residues.{IsPrime}
+use Rattle.residue_words.specs.Matrix.{Matrix, IsMatrix, IsVector, entry, row}
+use Rattle.residue_words.proofs.Vectors.{at_list_of, entry_matrix_of, entry_residue, is_matrix_of, length_list_of, matrix_equal}
+use Rattle.row_space.specs.Laws.{InverseExcludesNull, RefutingIsSolvable, RefutingSystem}
+use Rattle.row_space.specs.Solution.{IsRefutingCombination, IsSolution, beside as with_side, refuting_rows, refuting_side, refuting_system}
+use Rattle.row_space.proofs.Refuting.{refuting_matrix, side_vector}
+use Rattle.sms_text.specs.Written.{text_of}
+use Rattle.sparse_rows.specs.Rows.{ResidueMatrix, beside, matrix_by, transposed}
+use Rattle.sparse_rows.specs.Stored.{with_row}
+use Rattle.echelon_form.specs.Form.{Form, IsFormOf}
+use Rattle.kernel_solve.specs.declared.outcome.Inverse.{Inverse}
+use Rattle.kernel_solve.specs.declared.outcome.Inverse.TheVariants.{Singular}
+use Rattle.kernel_solve.specs.declared.systems.Found.{Found}
+use Rattle.kernel_solve.specs.declared.systems.Found.TheVariants.{Solution, Inconsistent}
+use Rattle.kernel_solve.specs.Columns.{column}
+use Rattle.kernel_solve.specs.Found.{Answers, HasShape}
+use Rattle.kernel_solve.specs.Inverted.{HasInverseShape, Inverts}
+use Rattle.kernel_solve.proofs.Inverting.{form_same}
+use Rattle.kernel_solve.proofs.Matrices.{beside_column, column_vector, one_item}
+use Rattle.spasm_run.specs.declared.answers.Answer.TheVariants as answer
+use Rattle.spasm_run.specs.declared.words.Task.TheVariants as task
+use Rattle.spasm_run.specs.Answers.{column_of, misfit, row_of}
+use Rattle.spasm_run.specs.Found.{IsAnswerTo}
+
+sized : ℕ → ℕ → List (List ℕ) → Matrix
+sized h w r = record { height = h; width = w; rows = r }
+
+-- a matrix of one column is the column of its entries
+pub column_whole : {p : ℕ} (X : Matrix) → IsMatrix p X → X.width ≡ 1 → X ≡ column_of (column X)
+column_whole {p} X m narrow =
+    let x : List ℕ = column X in
+    let long : length x ≡ X.height = length_list_of X.height (λ i. entry X i 0) in
+    let at : (i : ℕ) → i < X.height → slice_index x i ≡ entry X i 0 = λ i l. at_list_of X.height (λ i. entry X i 0) i l in
+    matrix_equal p X (column_of x) m
+    (is_matrix_of p (length x) 1 (λ i j. slice_index x i) (λ i j a b. subst (λ t. t < p) (sym (at i (omega arith))) (entry_residue p X m i 0 (omega arith) (omega arith))))
+    (sym long) narrow
+    (λ i j a b. let first : j ≡ 0 = omega arith in ap (entry X i) first ∙ sym (at i a) ∙ sym (entry_matrix_of (length x) 1 (λ i j. slice_index x i) i j (omega arith) (omega arith)))
+
+-- a matrix of one row is its row
+pub row_whole : {p : ℕ} (V : Matrix) → IsMatrix p V → V.height ≡ 1 → V ≡ row_of (row V 0)
+unfolding sized
+row_whole {p} V m low =
+    ap (λ h. sized h V.width V.rows) low ∙ ap (λ w. sized 1 w V.rows) (sym (m.each 0 (omega arith)).len) ∙ ap (sized 1 (length (row V 0))) (one_item [] V.rows (m.len ∙ low))
+
+-- what is a row is the row of its row
+row_again : (M : Matrix) (v : List ℕ) → M ≡ row_of v → M ≡ row_of (row M 0)
+row_again M v e = e ∙ ap row_of (ap (λ m. row m 0) (sym e))
+
+-- a column transposed is a row
+pub transposed_row : (Y : Matrix) → Y.width ≡ 1 → transposed Y ≡ row_of (column Y)
+unfolding sized
+transposed_row Y narrow = ap (λ w. matrix_by w Y.height (λ i j. entry Y j i)) narrow ∙ ap (λ n. sized 1 n (column Y ∷ [])) (sym (length_list_of Y.height (λ i. entry Y i 0)))
+
+-- the system A x = b, where b is the one column of B
+module _ (p : ℕ) (A B : Matrix) (ma : IsMatrix p A) (mb : IsMatrix p B) (heights : A.height ≡ B.height) (narrow : B.width ≡ 1) where
+  side_is : IsVector p A.height (column B)
+  side_is = subst (λ n. IsVector p n (column B)) (sym heights) (column_vector mb (omega arith))
+
+  -- where it has no solution, the refuting system has one, the refuting combination
+  pub refuted_by : (q : ℕ) (S : Matrix) (form : Form) (found : Found) (y : ResidueMatrix) → IsPrime p → RefutingSystem → q ≡ p → S ≡ refuting_system A (column B) → IsFormOf q S form →
+      ((p : ℕ) (A : Matrix) (b : List ℕ) → IsPrime p → IsMatrix p A → IsVector p A.height b → IsFormOf p (with_side A b) form → Answers p A b found) → found ≡ Solution y →
+      IsRefutingCombination p A (column B) (column y.matrix)
+  refuted_by q S form found y prime system modulus matrix is answers here =
+      let b : List ℕ = column B in
+      let law = system p A b (column y.matrix) prime.two_or_more ma side_is in
+      let at = form_same q p S (with_side (refuting_rows A b) (refuting_side A.width)) form modulus (matrix ∙ law.system) is in
+      let told = answers p (refuting_rows A b) (refuting_side A.width) prime (refuting_matrix p A b ma side_is) (side_vector p A.width prime.two_or_more) at in
+      law.reduced.0 (subst (Answers p (refuting_rows A b) (refuting_side A.width)) here told).1
+
+  pub never_inconsistent : (q : ℕ) (S : Matrix) (form : Form) (found : Found) → IsPrime p → RefutingSystem → RefutingIsSolvable → q ≡ p → S ≡ refuting_system A (column B) → IsFormOf q S form →
+      ((p : ℕ) (A : Matrix) (b : List ℕ) → IsPrime p → IsMatrix p A → IsVector p A.height b → IsFormOf p (with_side A b) form → Answers p A b found) → found ≡ Inconsistent →
+      ((x : List ℕ) → ¬ IsSolution p A (column B) x) → ⊥
+  never_inconsistent q S form found prime system solvable modulus matrix is answers here none =
+      let b : List ℕ = column B in
+      let law = system p A b [] prime.two_or_more ma side_is in
+      let at = form_same q p S (with_side (refuting_rows A b) (refuting_side A.width)) form modulus (matrix ∙ law.system) is in
+      let told = answers p (refuting_rows A b) (refuting_side A.width) prime (refuting_matrix p A b ma side_is) (side_vector p A.width prime.two_or_more) at in
+      let some = solvable p A b prime ma side_is none in
+      subst (Answers p (refuting_rows A b) (refuting_side A.width)) here told some.0 some.1
+
+  -- the right-hand side is of the shape that is wanted
+  side_fits : misfit task.Solve (A ∷ B ∷ []) ≡ None
+  side_fits = grind (arith, nat_tests)
+
+  form_with_side : (q : ℕ) (S : Matrix) (form : Form) → q ≡ p → S ≡ beside A B → IsFormOf q S form → IsFormOf p (with_side A (column B)) form
+  form_with_side q S form modulus matrix is = form_same q p S (with_side A (column B)) form modulus (matrix ∙ beside_column A mb heights narrow) is
+
+  -- the solution that is found, and what refutes
+  pub solution_answers : (q : ℕ) (S : Matrix) (form : Form) (found : Found) (x : ResidueMatrix) → A.width ≤ 2147483647 → q ≡ p → S ≡ beside A B → IsFormOf q S form →
+      HasShape form.modulus form.matrix.width found →
+      ((p : ℕ) (A : Matrix) (b : List ℕ) → IsPrime p → IsMatrix p A → IsVector p A.height b → IsFormOf p (with_side A b) form → Answers p A b found) → found ≡ Solution x →
+      IsAnswerTo task.Solve p (A ∷ B ∷ []) (answer.Solution x)
+  solution_answers q S form found x wide modulus matrix is shape answers here =
+      let at = form_with_side q S form modulus matrix is in
+      let sizes = subst (HasShape form.modulus form.matrix.width) here shape in record {
+        small = (omega (arith, sizes.2, at.width), omega (arith, sizes.3));
+        fits = side_fits;
+        answers = λ prime.
+            let told = subst (Answers p A (column B)) here (answers p A (column B) prime ma side_is at) in
+            inl (column x.matrix, told.1, ap (λ X. codes "solution\n" ++ text_of X) (column_whole x.matrix sizes.1 sizes.3));
+      }
+
+  pub refutation_answers : (q : ℕ) (S : Matrix) (form : Form) (found : Found) (y : ResidueMatrix) → A.height ≤ 2147483647 → q ≡ p → S ≡ beside A B → IsFormOf q S form →
+      ((p : ℕ) (A : Matrix) (b : List ℕ) → IsPrime p → IsMatrix p A → IsVector p A.height b → IsFormOf p (with_side A b) form → Answers p A b found) → found ≡ Inconsistent →
+      y.matrix ≡ row_of (row y.matrix 0) → y.matrix.width ≡ A.height → (IsPrime p → ((x : List ℕ) → ¬ IsSolution p A (column B) x) → IsRefutingCombination p A (column B) (row y.matrix 0)) →
+      IsAnswerTo task.Solve p (A ∷ B ∷ []) (answer.Refutation y)
+  refutation_answers q S form found y tall modulus matrix is answers here one_row width refutes =
+      let at = form_with_side q S form modulus matrix is in record {
+        small = (omega (arith, ap (λ m. m.height) one_row), omega (arith, width));
+        fits = side_fits;
+        answers = λ prime.
+            let none : (x : List ℕ) → ¬ IsSolution p A (column B) x = subst (Answers p A (column B)) here (answers p A (column B) prime ma side_is at) in
+            inr (row y.matrix 0, none, refutes prime none, ap (λ Y. codes "no solution\n" ++ text_of Y) one_row);
+      }
+
+-- where a square matrix has a null vector that is not zero, it has no inverse, and what is told is the first row of its kernel basis
+pub singular_answers : (p : ℕ) (A : Matrix) (found : Inverse) (v : ResidueMatrix) → InverseExcludesNull → A.height ≡ A.width → A.height ≤ 1073741824 →
+    HasInverseShape p A.width found → (IsPrime p → Inverts p A found) → found ≡ Singular v → IsAnswerTo task.Inverse p (A ∷ []) (answer.Singular v)
+singular_answers p A found v law square narrow shape inverts here =
+    let sizes = subst (HasInverseShape p A.width) here shape in record {
+      small = (omega (arith, sizes.2), omega (arith, sizes.3));
+      fits = inverse_fits A square narrow;
+      answers = λ prime.
+          let (null, nonzero, (K, kernel, some, same)) = subst (Inverts p A) here (inverts prime) in
+          inr (
+            K,
+            (λ B inverse. nonzero (law p A B (row v.matrix 0) square inverse null)),
+            kernel,
+            some,
+            ap (λ V. codes "singular\n" ++ text_of V) (row_whole v.matrix sizes.1 sizes.2 ∙ ap row_of same),
+          );
+    }
+  where
+    inverse_fits : (A : Matrix) → A.height ≡ A.width → A.height ≤ 1073741824 → misfit task.Inverse (A ∷ []) ≡ None
+    inverse_fits A square narrow = grind (arith, nat_tests)
+
+-- a zero row that is appended to no rows is the row of its row
+pub first_row : (M R : Matrix) (v : List ℕ) (w : ℕ) → M ≡ with_row R v → R ≡ record { height = 0; width = w; rows = [] } → length v ≡ w → M ≡ row_of (row M 0)
+unfolding sized
+first_row M R v w made none long = row_again M v (made ∙ ap (λ R. with_row R v) none ∙ ap (λ w. sized 1 w (v ∷ [])) (sym long))
