@@ -2,6 +2,8 @@
 #![tactic(auto)]
 
 mod answers;
+#[cfg(test)]
+mod compare_tests;
 mod gate;
 mod input;
 mod plain;

@@ -15,34 +15,41 @@ use std::test::Fail;
 use std::thread::Threads;
 
 // The third row is the sum of the first two.
-const X: &str = "3 3 M\n1 1 2\n1 2 4\n1 3 1\n2 1 1\n2 2 2\n3 1 3\n3 2 6\n3 3 1\n0 0 0\n";
+pub const X: &str = "3 3 M\n1 1 2\n1 2 4\n1 3 1\n2 1 1\n2 2 2\n3 1 3\n3 2 6\n3 3 1\n0 0 0\n";
 
-const LIMIT: u64 = 1_099_511_627_776;
+pub const LIMIT: u64 = 1_099_511_627_776;
+
+// A matrix that has an inverse modulo 7.
+const Y: &str = "3 3 M\n1 1 1\n2 1 1\n2 2 1\n2 3 1\n3 1 1\n3 2 1\n3 3 2\n0 0 0\n";
+
+// X, and a right-hand side for which there is no solution.
+const X_UNSOLVED: &str =
+    "3 3 M\n1 1 2\n1 2 4\n1 3 1\n2 1 1\n2 2 2\n3 1 3\n3 2 6\n3 3 1\n0 0 0\n3 1 M\n3 1 1\n0 0 0\n";
 
 // What a run came to.
 #[derive(Drop)]
-struct Outcome {
-    status: Status,
-    out: MemorySink,
-    err: MemorySink,
+pub struct Outcome {
+    pub status: Status,
+    pub out: MemorySink,
+    pub err: MemorySink,
 }
 
 // How the streams of a run behave: pieces, the room of the output, and the pull, the put to the output and the put to the error stream that fail.
 #[derive(Drop)]
-struct Streams {
-    piece: usize,
-    pull: u64,
-    room: usize,
-    put_piece: usize,
-    put: u64,
-    err_put: u64,
+pub struct Streams {
+    pub piece: usize,
+    pub pull: u64,
+    pub room: usize,
+    pub put_piece: usize,
+    pub put: u64,
+    pub err_put: u64,
 }
 
 // Streams that never fail.
-const CALM: Streams = Streams {
+pub const CALM: Streams = Streams {
     piece: 64,
     pull: 0,
-    room: 64,
+    room: 256,
     put_piece: 64,
     put: 0,
     err_put: 0,
@@ -56,10 +63,10 @@ fn list(alloc: Global, fails: u64) -> Result<Vec<u64>, AllocError> {
     Ok(list)
 }
 
-fn run_on<R: Threads + Sync>(
+pub fn run_on<'a, R: Threads + Sync>(
     rt: &R,
     alloc: Global,
-    words: &[&str],
+    words: &'a [&'a str],
     text: &[u8],
     limit: u64,
     streams: &Streams,
@@ -170,6 +177,150 @@ fn forms_are_as_known(rt: HostRuntime) -> Result<(), Fail> {
         )?;
         assert_eq!(rt; ran.status, Status::Done, "at {text}");
         assert_eq!(rt; ran.out.content(), want.as_bytes(), "at {text}");
+    }
+    Ok(())
+}
+
+#[test]
+fn kernels_solutions_and_inverses_are_as_known(rt: HostRuntime) -> Result<(), Fail> {
+    let cases: [(&str, &str, &str, &str); 16] = [
+        ("kernel", "7", X, "1 3 M\n1 1 5\n1 2 1\n0 0 0\n"),
+        ("kernel", "7", Y, "0 3 M\n0 0 0\n"),
+        (
+            "kernel",
+            "7",
+            "0 5 M\n0 0 0\n",
+            "5 5 M\n1 1 1\n2 2 1\n3 3 1\n4 4 1\n5 5 1\n0 0 0\n",
+        ),
+        ("kernel", "7", "3 0 M\n0 0 0\n", "0 0 M\n0 0 0\n"),
+        (
+            "kernel",
+            "2",
+            "2 2 M\n1 1 1\n1 2 1\n2 1 1\n2 2 1\n0 0 0\n",
+            "1 2 M\n1 1 1\n1 2 1\n0 0 0\n",
+        ),
+        ("leftkernel", "7", X, "1 3 M\n1 1 6\n1 2 6\n1 3 1\n0 0 0\n"),
+        (
+            "leftkernel",
+            "7",
+            "2 1 M\n0 0 0\n",
+            "2 2 M\n1 1 1\n2 2 1\n0 0 0\n",
+        ),
+        (
+            "solve",
+            "7",
+            "3 3 M\n1 1 2\n1 2 4\n1 3 1\n2 1 1\n2 2 2\n3 1 3\n3 2 6\n3 3 1\n0 0 0\n3 1 M\n1 1 1\n3 1 1\n0 0 0\n",
+            "solution\n3 1 M\n3 1 1\n0 0 0\n",
+        ),
+        (
+            "solve",
+            "7",
+            X_UNSOLVED,
+            "no solution\n1 3 M\n1 1 6\n1 2 6\n1 3 1\n0 0 0\n",
+        ),
+        (
+            "solve",
+            "7",
+            "3 0 M\n0 0 0\n3 1 M\n2 1 1\n0 0 0\n",
+            "no solution\n1 3 M\n1 2 1\n0 0 0\n",
+        ),
+        (
+            "solve",
+            "7",
+            "3 0 M\n0 0 0\n3 1 M\n0 0 0\n",
+            "solution\n0 1 M\n0 0 0\n",
+        ),
+        (
+            "inverse",
+            "7",
+            Y,
+            "inverse\n3 3 M\n1 1 1\n2 1 6\n2 2 2\n2 3 6\n3 2 6\n3 3 1\n0 0 0\n",
+        ),
+        ("inverse", "7", X, "singular\n1 3 M\n1 1 5\n1 2 1\n0 0 0\n"),
+        ("inverse", "7", "0 0 M\n0 0 0\n", "inverse\n0 0 M\n0 0 0\n"),
+        ("rank", "7", X, "rank 2\n"),
+        ("rref", "7", X, "2 3 M\n1 1 1\n1 2 2\n2 3 1\n0 0 0\n"),
+    ];
+    for (command, p, text, want) in cases {
+        for workers in ["1", "8"] {
+            let ran = run_on(
+                &rt,
+                rt.alloc(),
+                &[command, "--modulus", p, "--workers", workers],
+                text.as_bytes(),
+                LIMIT,
+                &CALM,
+            )?;
+            assert_eq!(rt; ran.status, Status::Done, "{command} at {text}");
+            assert_eq!(rt; ran.out.content(), want.as_bytes(), "{command} at {text}");
+            assert_eq!(rt; ran.err.content().len(), 0, "{command} at {text}");
+        }
+    }
+    Ok(())
+}
+
+#[test]
+fn second_texts_and_shapes_that_are_not_wanted_are_refused(rt: HostRuntime) -> Result<(), Fail> {
+    let cases: [(&str, &str, Status, &str); 4] = [
+        (
+            "solve",
+            "3 3 M\n1 1 2\n1 2 4\n1 3 1\n2 1 1\n2 2 2\n3 1 3\n3 2 6\n3 3 1\n0 0 0\n2 1 M\n0 0 0\n",
+            Status::Shape {
+                height: 2,
+                width: 1,
+            },
+            "error 4 shape 2 1\n",
+        ),
+        (
+            "solve",
+            "3 3 M\n1 1 2\n1 2 4\n1 3 1\n2 1 1\n2 2 2\n3 1 3\n3 2 6\n3 3 1\n0 0 0\n2 1 M\n3 1 1\n0 0 0\n",
+            Status::BadText {
+                line: 12,
+                kind: Kind::Row,
+            },
+            "error 3 line 12 kind 4\n",
+        ),
+        (
+            "solve",
+            X,
+            Status::BadText {
+                line: 11,
+                kind: Kind::NoHeader,
+            },
+            "error 3 line 11 kind 6\n",
+        ),
+        (
+            "inverse",
+            "1 2 M\n0 0 0\n",
+            Status::Shape {
+                height: 1,
+                width: 2,
+            },
+            "error 4 shape 1 2\n",
+        ),
+    ];
+    for (command, text, status, told) in cases {
+        for put in 0..2 {
+            let streams = Streams {
+                piece: 64,
+                pull: 0,
+                room: 64,
+                put_piece: 64,
+                put,
+                err_put: 0,
+            };
+            let ran = run_on(
+                &rt,
+                rt.alloc(),
+                &[command, "--modulus", "7"],
+                text.as_bytes(),
+                LIMIT,
+                &streams,
+            )?;
+            assert_eq!(rt; ran.status, status, "{command} at {text}");
+            assert_eq!(rt; ran.err.content(), told.as_bytes(), "{command} at {text}");
+            assert_eq!(rt; ran.out.content().len(), 0, "{command} at {text}");
+        }
     }
     Ok(())
 }
@@ -396,23 +547,33 @@ fn each_pull_that_fails_stops_the_run(rt: HostRuntime) -> Result<(), Fail> {
 
 #[test]
 fn an_output_that_fails_holds_what_it_took(rt: HostRuntime) -> Result<(), Fail> {
-    let answer = b"rank 2\n".as_slice();
-    for put in 1..8 {
-        let streams = Streams {
-            piece: 64,
-            pull: 0,
-            room: 64,
-            put_piece: 1,
-            put,
-            err_put: 0,
-        };
-        let ran = run_on(&rt, rt.alloc(), &["rank"], X.as_bytes(), LIMIT, &streams)?;
-        assert_eq!(rt; ran.status, Status::WriteFault, "at {put}");
-        assert_eq!(rt;
-            ran.out.content(),
-            answer.split_at(put as usize - 1).0,
-            "at {put}"
-        );
+    let cases: [(&str, &str, &[u8]); 2] = [
+        ("rank", X, b"rank 2\n"),
+        (
+            "solve",
+            X_UNSOLVED,
+            b"no solution\n1 3 M\n1 1 6\n1 2 6\n1 3 1\n0 0 0\n",
+        ),
+    ];
+    for (command, text, answer) in cases {
+        for taken in 0..answer.len() {
+            let streams = Streams {
+                piece: 64,
+                pull: 0,
+                room: 64,
+                put_piece: 1,
+                put: taken as u64 + 1,
+                err_put: 0,
+            };
+            let words = [command, "--modulus", "7"];
+            let ran = run_on(&rt, rt.alloc(), &words, text.as_bytes(), LIMIT, &streams)?;
+            assert_eq!(rt; ran.status, Status::WriteFault, "{command} at {taken}");
+            assert_eq!(rt;
+                ran.out.content(),
+                answer.split_at(taken).0,
+                "{command} at {taken}"
+            );
+        }
     }
     let small = Streams {
         piece: 64,
