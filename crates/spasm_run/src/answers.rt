@@ -9,6 +9,7 @@ ghost use Rattle.spasm_run.specs.Found.{Gives};
 ghost use Rattle.spasm_run.specs.declared.words.Task.TheVariants as task;
 
 use crate::status::Status;
+use dense_finish::finish;
 use echelon_form::Echelon;
 use kernel_solve::{Found, Inverse, refuting_system, solution};
 use sparse_rows::{Rows, Sparse};
@@ -22,7 +23,7 @@ const LARGEST_INVERTED: u32 = 1_073_741_824;
 #[derive(Drop)]
 pub enum Answer {
     /// The rank of a matrix.
-    Rank(u32),
+    Rank(u64),
     /// The echelon form or a kernel basis of a matrix.
     Matrix(Rows),
     /// The reduced solution of a system, as a column.
@@ -35,8 +36,27 @@ pub enum Answer {
     Singular(Rows),
 }
 
-/// The rank of a matrix.
+/// The rank of a matrix: by a dense elimination where there are no structural rounds, and else by its echelon form.
 pub fn find_rank<R: Threads + Sync>(
+    rt: &R,
+    alloc: Global,
+    a: &Rows,
+    workers: u32,
+    rounds: u32,
+) -> Result<Answer, Status>
+    requires some { 1 ≤ workers }
+    requires few { workers ≤ 64 }
+    ensures { Gives task.Rank a.now.modulus (a.now.matrix ∷ []) result }
+{
+    if rounds == 0 {
+        return count_pivots(rt, alloc, a, workers);
+    }
+    let form = Echelon::of(rt, alloc, a, workers)?;
+    Ok(Answer::Rank(u64::from(form.rank())))
+}
+
+// The rank of a matrix as the number of pivots of a dense elimination.
+fn count_pivots<R: Threads + Sync>(
     rt: &R,
     alloc: Global,
     a: &Rows,
@@ -46,8 +66,10 @@ pub fn find_rank<R: Threads + Sync>(
     requires few { workers ≤ 64 }
     ensures { Gives task.Rank a.now.modulus (a.now.matrix ∷ []) result }
 {
-    let form = Echelon::of(rt, alloc, a, workers)?;
-    Ok(Answer::Rank(form.rank()))
+    row_space::factors_give_rank();
+    let _ = a.height();
+    let factors = finish(rt, alloc, a, workers)?;
+    Ok(Answer::Rank(factors.pivots.items().len() as u64))
 }
 
 /// The echelon form of a matrix.

@@ -13,7 +13,7 @@ mod tell;
 #[cfg(test)]
 mod tests;
 mod top;
-mod words;
+pub mod words;
 
 pub use gate::{Gate, Open, Point};
 pub use plain::plain_rows;
@@ -21,4 +21,3 @@ pub use rank::rank_of;
 pub use status::Status;
 pub use top::{run, run_within};
 pub use words::{Command, Task, at_most_one_command, read_words};
-pub use words::line::command;

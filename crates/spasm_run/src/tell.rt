@@ -20,7 +20,7 @@ pub fn write_answer<K: Sink>(out: &mut K, answer: &Answer) -> Result<(), WriteFa
     ensures count { K.faults out.old ≤ K.faults out.new }
 {
     match answer {
-        Answer::Rank(rank) => write_rank(out, u64::from(*rank)),
+        Answer::Rank(rank) => write_rank(out, *rank),
         Answer::Matrix(rows) => write_rows(out, rows),
         Answer::Solution(x) => write_titled(out, "solution\n", x),
         Answer::Refutation(y) => write_titled(out, "no solution\n", y),

@@ -99,8 +99,20 @@ pub fn run_on<'a, R: Threads + Sync>(
 
 #[test]
 fn ranks_are_as_known(rt: HostRuntime) -> Result<(), Fail> {
-    let cases: [(&str, &str, &str); 8] = [
+    let ways: [&[&str]; 4] = [
+        &["--rounds=16", "--workers=1"],
+        &["--workers", "8"],
+        &["--rounds", "0", "--workers", "1"],
+        &["--rounds", "0", "--workers", "64"],
+    ];
+    let cases: [(&str, &str, &str); 10] = [
         ("7", X, "rank 2\n"),
+        ("7", Y, "rank 3\n"),
+        (
+            "2147483647",
+            "1000000 1000000 M\n1000000 1000000 3\n0 0 0\n",
+            "rank 1\n",
+        ),
         ("4294967311", X, "rank 2\n"),
         ("7", "2 2 M\n1 1 14\n0 0 0\n", "rank 0\n"),
         ("7", "1 1 M\n1 1 3\n1 1 4\n0 0 0\n", "rank 0\n"),
@@ -113,18 +125,15 @@ fn ranks_are_as_known(rt: HostRuntime) -> Result<(), Fail> {
         ("7", "1 1 M\n1 1 0/5\n0 0 0\n", "rank 0\n"),
         ("7", "1 1 M\n0 0 -00", "rank 0\n"),
     ];
-    for (p, text, want) in cases {
-        let ran = run_on(
-            &rt,
-            rt.alloc(),
-            &["rank", "--modulus", p],
-            text.as_bytes(),
-            LIMIT,
-            &CALM,
-        )?;
-        assert_eq!(rt; ran.status, Status::Done, "at {text}");
-        assert_eq!(rt; ran.out.content(), want.as_bytes(), "at {text}");
-        assert_eq!(rt; ran.err.content().len(), 0, "at {text}");
+    for way in ways {
+        for (p, text, want) in cases {
+            let mut words = Vec::from_slice(rt.alloc(), &["rank", "--modulus", p])?;
+            words.extend_from_slice(way)?;
+            let ran = run_on(&rt, rt.alloc(), &words, text.as_bytes(), LIMIT, &CALM)?;
+            assert_eq!(rt; ran.status, Status::Done, "at {text}");
+            assert_eq!(rt; ran.out.content(), want.as_bytes(), "at {text}");
+            assert_eq!(rt; ran.err.content().len(), 0, "at {text}");
+        }
     }
     Ok(())
 }

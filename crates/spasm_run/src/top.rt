@@ -136,7 +136,10 @@ fn find_for<R: Threads + Sync, S: Source>(
     let p = Modulus::new(command.modulus);
     let workers = command.workers;
     match command.task {
-        Task::Rank => find_rank(rt, alloc, &read_one(alloc, &p, source, limit)?, workers),
+        Task::Rank => {
+            let a = read_one(alloc, &p, source, limit)?;
+            find_rank(rt, alloc, &a, workers, command.rounds)
+        }
         Task::Rref => find_form(rt, alloc, &read_one(alloc, &p, source, limit)?, workers),
         Task::Kernel => find_kernel(rt, alloc, &read_one(alloc, &p, source, limit)?, workers),
         Task::Solve => {

@@ -46,7 +46,7 @@ pub struct Command {
     pub modulus: u64,
     /// How many workers share the elimination, from 1 to 64.
     pub workers: u32,
-    /// How many rounds of pivots are looked for before the elimination, from 0 to 16.
+    /// How many structural rounds come before the dense elimination, from 0 to 16; with 0 the rank is counted by it alone.
     pub rounds: u32,
 }
 

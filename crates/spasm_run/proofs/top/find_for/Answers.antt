@@ -4,10 +4,10 @@ use Rattle.spasm_run.specs.declared.words.Task.TheVariants as task
 use Rattle.spasm_run.proofs.Whole.{found_given}
 use Rattle.spasm_run.proofs.top.find_for.Goals as goal
 
-pub returns-in_ok-read_one-in-Rank-clause-found : goal.returns-in_ok-read_one-in-Rank-clause-found
-returns-in_ok-read_one-in-Rank-clause-found g c = λ words accepted.
-    let a = c.in_ok-read_one-in-Rank in
-    found_given words c.args.command task.Rank c.new-p.result a.field-0.modulus c.args.limit _ _ _ _ (a.field-0.matrix ∷ []) _ c.in-Rank.is c.new-p.ensures a.ensures.matrix.modulus accepted a.ensures.did c.find_rank-in-Rank.ensures
+pub returns-in_ok-a-in-Rank-clause-found : goal.returns-in_ok-a-in-Rank-clause-found
+returns-in_ok-a-in-Rank-clause-found g c = λ words accepted.
+    let a = c.in_ok-a-in-Rank in
+    found_given words c.args.command task.Rank c.new-p.result a.a.modulus c.args.limit _ _ _ _ (a.a.matrix ∷ []) _ c.in-Rank.is c.new-p.ensures a.ensures.matrix.modulus accepted a.ensures.did c.find_rank.ensures
 
 pub returns-in_ok-read_one-in-Rref-clause-found : goal.returns-in_ok-read_one-in-Rref-clause-found
 returns-in_ok-read_one-in-Rref-clause-found g c = λ words accepted.

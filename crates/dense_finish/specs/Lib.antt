@@ -1,0 +1,2 @@
+pub mod Factoring
+pub mod Lanes
