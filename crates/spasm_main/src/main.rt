@@ -20,10 +20,16 @@ fn main(rt: HostRuntime) -> ExitCode {
         ),
         Err(none) => Err(none),
     };
-    ExitCode::from(code.unwrap_or_else(|none| refused(&rt, none)))
+    match code {
+        Ok(code) => ExitCode::from(code),
+        Err(none) => {
+            let _ = eprintln!(rt; "{none}");
+            ExitCode::from(none.code())
+        }
+    }
 }
 
-// Runs the command that the words ask for.
+// Runs the command that the words ask for. The error is that memory for the words was refused.
 fn answer<R: Threads + Sync, I: Read + Drop, O: Write + Drop, E: Write + Drop>(
     rt: &R,
     alloc: Global,
