@@ -1,2 +1,15 @@
 pub mod Adding
+pub mod Assembling
+pub mod Dividing
+pub mod Filling
+pub mod Gathering
+pub mod Growing
+pub mod Lines
+pub mod Naming
+pub mod Parts
+pub mod Progress
+pub mod Putting
+pub mod Splitting
+pub mod Stages
+pub mod TakingOut
 pub mod Vectors

@@ -1,2 +1,3 @@
+pub mod Elimination
 pub mod Factoring
 pub mod Lanes

@@ -1,0 +1,82 @@
+-- The end of a slice, changed in its place.
+use Rattle.std.proofs.Common.{ℕ, ◌≡◌, ◌+◌, ◌-◌, ◌*◌, ◌%◌, ◌<◌, ◌≤◌, inl, inr, List, [], ◌++◌, length, map, slice_index, slice_index_or, take, drop, sym, refl, ap, ap₂, ◌∙◌, arith, length-append, mod-eq_of_lt, add-zero, mul-zero}
+use Rattle.std.proofs.Math.ListN.{drop_of_length-le, get_or-append}
+use Rattle.std.proofs.Math.Seq.{get_or-append_right, take-append_seam}
+use Rattle.std.proofs.lemmas.Bool.{cases_lt}
+use Rattle.std.proofs.lemmas.List.{drop-map, get_or-drop, get_or-take, length-drop, length-map, length-take, map-append, take-map, take_all}
+use Rattle.residue_words.specs.Matrix.{IsVector, list_of}
+use Rattle.residue_words.proofs.Vectors.{at_list_of, length_list_of, list_equal}
+
+-- the end from `from` on, as a borrow of it is written
+abbrev pub ending : {X : Type 0} → ℕ → List X → List X
+ending from xs = take (length xs - from) (drop from xs)
+
+-- f of its elements
+pub ending_is : {X : Type 0} (f : X → ℕ) (from : ℕ) (xs : List X) → map f (ending from xs) ≡ drop from (map f xs)
+ending_is f from xs = ap (map f) (take_all (length xs - from) (drop from xs) (omega (arith, length-drop from xs))) ∙ sym (drop-map f from xs)
+
+pub length_ending : {X : Type 0} (from : ℕ) (xs : List X) → length (ending from xs) ≡ length xs - from
+length_ending from xs = length-take (length xs - from) (drop from xs) ∙ omega (arith, length-drop from xs)
+
+pub at_ending : {X : Type 0} (f : X → ℕ) (from : ℕ) (xs : List X) (k : ℕ) → slice_index (map f (ending from xs)) k ≡ slice_index (map f xs) (from + k)
+at_ending f from xs k = ap (λ l. slice_index l k) (ending_is f from xs) ∙ get_or-drop from (map f xs) k 0
+
+-- a list whose front stays, and whose end is `out`
+pub at_front : {X : Type 0} (from : ℕ) (xs out rest : List X) (j : ℕ) (d : X) → from ≤ length xs → j < from → slice_index_or (take from xs ++ (out ++ rest)) j d ≡ slice_index_or xs j d
+at_front from xs out rest j d le l =
+    get_or-append (take from xs) (out ++ rest) d j (omega (arith, length-take from xs)) ∙ get_or-take from xs j d l
+
+pub at_back : {X : Type 0} (from : ℕ) (xs out rest : List X) (j : ℕ) (d : X) → from ≤ length xs → from ≤ j → j - from < length out → slice_index_or (take from xs ++ (out ++ rest)) j d ≡ slice_index_or out (j - from) d
+at_back from xs out rest j d le past l =
+    let front : length (take from xs) ≡ from = omega (arith, length-take from xs) in
+    get_or-append_right (take from xs) (out ++ rest) j d (omega arith) ∙ ap (λ k. slice_index_or (out ++ rest) (j - k) d) front ∙ get_or-append out rest d (j - from) l
+
+-- nothing is behind the end
+pub length_changed : {X : Type 0} (from : ℕ) (xs out : List X) → from ≤ length xs → length out ≡ length xs - from →
+    length (take from xs ++ (out ++ drop (length xs - from) (drop from xs))) ≡ length xs
+length_changed from xs out le long =
+    omega (
+      arith,
+      length-append (take from xs) (out ++ drop (length xs - from) (drop from xs)),
+      length-append out (drop (length xs - from) (drop from xs)),
+      length-take from xs,
+      length-drop (length xs - from) (drop from xs),
+      length-drop from xs,
+    )
+
+-- a y is added from `from` on, before which y is 0
+pub added_at_end : {X : Type 0} (f : X → ℕ) (p a from : ℕ) (xs ys out : List X) (u v : List ℕ) → map f xs ≡ u → map f ys ≡ v → from ≤ length u → IsVector p (length u) u →
+    IsVector p (length u) v → ((j : ℕ) → j < from → slice_index v j ≡ 0) →
+    map f out ≡ list_of (length (ending from xs)) (λ k. (slice_index (map f (ending from xs)) k + a * slice_index (map f (ending from ys)) k) % p) →
+    map f (take from xs ++ (out ++ drop (length xs - from) (drop from xs))) ≡ list_of (length u) (λ j. (slice_index u j + a * slice_index v j) % p)
+added_at_end f p a from xs ys out u v xs-is ys-is le left right none added =
+    let wide : length xs ≡ length u = sym (length-map xs f) ∙ ap length xs-is in
+    let long : length out ≡ length xs - from = sym (length-map out f) ∙ ap length added ∙ length_list_of _ _ ∙ length_ending from xs in
+    let rest : List _ = drop (length xs - from) (drop from xs) in
+    let whole : map f (take from xs ++ (out ++ rest)) ≡ take from u ++ (map f out ++ map f rest) =
+    map-append f (take from xs) (out ++ rest) ∙ ap₂ (λ x y. x ++ y) (sym (take-map f from xs) ∙ ap (take from) xs-is) (map-append f out rest) in
+    list_equal (length u) _ _ (length-map _ f ∙ length_changed from xs out (omega arith) long ∙ wide) (length_list_of _ _) (λ j l.
+    ap (λ z. slice_index z j) whole
+    ∙ elim (cases_lt j from) [
+      | inl less ↦
+          at_front from u (map f out) (map f rest) j 0 le less
+          ∙ sym (ap (λ x. (slice_index u j + a * x) % p) (none j less) ∙ ap (λ x. (slice_index u j + x) % p) (mul-zero a) ∙ ap (λ x. x % p) (add-zero (slice_index u j)) ∙ mod-eq_of_lt (left.residues j l))
+      | inr past ↦
+          let inner : j - from < length (ending from xs) = omega (arith, length_ending from xs) in
+          let back : from + (j - from) ≡ j = omega arith in
+          at_back from u (map f out) (map f rest) j 0 le past (omega (arith, length-map out f, length_ending from xs))
+          ∙ ap (λ z. slice_index z (j - from)) added ∙ at_list_of _ _ (j - from) inner
+          ∙ ap₂ (λ x y. (x + a * y) % p) (at_ending f from xs (j - from) ∙ ap₂ (λ z k. slice_index z k) xs-is back) (at_ending f from ys (j - from) ∙ ap₂ (λ z k. slice_index z k) ys-is back)
+    ]
+    ∙ sym (at_list_of (length u) (λ j. (slice_index u j + a * slice_index v j) % p) j l))
+
+-- residues stay below p at the end
+pub ending_below : {X : Type 0} (f : X → ℕ) (p from : ℕ) (xs : List X) (u : List ℕ) → map f xs ≡ u → IsVector p (length u) u → (k : ℕ) → k < length (ending from xs) → slice_index (map f (ending from xs)) k < p
+ending_below f p from xs u is vector k l =
+    let read : slice_index (map f (ending from xs)) k ≡ slice_index u (from + k) = at_ending f from xs k ∙ ap (λ z. slice_index z (from + k)) is in
+    omega (arith, read, vector.residues (from + k) (omega (arith, length_ending from xs, length-map xs f, ap length is)))
+
+-- a `Vec` whose whole slice was changed
+pub refilled : {X : Type 0} (n : ℕ) (xs items : List X) → length xs ≡ n → length items ≡ n → take n (xs ++ drop (length xs) items) ≡ xs
+refilled n xs items long same =
+    ap (λ k. take k (xs ++ drop (length xs) items)) (sym long) ∙ take-append_seam xs (drop (length xs) items)

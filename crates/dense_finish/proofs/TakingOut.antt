@@ -1,0 +1,62 @@
+-- A pivot's row that is taken out of a row.
+use Rattle.std.proofs.Common.{ℕ, ◌≡◌, ◌≢◌, ◌+◌, ◌-◌, ◌*◌, ◌%◌, ◌<◌, ◌≤◌, inl, inr, List, length, slice_index, slice_set, sym, refl, ap, ap₂, ◌∙◌, arith, add-zero, zero-mul, one-mul, mod-eq_of_lt, mod-lt}
+use native.Mathlib.Nat.{mod-mod}
+use Rattle.std.proofs.lemmas.Bool.{cases_eq}
+use Rattle.std.proofs.lemmas.List.{get_or-set_same, get_or-set_other, length-set}
+use Rattle.residue_words.specs.Matrix.{IsVector, list_of}
+use Rattle.residue_words.proofs.Residues.{add_same, multiple_zero, product_zero_left, right_zero}
+use Rattle.residue_words.proofs.Vectors.{at_list_of, length_list_of}
+use Rattle.dense_finish.specs.Elimination.{TakesOut}
+
+-- v less a q, and a q, is v
+added_back : (p v q a : ℕ) → a < p → v < p → v ≡ ((v + ((p - a) % p) * q) % p + a * q) % p
+added_back p v q a la lv =
+    let b : ℕ = (p - a) % p in
+    let whole : p - a + a ≡ 1 * p = omega arith in
+    let none : (b + a) % p ≡ 0 = add_same p b (p - a) a a (mod-mod (p - a) p) refl ∙ ap (λ x. x % p) whole ∙ multiple_zero p 1 in
+    let turn : v + b * q + a * q ≡ v + (b + a) * q = omega arith in
+    sym (add_same p ((v + b * q) % p) (v + b * q) (a * q) (a * q) (mod-mod (v + b * q) p) refl ∙ ap (λ x. x % p) turn
+    ∙ right_zero p v ((b + a) * q) (product_zero_left p (b + a) q none) ∙ mod-eq_of_lt lv)
+
+-- a vector stays one with another residue at c
+pub vector_set : {p n : ℕ} {v : List ℕ} (c a : ℕ) → a < p → IsVector p n v → IsVector p n (slice_set v c a)
+vector_set {p} {n} {v} c a la h = record {
+  len = length-set v c a ∙ h.len;
+  residues = λ j l. elim (cases_eq j c) [
+    | inl e ↦ omega (arith, ap (slice_index (slice_set v c a)) e, get_or-set_same v c a 0 (omega (arith, h.len)))
+    | inr d ↦ omega (arith, get_or-set_other v c j a 0 d, h.residues j l)
+  ];
+}
+
+-- a row of residues by a formula
+pub vector_by : {p n : ℕ} (f : ℕ → ℕ) → 0 < p → IsVector p n (list_of n (λ j. f j % p))
+vector_by {p} {n} f pos = record {
+  len = length_list_of n (λ j. f j % p);
+  residues = λ j l. omega (arith, at_list_of n (λ j. f j % p) j l, mod-lt (f j) pos);
+}
+
+-- the pivot's multiple is taken out, and the coefficient put at its column
+pub taken_out : {p n c : ℕ} {q v w x : List ℕ} (a : ℕ) → c < n → IsVector p n v → a ≡ slice_index v c → w ≡ list_of n (λ j. (slice_index v j + ((p - a) % p) * slice_index q j) % p) →
+    x ≡ slice_set w c a → TakesOut p n c q v x
+taken_out {p} {n} {c} {q} {v} {w} {x} a inside h coefficient added set =
+    let small : a < p = omega (arith, h.residues c inside) in
+    let f : ℕ → ℕ = λ j. slice_index v j + ((p - a) % p) * slice_index q j in
+    let made : x ≡ slice_set (list_of n (λ j. f j % p)) c a = set ∙ ap (λ l. slice_set l c a) added in
+    let here : slice_index x c ≡ a = ap (λ l. slice_index l c) made ∙ get_or-set_same (list_of n (λ j. f j % p)) c a 0 (omega (arith, length_list_of n (λ j. f j % p))) in
+    let there : (j : ℕ) → j < n → j ≢ c → slice_index x j ≡ f j % p =
+    λ j l d. ap (λ l. slice_index l j) made ∙ get_or-set_other (list_of n (λ j. f j % p)) c j a 0 d ∙ at_list_of n (λ j. f j % p) j l in
+    record {
+      vector = rw made (vector_set c a small (vector_by f (omega arith)));
+      coefficient = here ∙ coefficient;
+      sum = λ j l d. added_back p (slice_index v j) (slice_index q j) a small (h.residues j l)
+          ∙ ap₂ (λ y z. (y + z * slice_index q j) % p) (sym (there j l d)) coefficient;
+    }
+
+-- there is none of it in the row
+pub not_taken_out : {p n c : ℕ} {q v : List ℕ} → IsVector p n v → slice_index v c ≡ 0 → TakesOut p n c q v v
+not_taken_out {p} {n} {c} {q} {v} h none = record {
+  vector = h;
+  coefficient = refl;
+  sum = λ j l d. sym (ap (λ x. (slice_index v j + x * slice_index q j) % p) none ∙ ap (λ x. (slice_index v j + x) % p) (zero-mul (slice_index q j))
+      ∙ ap (λ x. x % p) (add-zero (slice_index v j)) ∙ mod-eq_of_lt (h.residues j l));
+}

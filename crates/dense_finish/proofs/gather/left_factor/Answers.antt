@@ -1,0 +1,109 @@
+use Rattle.std.proofs.Common.{ℕ, [], ◌≡◌, ◌≢◌, ◌+◌, ◌<◌, ◌∙◌, ap, arith, length, slice_index, subst, sym}
+use Rattle.sparse_rows.specs.Rows.{ResidueMatrix, ResidueRow}
+use Rattle.sparse_rows.specs.Stored.{with_row}
+use Rattle.sparse_rows.proofs.Loops.{length_zeros}
+use Rattle.residue_words.specs.Matrix.{IsVector, zeros}
+use Rattle.residue_words.proofs.Vectors.{at_zeros, zeros_vector}
+use Rattle.dense_finish.specs.Elimination.{line, place_of}
+use Rattle.dense_finish.proofs.Gathering.{IsLeftSoFar, left_all, left_named, left_none, left_other, unnamed_row}
+use Rattle.dense_finish.proofs.Growing.{put_vector}
+use Rattle.dense_finish.proofs.Lines.{read_line}
+use Rattle.dense_finish.proofs.gather.left_factor.Goals as goal
+use Rattle.dense_finish.proofs.gather.left_factor.Goals.{then-next-row_names+then-row_names-next+in_ok-coefficients, else-next-row_names, else-next-row_names-via-then-next-row_names+else-row_names-next, else-next-row_names-via-else-next-row_names}
+
+pub loop-i-init : goal.loop-i-init
+loop-i-init g c = record {
+  left = left_none c.args.row_names.now c.args.columns.now c.args.block.now c.in_ok-left.ensures.modulus c.in_ok-left.ensures.matrix;
+  modulus = c.new-row.ensures.modulus;
+  long = ap length c.new-row.ensures.row ∙ length_zeros _;
+}
+
+pub coefficients-requires-clause-long : goal.coefficients-requires-clause-long
+coefficients-requires-clause-long g c κs within = ap length c.clear.ensures.row ∙ length_zeros _ ∙ c.loop-i.invariant.long
+
+pub coefficients-requires-clause-residues : goal.coefficients-requires-clause-residues
+coefficients-requires-clause-residues g c κs within =
+    let next = c.loop-i.next in
+    let inside : next < length c.args.block.now = omega (arith, c.requires.long) in
+    let read = c.index-block-next.is ∙ read_line c.args.block.now next c.index-block-next.result inside in
+    rw (c.clear.ensures.modulus, c.loop-i.invariant.modulus, read) (c.requires.residues next inside)
+
+pub coefficients-requires-clause-zero : goal.coefficients-requires-clause-zero
+coefficients-requires-clause-zero g c κs within = c.clear.ensures.row ∙ ap zeros (sym (ap length c.clear.ensures.row ∙ length_zeros _))
+
+pub coefficients-requires-clause-inside : goal.coefficients-requires-clause-inside
+coefficients-requires-clause-inside g c κs within =
+    let next = c.loop-i.next in
+    let inside : next < length c.args.block.now = omega (arith, c.requires.long) in
+    let read = c.index-block-next.is ∙ read_line c.args.block.now next c.index-block-next.result inside in
+    λ k l. omega (arith, ap length read, c.requires.inside next k inside l)
+
+pub append-requires-clause-height_small : goal.append-requires-clause-height_small
+append-requires-clause-height_small g c = omega (arith, c.loop-i.invariant.left.height, c.requires.height)
+
+pub append-requires-clause-modulus : goal.append-requires-clause-modulus
+append-requires-clause-modulus g c =
+    let kept = c.clear.ensures.modulus ∙ c.loop-i.invariant.modulus ∙ sym c.loop-i.invariant.left.modulus in
+    elim c.if-next-row_names.branch [
+      | then-next-row_names+then-row_names-next+in_ok-coefficients w ↦ ap (λ (r : ResidueRow). r.modulus) w.row-is ∙ w.coefficients.ensures.modulus ∙ kept
+      | else-next-row_names w ↦ ap (λ (r : ResidueRow). r.modulus) w.row-is ∙ kept
+    ]
+
+pub append-requires-clause-width : goal.append-requires-clause-width
+append-requires-clause-width g c =
+    let long = ap length c.clear.ensures.row ∙ length_zeros _ ∙ c.loop-i.invariant.long ∙ sym c.loop-i.invariant.left.width in
+    elim c.if-next-row_names.branch [
+      | then-next-row_names+then-row_names-next+in_ok-coefficients w ↦ ap (λ (r : ResidueRow). length r.row) w.row-is ∙ w.in_ok-coefficients.ensures.row.long ∙ long
+      | else-next-row_names w ↦ ap (λ (r : ResidueRow). length r.row) w.row-is ∙ long
+    ]
+
+pub loop-i-preserved : goal.loop-i-preserved
+loop-i-preserved g c =
+    let p = c.args.p.now in
+    let i = c.loop-i.i in
+    let next = c.loop-i.next in
+    let names = c.args.row_names.now in
+    let columns = c.args.columns.now in
+    let block = c.args.block.now in
+    let rising = c.requires.rising in
+    let left = c.loop-i.invariant.left in
+    let pos : 0 < p = omega (arith, c.left.invariant.two_or_more, ap (λ (m : ResidueMatrix). m.modulus) c.left.view_is, left.modulus) in
+    let modulus = c.clear.ensures.modulus ∙ c.loop-i.invariant.modulus in
+    let long : length c.clear.new.self.row ≡ length columns = ap length c.clear.ensures.row ∙ length_zeros _ ∙ c.loop-i.invariant.long in
+    elim c.if-next-row_names.branch [
+      | then-next-row_names+then-row_names-next+in_ok-coefficients w ↦
+          let inside : next < length block = omega (arith, w.if-next-row_names.true, c.requires.long) in
+          let line-is : w.index-block-next.result ≡ line block next = w.index-block-next.is ∙ read_line block next w.index-block-next.result inside in
+          let read : (k : ℕ) → k < length columns → slice_index w.coefficients.new.to.row k ≡ place_of block next (slice_index columns k) =
+          λ k l. w.in_ok-coefficients.ensures.row.put k l ∙ ap (λ u. slice_index u (slice_index columns k)) line-is in
+          let vector : IsVector p (length columns) w.coefficients.new.to.row = record {
+            len = w.in_ok-coefficients.ensures.row.long ∙ long;
+            residues = λ k l. omega (arith, read k l, (c.requires.residues next inside).residues (slice_index columns k) (c.requires.inside next k inside l));
+          } in
+          record {
+            left = subst (λ t. IsLeftSoFar p names columns block (i + 1) t c.append.new.self) (sym w.next-is)
+                (left_named left rising vector c.append.ensures.modulus (c.in_ok-append.ensures.matrix ∙ ap (λ (r : ResidueRow). with_row c.loop-i.left.matrix r.row) w.row-is)
+                w.if-next-row_names.true w.if-row_names-next.true read);
+            modulus = ap (λ (r : ResidueRow). r.modulus) w.row-is ∙ w.coefficients.ensures.modulus ∙ modulus;
+            long = ap (λ (r : ResidueRow). length r.row) w.row-is ∙ vector.len;
+          }
+      | else-next-row_names w ↦
+          let other : next < length names → slice_index names next ≢ i =
+          elim w.else-next-row_names.branch [
+            | else-next-row_names-via-then-next-row_names+else-row_names-next u ↦ λ l. u.if-row_names-next.false
+            | else-next-row_names-via-else-next-row_names u ↦ λ l. absurd (omega (arith, u.if-next-row_names.false))
+          ] in
+          let zero : (k : ℕ) → k < length columns → slice_index c.clear.new.self.row k ≡ 0 =
+          λ k l. ap (λ u. slice_index u k) c.clear.ensures.row ∙ at_zeros (length c.loop-i.row.row) k (omega (arith, c.loop-i.invariant.long)) in
+          let vector : IsVector p (length columns) c.clear.new.self.row = record { len = long; residues = λ k l. omega (arith, zero k l) } in
+          record {
+            left = subst (λ t. IsLeftSoFar p names columns block (i + 1) t c.append.new.self) (sym w.next-is)
+                (left_other left rising vector c.append.ensures.modulus (c.in_ok-append.ensures.matrix ∙ ap (λ (r : ResidueRow). with_row c.loop-i.left.matrix r.row) w.row-is)
+                (unnamed_row left rising other) zero);
+            modulus = ap (λ (r : ResidueRow). r.modulus) w.row-is ∙ modulus;
+            long = ap (λ (r : ResidueRow). length r.row) w.row-is ∙ long;
+          }
+    ]
+
+pub returns : goal.returns
+returns g c = left_all (omega arith) c.requires.below c.loop-i.invariant.left
