@@ -5,13 +5,12 @@ use Rattle.std.proofs.lemmas.Bool.Decides.{nat_tests}
 use Rattle.residue_words.specs.Residues.{IsPrime}
 use Rattle.residue_words.specs.Matrix.{Matrix, IsMatrix, IsVector, entry, row}
 use Rattle.residue_words.proofs.Vectors.{at_list_of, entry_matrix_of, entry_residue, is_matrix_of, length_list_of, matrix_equal}
-use Rattle.row_space.specs.Laws.{InverseExcludesNull, RefutingIsSolvable, RefutingSystem}
-use Rattle.row_space.specs.Solution.{IsRefutingCombination, IsSolution, beside as with_side, refuting_rows, refuting_side, refuting_system}
+use Rattle.row_space.specs.Laws.{InverseExcludesNull, RefutingIsSolvable, RefutingSystem, RefutingSystemIs}
+use Rattle.row_space.specs.Solution.{IsRefutingCombination, IsSolution, refuting_rows, refuting_side, refuting_system}
 use Rattle.row_space.proofs.Refuting.{refuting_matrix, side_vector}
 use Rattle.sms_text.specs.Written.{text_of}
 use Rattle.sparse_rows.specs.Rows.{ResidueMatrix, beside, matrix_by, transposed}
 use Rattle.sparse_rows.specs.Stored.{with_row}
-use Rattle.echelon_form.specs.Form.{Form, IsFormOf}
 use Rattle.kernel_solve.specs.declared.outcome.Inverse.{Inverse}
 use Rattle.kernel_solve.specs.declared.outcome.Inverse.TheVariants.{Singular}
 use Rattle.kernel_solve.specs.declared.systems.Found.{Found}
@@ -19,18 +18,17 @@ use Rattle.kernel_solve.specs.declared.systems.Found.TheVariants.{Solution, Inco
 use Rattle.kernel_solve.specs.Columns.{column}
 use Rattle.kernel_solve.specs.Found.{Answers, HasShape}
 use Rattle.kernel_solve.specs.Inverted.{HasInverseShape, Inverts}
-use Rattle.kernel_solve.proofs.Inverting.{form_same}
 use Rattle.kernel_solve.proofs.Matrices.{beside_column, column_vector, one_item}
 use Rattle.spasm_run.specs.declared.answers.Answer.TheVariants as answer
 use Rattle.spasm_run.specs.declared.words.Task.TheVariants as task
 use Rattle.spasm_run.specs.Answers.{column_of, misfit, row_of}
-use Rattle.spasm_run.specs.Found.{IsAnswerTo}
+use Rattle.spasm_run.specs.Found.{IsAnswerTo, AnswersSystem}
 
 sized : ℕ → ℕ → List (List ℕ) → Matrix
 sized h w r = record { height = h; width = w; rows = r }
 
 -- a matrix of one column is the column of its entries
-pub column_whole : {p : ℕ} (X : Matrix) → IsMatrix p X → X.width ≡ 1 → X ≡ column_of (column X)
+column_whole : {p : ℕ} (X : Matrix) → IsMatrix p X → X.width ≡ 1 → X ≡ column_of (column X)
 column_whole {p} X m narrow =
     let x : List ℕ = column X in
     let long : length x ≡ X.height = length_list_of X.height (λ i. entry X i 0) in
@@ -41,7 +39,7 @@ column_whole {p} X m narrow =
     (λ i j a b. let first : j ≡ 0 = omega arith in ap (entry X i) first ∙ sym (at i a) ∙ sym (entry_matrix_of (length x) 1 (λ i j. slice_index x i) i j (omega arith) (omega arith)))
 
 -- a matrix of one row is its row
-pub row_whole : {p : ℕ} (V : Matrix) → IsMatrix p V → V.height ≡ 1 → V ≡ row_of (row V 0)
+row_whole : {p : ℕ} (V : Matrix) → IsMatrix p V → V.height ≡ 1 → V ≡ row_of (row V 0)
 unfolding sized
 row_whole {p} V m low =
     ap (λ h. sized h V.width V.rows) low ∙ ap (λ w. sized 1 w V.rows) (sym (m.each 0 (omega arith)).len) ∙ ap (sized 1 (length (row V 0))) (one_item [] V.rows (m.len ∙ low))
@@ -60,62 +58,59 @@ module _ (p : ℕ) (A B : Matrix) (ma : IsMatrix p A) (mb : IsMatrix p B) (heigh
   side_is : IsVector p A.height (column B)
   side_is = subst (λ n. IsVector p n (column B)) (sym heights) (column_vector mb (omega arith))
 
-  -- where it has no solution, the refuting system has one, the refuting combination
-  pub refuted_by : (q : ℕ) (S : Matrix) (form : Form) (found : Found) (y : ResidueMatrix) → IsPrime p → RefutingSystem → q ≡ p → S ≡ refuting_system A (column B) → IsFormOf q S form →
-      ((p : ℕ) (A : Matrix) (b : List ℕ) → IsPrime p → IsMatrix p A → IsVector p A.height b → IsFormOf p (with_side A b) form → Answers p A b found) → found ≡ Solution y →
-      IsRefutingCombination p A (column B) (column y.matrix)
-  refuted_by q S form found y prime system modulus matrix is answers here =
+  -- what is told of the refuting system
+  refuting_told : (q : ℕ) (S : Matrix) (found : Found) (y : List ℕ) → IsPrime p → RefutingSystem → q ≡ p → S ≡ refuting_system A (column B) → AnswersSystem q S found →
+      RefutingSystemIs p A (column B) y × Answers p (refuting_rows A (column B)) (refuting_side A.width) found
+  refuting_told q S found y prime system modulus matrix tells =
       let b : List ℕ = column B in
-      let law = system p A b (column y.matrix) prime.two_or_more ma side_is in
-      let at = form_same q p S (with_side (refuting_rows A b) (refuting_side A.width)) form modulus (matrix ∙ law.system) is in
-      let told = answers p (refuting_rows A b) (refuting_side A.width) prime (refuting_matrix p A b ma side_is) (side_vector p A.width prime.two_or_more) at in
-      law.reduced.0 (subst (Answers p (refuting_rows A b) (refuting_side A.width)) here told).1
+      let law = system p A b y prime.two_or_more ma side_is in
+      let at = subst (λ q. AnswersSystem q S found) modulus tells in
+      (law, at prime (refuting_rows A b) (refuting_side A.width) (refuting_matrix p A b ma side_is) (side_vector p A.width prime.two_or_more) (matrix ∙ law.system))
 
-  pub never_inconsistent : (q : ℕ) (S : Matrix) (form : Form) (found : Found) → IsPrime p → RefutingSystem → RefutingIsSolvable → q ≡ p → S ≡ refuting_system A (column B) → IsFormOf q S form →
-      ((p : ℕ) (A : Matrix) (b : List ℕ) → IsPrime p → IsMatrix p A → IsVector p A.height b → IsFormOf p (with_side A b) form → Answers p A b found) → found ≡ Inconsistent →
-      ((x : List ℕ) → ¬ IsSolution p A (column B) x) → ⊥
-  never_inconsistent q S form found prime system solvable modulus matrix is answers here none =
-      let b : List ℕ = column B in
-      let law = system p A b [] prime.two_or_more ma side_is in
-      let at = form_same q p S (with_side (refuting_rows A b) (refuting_side A.width)) form modulus (matrix ∙ law.system) is in
-      let told = answers p (refuting_rows A b) (refuting_side A.width) prime (refuting_matrix p A b ma side_is) (side_vector p A.width prime.two_or_more) at in
-      let some = solvable p A b prime ma side_is none in
-      subst (Answers p (refuting_rows A b) (refuting_side A.width)) here told some.0 some.1
+  -- where the system has no solution, the refuting system has one, the refuting combination
+  pub refuted_by : (q : ℕ) (S : Matrix) (found : Found) (y : ResidueMatrix) → IsPrime p → RefutingSystem → q ≡ p → S ≡ refuting_system A (column B) → AnswersSystem q S found → found ≡ Solution y →
+      IsRefutingCombination p A (column B) (column y.matrix)
+  refuted_by q S found y prime system modulus matrix tells here =
+      let (law, told) = refuting_told q S found (column y.matrix) prime system modulus matrix tells in
+      law.reduced.0 (subst (Answers p (refuting_rows A (column B)) (refuting_side A.width)) here told).1
+
+  pub never_inconsistent : (q : ℕ) (S : Matrix) (found : Found) → IsPrime p → RefutingSystem → RefutingIsSolvable → q ≡ p → S ≡ refuting_system A (column B) → AnswersSystem q S found →
+      found ≡ Inconsistent → ((x : List ℕ) → ¬ IsSolution p A (column B) x) → ⊥
+  never_inconsistent q S found prime system solvable modulus matrix tells here none =
+      let (law, told) = refuting_told q S found [] prime system modulus matrix tells in
+      let some = solvable p A (column B) prime ma side_is none in
+      subst (Answers p (refuting_rows A (column B)) (refuting_side A.width)) here told some.0 some.1
 
   -- the right-hand side is of the shape that is wanted
   side_fits : misfit task.Solve (A ∷ B ∷ []) ≡ None
   side_fits = grind (arith, nat_tests)
 
-  form_with_side : (q : ℕ) (S : Matrix) (form : Form) → q ≡ p → S ≡ beside A B → IsFormOf q S form → IsFormOf p (with_side A (column B)) form
-  form_with_side q S form modulus matrix is = form_same q p S (with_side A (column B)) form modulus (matrix ∙ beside_column A mb heights narrow) is
+  -- what is told of the system
+  told_of : (q : ℕ) (S : Matrix) (found : Found) → IsPrime p → q ≡ p → S ≡ beside A B → AnswersSystem q S found → Answers p A (column B) found
+  told_of q S found prime modulus matrix tells = subst (λ q. AnswersSystem q S found) modulus tells prime A (column B) ma side_is (matrix ∙ beside_column A mb heights narrow)
 
-  -- the solution that is found, and what refutes
-  pub solution_answers : (q : ℕ) (S : Matrix) (form : Form) (found : Found) (x : ResidueMatrix) → A.width ≤ 2147483647 → q ≡ p → S ≡ beside A B → IsFormOf q S form →
-      HasShape form.modulus form.matrix.width found →
-      ((p : ℕ) (A : Matrix) (b : List ℕ) → IsPrime p → IsMatrix p A → IsVector p A.height b → IsFormOf p (with_side A b) form → Answers p A b found) → found ≡ Solution x →
+  -- the solution answers, or what refutes the system
+  pub solution_answers : (q : ℕ) (S : Matrix) (found : Found) (x : ResidueMatrix) → A.width ≤ 2147483647 → q ≡ p → S ≡ beside A B → HasShape q S.width found → AnswersSystem q S found → found ≡ Solution x →
       IsAnswerTo task.Solve p (A ∷ B ∷ []) (answer.Solution x)
-  solution_answers q S form found x wide modulus matrix is shape answers here =
-      let at = form_with_side q S form modulus matrix is in
-      let sizes = subst (HasShape form.modulus form.matrix.width) here shape in record {
-        small = (omega (arith, sizes.2, at.width), omega (arith, sizes.3));
+  solution_answers q S found x wide modulus matrix shape tells here =
+      let sizes = subst (HasShape q S.width) here shape in record {
+        small = (omega (arith, sizes.2, ap (λ m. m.width) matrix), omega (arith, sizes.3));
         fits = side_fits;
         answers = λ prime.
-            let told = subst (Answers p A (column B)) here (answers p A (column B) prime ma side_is at) in
+            let told = subst (Answers p A (column B)) here (told_of q S found prime modulus matrix tells) in
             inl (column x.matrix, told.1, ap (λ X. codes "solution\n" ++ text_of X) (column_whole x.matrix sizes.1 sizes.3));
       }
 
-  pub refutation_answers : (q : ℕ) (S : Matrix) (form : Form) (found : Found) (y : ResidueMatrix) → A.height ≤ 2147483647 → q ≡ p → S ≡ beside A B → IsFormOf q S form →
-      ((p : ℕ) (A : Matrix) (b : List ℕ) → IsPrime p → IsMatrix p A → IsVector p A.height b → IsFormOf p (with_side A b) form → Answers p A b found) → found ≡ Inconsistent →
+  pub refutation_answers : (q : ℕ) (S : Matrix) (found : Found) (y : ResidueMatrix) → A.height ≤ 2147483647 → q ≡ p → S ≡ beside A B → AnswersSystem q S found → found ≡ Inconsistent →
       y.matrix ≡ row_of (row y.matrix 0) → y.matrix.width ≡ A.height → (IsPrime p → ((x : List ℕ) → ¬ IsSolution p A (column B) x) → IsRefutingCombination p A (column B) (row y.matrix 0)) →
       IsAnswerTo task.Solve p (A ∷ B ∷ []) (answer.Refutation y)
-  refutation_answers q S form found y tall modulus matrix is answers here one_row width refutes =
-      let at = form_with_side q S form modulus matrix is in record {
-        small = (omega (arith, ap (λ m. m.height) one_row), omega (arith, width));
-        fits = side_fits;
-        answers = λ prime.
-            let none : (x : List ℕ) → ¬ IsSolution p A (column B) x = subst (Answers p A (column B)) here (answers p A (column B) prime ma side_is at) in
-            inr (row y.matrix 0, none, refutes prime none, ap (λ Y. codes "no solution\n" ++ text_of Y) one_row);
-      }
+  refutation_answers q S found y tall modulus matrix tells here one_row width refutes = record {
+    small = (omega (arith, ap (λ m. m.height) one_row), omega (arith, width));
+    fits = side_fits;
+    answers = λ prime.
+        let none : (x : List ℕ) → ¬ IsSolution p A (column B) x = subst (Answers p A (column B)) here (told_of q S found prime modulus matrix tells) in
+        inr (row y.matrix 0, none, refutes prime none, ap (λ Y. codes "no solution\n" ++ text_of Y) one_row);
+  }
 
 -- where a square matrix has a null vector that is not zero, it has no inverse, and what is told is the first row of its kernel basis
 pub singular_answers : (p : ℕ) (A : Matrix) (found : Inverse) (v : ResidueMatrix) → InverseExcludesNull → A.height ≡ A.width → A.height ≤ 1073741824 →

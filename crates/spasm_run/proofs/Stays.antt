@@ -1,9 +1,8 @@
 -- What the bytes taken from a source say, all its bytes say.
 use Rattle.std.proofs.Common.{ℕ, Bool, true, false, ◌≡◌, List, [], ◌++◌, Option, None, Some, refl, sym, ap, ◌∙◌, append-nil}
-use Rattle.sms_text.specs.declared.kind.Kind.{Kind}
 use Rattle.sms_text.specs.Lines.{Line, lines}
 use Rattle.sms_text.specs.Outside.{before, IsSpent}
-use Rattle.sms_text.specs.Text.{Due, Item, Reading, Got, Fault, Short, read}
+use Rattle.sms_text.specs.Text.{Due, Reading, Got, Fault, Short, read}
 use Rattle.sms_text.proofs.Following.{Stays, bytes_stay}
 
 -- all bytes are those taken and others behind them, none once the end came

@@ -1,6 +1,5 @@
 -- From the calls of a reader to the matrices that were read.
-use Rattle.std.proofs.Common.{ℕ, Bool, true, false, ◌≡◌, ◌≤◌, List, [], ◌∷◌, ◌++◌, Option, None, Some, Result, Ok, Err, refl, sym, ap, ◌∙◌, subst, append-nil}
-use Rattle.residue_words.specs.Matrix.{Matrix}
+use Rattle.std.proofs.Common.{ℕ, Bool, false, ◌≡◌, ◌≤◌, List, [], ◌∷◌, ◌++◌, Option, None, Some, Result, Ok, Err, refl, sym, ap, ◌∙◌, subst, append-nil}
 use Rattle.sms_text.specs.declared.kind.TextError.{TextError}
 use Rattle.sms_text.specs.declared.kind.TextError.TheVariants as error
 use Rattle.sms_text.specs.Lines.{lines}
@@ -13,7 +12,7 @@ use Rattle.sms_text.proofs.Runs.{with_items_append, with_items_fault, with_items
 use Rattle.sparse_rows.specs.Rows.{ResidueMatrix}
 use Rattle.spasm_run.specs.Taken.{Says, Taking, one_value}
 
-pub before_nothing : (told : Option (List ℕ)) → told ≡ before [] told
+before_nothing : (told : Option (List ℕ)) → told ≡ before [] told
 before_nothing None = refl
 before_nothing (Some bytes) = refl
 

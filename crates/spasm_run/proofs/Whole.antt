@@ -1,23 +1,18 @@
 -- From what was found to what a run did.
 use Rattle.std.proofs.Common.{ℕ, Bool, true, ◌≡◌, List, Option, None, Some, Result, Ok, Err, refl, sym, ap, ◌∙◌, subst, inl, inr}
 use Rattle.residue_words.specs.Matrix.{Matrix}
-use Rattle.sms_text.specs.declared.kind.TextError.{TextError}
-use Rattle.sms_text.specs.declared.kind.TextError.TheVariants as error
-use Rattle.sms_text.specs.declared.write.WriteFault.{WriteFault}
 use Rattle.sms_text.specs.declared.kind.Kind.{Kind}
-use Rattle.sms_text.specs.Lines.{Line, lines}
-use Rattle.sms_text.specs.Outside.{before, behind, IsSpent}
+use Rattle.sms_text.specs.Lines.{lines}
+use Rattle.sms_text.specs.Outside.{before, IsSpent}
 use Rattle.sms_text.specs.Text.{Item, Got, Fault, FirstFault, Reads, matrices, read}
-use Rattle.sms_text.specs.Writing.{Writes}
 use Rattle.spasm_run.specs.declared.answers.Answer.{Answer}
 use Rattle.spasm_run.specs.declared.status.Status.{Status}
 use Rattle.spasm_run.specs.declared.status.Status.TheVariants as status
 use Rattle.spasm_run.specs.declared.words.Command.{Command}
 use Rattle.spasm_run.specs.declared.words.Task.{Task}
 use Rattle.spasm_run.specs.Answers.{misfit, wanted}
-use Rattle.spasm_run.specs.Faults.{status_of}
-use Rattle.spasm_run.specs.Found.{answer_text, Finds, Gives}
-use Rattle.spasm_run.specs.Ran.{Ran, HasCause, HasAnswer, IsMisfit, Completes}
+use Rattle.spasm_run.specs.Found.{Finds, Gives}
+use Rattle.spasm_run.specs.Ran.{Ran, HasCause, IsMisfit, Completes}
 use Rattle.spasm_run.specs.Taken.{Says, Taking}
 use Rattle.spasm_run.specs.Words.{Accepted}
 use Rattle.spasm_run.proofs.Exact.{one_command}
@@ -51,11 +46,6 @@ module _ (words : List (List ℕ)) (c : Command) (limit f f' : ℕ) (accepted : 
   given_finds values (Err (status.Wide h w)) bytes ended gives (items, rest, reads, are) =
       λ held g. (c, accepted, record { items = items; rest = rest; reads = reads; refused = ap (misfit c.task) are ∙ gives }, refl)
 
-  fault_finds : (e : TextError) (bytes : List ℕ) (ended : Bool) → Says c.modulus limit (wanted c.task) f f' (Err e) bytes ended → Finds words limit f f' (Err (status_of e)) bytes ended
-  fault_finds (error.Bad line k) bytes ended says = λ held g. (c, accepted, says, refl)
-  fault_finds error.Read bytes ended says = λ held g. (c, accepted, says.0, says.1, refl)
-  fault_finds error.Memory bytes ended says = λ held g. refl
-
 -- the matrices were read, and something came of them
 pub found_given : (words : List (List ℕ)) (c : Command) (t : Task) (p q limit : ℕ) (told told' : Option (List ℕ)) (f f' : ℕ) (values : List Matrix) (result : Result Answer Status) →
     c.task ≡ t → p ≡ c.modulus → q ≡ p → Accepted words c → Taking told told' (Says p limit (wanted t) f f' (Ok values)) → Gives t q values result → Taking told told' (Finds words limit f f' result)
@@ -64,14 +54,6 @@ found_given words c t p q limit told told' f f' values result task modulus same 
     let both = subst (λ t. P t c.modulus c.modulus) (sym task) (subst (λ p. P t p p) modulus (subst (λ q. Taking told told' (Says p limit (wanted t) f f' (Ok values)) × Gives t q values result) same (says, gives))) in
     taking_weaker told told' _ _ (λ bytes ended. given_finds words c limit f f' accepted values result bytes ended both.1) both.0
 
--- no matrices were read
-pub found_fault : (words : List (List ℕ)) (c : Command) (t : Task) (p limit : ℕ) (told told' : Option (List ℕ)) (f f' : ℕ) (e : TextError) (s : Status) →
-    c.task ≡ t → p ≡ c.modulus → Accepted words c → Taking told told' (Says p limit (wanted t) f f' (Err e)) → s ≡ status_of e → Taking told told' (Finds words limit f f' (Err s))
-found_fault words c t p limit told told' f f' e s task modulus accepted says is =
-    let at_task = subst (λ t. Taking told told' (Says c.modulus limit (wanted t) f f' (Err e))) (sym task) (subst (λ p. Taking told told' (Says p limit (wanted t) f f' (Err e))) modulus says) in
-    let P : Status → Type 0 = λ s. Taking told told' (Finds words limit f f' (Err s)) in
-    subst P (sym is) (taking_weaker told told' _ _ (fault_finds words c limit f f' accepted e) at_task)
-
 -- nothing was read where no command is accepted, or memory was wanted for the words
 pub found_refused : (words : List (List ℕ)) (limit : ℕ) (told : Option (List ℕ)) (f : ℕ) → ((c : Command) → ¬ Accepted words c) → Taking told told (Finds words limit f f (Err status.Usage))
 found_refused words limit told f refused = taking_nothing told _ (λ held g. (refused, refl))
@@ -79,35 +61,7 @@ found_refused words limit told f refused = taking_nothing told _ (λ held g. (re
 pub found_memory : (words : List (List ℕ)) (limit : ℕ) (told : Option (List ℕ)) (f : ℕ) → Taking told told (Finds words limit f f (Err status.Memory))
 found_memory words limit told f = taking_nothing told _ (λ held g. refl)
 
--- an answer was found, and written, or not written; or none was found
-pub ran_done : (words : List (List ℕ)) (limit : ℕ) (told told' : Option (List ℕ)) (f f' : ℕ) (held held' : Option (List ℕ)) (g g' : ℕ) (a : Answer) →
-    Taking told told' (Finds words limit f f' (Ok a)) → held' ≡ behind held (answer_text a) → Ran words limit told told' f f' held held' g g' status.Done
-ran_done words limit told told' f f' held held' g g' a found written = record {
-  bytes = found.bytes;
-  ended = found.ended;
-  taken = found.taken;
-  spent = found.spent;
-  cause = (found.holds.0, answer_text a, found.holds.1, found.holds.2, written);
-}
-
-pub ran_unwritten : (words : List (List ℕ)) (limit : ℕ) (told told' : Option (List ℕ)) (f f' : ℕ) (held held' : Option (List ℕ)) (g g' : ℕ) (a : Answer) (fault : WriteFault) →
-    Taking told told' (Finds words limit f f' (Ok a)) → Writes (Err fault) (answer_text a) held held' g g' → Ran words limit told told' f f' held held' g g' status.WriteFault
-ran_unwritten words limit told told' f f' held held' g g' a fault found (part, rest, cut, put, rose) = record {
-  bytes = found.bytes;
-  ended = found.ended;
-  taken = found.taken;
-  spent = found.spent;
-  cause = (
-    found.holds.0,
-    part,
-    rest,
-    found.holds.1,
-    (let P : List ℕ → Type 0 = λ text. HasAnswer found.holds.0 found.bytes found.ended limit text in subst P cut found.holds.2),
-    put,
-    rose,
-  );
-}
-
+-- no answer was found
 pub ran_without : (words : List (List ℕ)) (limit : ℕ) (told told' : Option (List ℕ)) (f f' : ℕ) (held : Option (List ℕ)) (g : ℕ) (s : Status) →
     Taking told told' (Finds words limit f f' (Err s)) → Ran words limit told told' f f' held held g g s
 ran_without words limit told told' f f' held g s found = record {

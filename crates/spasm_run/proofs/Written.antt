@@ -1,5 +1,5 @@
 -- One piece written after another.
-use Rattle.std.proofs.Common.{ℕ, false, true, ◌≡◌, ◌≤◌, List, [], ◌∷◌, ◌++◌, Option, None, Some, Result, Ok, Err, refl, sym, ap, subst, ◌∙◌, inl, inr, arith, append_assoc, append-nil}
+use Rattle.std.proofs.Common.{ℕ, false, true, ◌≡◌, ◌≤◌, List, [], ◌∷◌, ◌++◌, Option, None, Some, Result, Ok, Err, refl, sym, ap, subst, ◌∙◌, inl, inr, arith, append_assoc}
 use Rattle.std.specs.Prelude.{codes}
 use Rattle.std.specs.Fmt.{decimal}
 use Rattle.std.specs.Result.{IsErr}
@@ -15,10 +15,6 @@ use Rattle.sms_text.specs.Writing.{Writes}
 pub behind_behind : (held : Option (List ℕ)) (a b : List ℕ) → behind (behind held a) b ≡ behind held (a ++ b)
 behind_behind None a b = refl
 behind_behind (Some h) a b = ap Some (append_assoc h a b)
-
-pub behind_none : (held : Option (List ℕ)) → behind held [] ≡ held
-behind_none None = refl
-behind_none (Some h) = ap Some (append-nil h)
 
 rose_earlier : (f0 f g : ℕ) → f0 ≤ f → Rose f g → Rose f0 g
 rose_earlier f0 f g from (inl less) = inl (omega arith)

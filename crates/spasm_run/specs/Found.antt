@@ -1,7 +1,10 @@
 -- What is found for matrices and for words: an answer, or the status with which a run ends.
 use Rattle.std.specs.Prelude.{◌≡◌, ◌≤◌, ℕ, List, ◌++◌, Bool, Option, Some, None, Result, Ok, Err, codes}
 use Rattle.residue_words.specs.Residues.{IsPrime}
-use Rattle.residue_words.specs.Matrix.{Matrix}
+use Rattle.residue_words.specs.Matrix.{Matrix, IsMatrix, IsVector}
+use Rattle.row_space.specs.Solution.{beside}
+use Rattle.kernel_solve.specs.declared.systems.Found.{Found}
+use Rattle.kernel_solve.specs.Found.{Answers}
 use Rattle.sms_text.specs.Written.{text_of}
 use Rattle.spasm_run.specs.declared.answers.Answer.{Answer}
 use Rattle.spasm_run.specs.declared.answers.Answer.TheVariants as answer
@@ -39,6 +42,10 @@ pub record IsAnswerTo (t : Task) (p : ℕ) (values : List Matrix) (a : Answer) :
   pub small : IsSmall a
   pub fits : misfit t values ≡ None
   pub answers : IsPrime p → AnswerOf t p values (answer_text a)
+
+-- what is found for the system S: for a prime modulus the solution of A x = b, or that there is none, where S is [A | b]
+abbrev pub AnswersSystem : ℕ → Matrix → Found → Type 0
+AnswersSystem p S found = IsPrime p → (A : Matrix) (b : List ℕ) → IsMatrix p A → IsVector p A.height b → S ≡ beside A b → Answers p A b found
 
 -- what comes of a task for these matrices: its answer; or they are refused for their shapes; or memory was wanted
 abbrev pub Gives : Task → ℕ → List Matrix → Result Answer Status → Type 0

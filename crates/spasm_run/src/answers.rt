@@ -4,8 +4,9 @@ ghost use Rattle.residue_words.specs.Matrix.{IsMatrix, row};
 ghost use Rattle.residue_words.specs.Residues.{IsPrime};
 ghost use Rattle.row_space.specs.Solution.{IsRefutingCombination, IsSolution};
 ghost use Rattle.kernel_solve.specs.Columns.{column};
+ghost use Rattle.kernel_solve.specs.Found.{HasShape};
 ghost use Rattle.spasm_run.specs.Answers.{row_of};
-ghost use Rattle.spasm_run.specs.Found.{Gives};
+ghost use Rattle.spasm_run.specs.Found.{Gives, AnswersSystem};
 ghost use Rattle.spasm_run.specs.declared.words.Task.TheVariants as task;
 
 use crate::status::Status;
@@ -167,9 +168,7 @@ pub fn find_solution<R: Threads + Sync>(
     if height != a.height() || width != 1 {
         return Err(Status::Shape { height, width });
     }
-    let system = a.beside(alloc, b)?;
-    let form = Echelon::of(rt, alloc, &system, workers)?;
-    match solution(alloc, &form)? {
+    match solve(rt, alloc, a.beside(alloc, b)?, workers)? {
         Found::Solution(x) => Ok(Answer::Solution(x)),
         Found::Inconsistent => {
             let y = refutation(rt, alloc, a, b, workers)?;
@@ -178,7 +177,27 @@ pub fn find_solution<R: Threads + Sync>(
     }
 }
 
-// The refuting combination of A x = b, as a row, where there is no solution. Where there is none either, which a prime modulus rules out, a zero row.
+// What the echelon form of a system [A | b] tells of A x = b. The system is let go once its form is made.
+fn solve<R: Threads + Sync>(
+    rt: &R,
+    alloc: Global,
+    system: Rows,
+    workers: u32,
+) -> Result<Found, AllocError>
+    requires some { 1 ≤ workers }
+    requires few { workers ≤ 64 }
+    requires width { 1 ≤ system.matrix.width }
+    ensures shape { IfOk result (HasShape system.modulus system.matrix.width) }
+    ensures tells { IfOk result (AnswersSystem system.modulus system.matrix) }
+{
+    let form = Echelon::of(rt, alloc, &system, workers)?;
+    drop(system);
+    let found = solution(alloc, &form)?;
+    Ok(found)
+}
+
+// The refuting combination of A x = b, as a row, where there is no solution. For a modulus that isn't prime there may be no combination
+// either, and then it is a zero row.
 fn refutation<R: Threads + Sync>(
     rt: &R,
     alloc: Global,
@@ -202,9 +221,7 @@ fn refutation<R: Threads + Sync>(
 {
     row_space::refuting_is_solvable();
     row_space::refuting_system_refutes();
-    let system = refuting_system(alloc, a, b)?;
-    let form = Echelon::of(rt, alloc, &system, workers)?;
-    match solution(alloc, &form)? {
+    match solve(rt, alloc, refuting_system(alloc, a, b)?, workers)? {
         Found::Solution(y) => {
             let row = y.transpose(alloc)?;
             Ok(row)

@@ -1,5 +1,5 @@
--- An answer was found, and written or not; or none was found.
-use Rattle.spasm_run.proofs.Whole.{ran_done, ran_unwritten, ran_without}
+-- Where no answer was found, its status is the run's.
+use Rattle.spasm_run.proofs.Whole.{ran_without}
 use Rattle.spasm_run.proofs.top.answer.Goals as goal
 
 pub returns-clause-ran : goal.returns-clause-ran
