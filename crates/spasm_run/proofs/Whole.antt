@@ -2,7 +2,7 @@
 use Rattle.std.proofs.Common.{ℕ, Bool, true, ◌≡◌, List, Option, None, Some, Result, Ok, Err, refl, sym, ap, ◌∙◌, subst, inl, inr}
 use Rattle.residue_words.specs.Matrix.{Matrix}
 use Rattle.sms_text.specs.declared.kind.Kind.{Kind}
-use Rattle.sms_text.specs.Lines.{lines}
+use Rattle.sms_text.specs.Lines.{Line, lines}
 use Rattle.sms_text.specs.Outside.{before, IsSpent}
 use Rattle.sms_text.specs.Text.{Item, Got, Fault, FirstFault, Reads, matrices, read}
 use Rattle.spasm_run.specs.declared.answers.Answer.{Answer}

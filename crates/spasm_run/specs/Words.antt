@@ -24,8 +24,10 @@ pub record Rule : Type 0 where
 
 abbrev pub modulus_rule : Rule
 modulus_rule = record { name = codes "modulus"; low = 2; high = 281474976710655; absent = 42013 }
+
 abbrev pub workers_rule : Rule
 workers_rule = record { name = codes "workers"; low = 1; high = 64; absent = 1 }
+
 abbrev pub rounds_rule : Rule
 rounds_rule = record { name = codes "rounds"; low = 0; high = 16; absent = 3 }
 

@@ -10,5 +10,5 @@ returns g c =
       small = tt;
       fits = refl;
       answers = λ prime.
-        (length factors.pivots, c.factors_give_rank.ensures A.modulus A.matrix factors.pivots factors.l.matrix factors.u.matrix prime c.height.ensures.sound (c.in_ok-factors.ensures.factors prime), ap (λ l. rank_text (length l)) c.items.ensures);
+          (length factors.pivots, c.factors_give_rank.ensures A.modulus A.matrix factors.pivots factors.l.matrix factors.u.matrix prime c.height.ensures.sound (c.in_ok-factors.ensures.factors prime), ap (λ l. rank_text (length l)) c.items.ensures);
     }
