@@ -1,6 +1,5 @@
 -- What an eliminated block and the gathered coefficients make: factors of the matrix.
-use Rattle.std.proofs.Common.{ℕ, ◌≡◌, ◌≢◌, ◌+◌, ◌*◌, ◌%◌, ◌<◌, ◌≤◌, inl, inr, List, length, slice_index, sym, refl, ap, ap₂, subst, ◌∙◌, arith, add-zero, zero-mul, mul-zero, mod-eq_of_lt}
-use native.Mathlib.Nat.{zero-mod}
+use Rattle.std.proofs.Common.{ℕ, ◌≡◌, ◌≢◌, ◌+◌, ◌*◌, ◌%◌, ◌<◌, ◌≤◌, inl, inr, List, length, slice_index, sym, ap, ap₂, ◌∙◌, arith, add-zero, zero-mul, mul-zero, mod-eq_of_lt}
 use Rattle.std.proofs.lemmas.Bool.{cases_eq, cases_lt}
 use Rattle.residue_words.specs.declared.plain.Pair.{Pair}
 use Rattle.residue_words.specs.Matrix.{Matrix, IsMatrix, combine, entry, row}
@@ -11,8 +10,7 @@ use Rattle.row_space.specs.Factors.{row_at, col_at}
 use Rattle.row_space.proofs.Counting.{pigeonhole}
 use Rattle.sparse_rows.specs.Rows.{ResidueMatrix}
 use Rattle.dense_finish.specs.declared.pivots.Found.{Found}
-use Rattle.dense_finish.specs.declared.factors.Factors.{Factors}
-use Rattle.dense_finish.specs.Elimination.{AreColumnNames, AreEliminated, AreNames, ArePlaces, AreRowNames, AreSplit, IsBlock, IsFound, IsLeft, IsTaken, line, named_entry, parts, place_of}
+use Rattle.dense_finish.specs.Elimination.{AreColumnNames, AreEliminated, AreNames, ArePlaces, AreRowNames, AreSplit, IsBlock, IsFound, IsLeft, IsTaken, line, named_entry, parts}
 use Rattle.dense_finish.specs.Factoring.{IsFactored}
 use Rattle.dense_finish.proofs.Naming.{named_or_not}
 use Rattle.dense_finish.proofs.Splitting.{fresh, steps_front}

@@ -1,5 +1,5 @@
 -- A row that is divided by its first entry, and cleared behind it.
-use Rattle.std.proofs.Common.{ℕ, ◌≡◌, ◌≢◌, ◌+◌, ◌*◌, ◌%◌, ◌<◌, ◌≤◌, Bool, true, false, inl, inr, List, length, slice_index, slice_index_or, slice_set, sym, refl, ap, subst, ◌∙◌, arith, one-mul, mul-zero, mod-eq_of_lt}
+use Rattle.std.proofs.Common.{ℕ, ◌≡◌, ◌≢◌, ◌+◌, ◌*◌, ◌%◌, ◌<◌, ◌≤◌, Bool, true, false, inl, inr, List, slice_index, slice_index_or, slice_set, sym, refl, ap, ◌∙◌, arith, one-mul, mul-zero, mod-eq_of_lt}
 use Rattle.std.proofs.lemmas.Bool.{cases_eq, cases_lt}
 use Rattle.std.proofs.lemmas.List.{get_or-set_same, get_or-set_other}
 use Rattle.std.proofs.lemmas.Nat.{mul-mod_second}

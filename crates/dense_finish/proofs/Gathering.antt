@@ -1,12 +1,11 @@
 -- The factors that are gathered from an eliminated block.
-use Rattle.std.proofs.Common.{ℕ, ◌≡◌, ◌≢◌, ◌+◌, ◌<◌, ◌≤◌, inl, inr, List, [], ◌∷◌, ◌++◌, length, map, slice_index, take, sym, refl, ap, ap₂, subst, ◌∙◌, arith, length-append}
+use Rattle.std.proofs.Common.{ℕ, ◌≡◌, ◌≢◌, ◌+◌, ◌<◌, ◌≤◌, inl, inr, List, [], ◌∷◌, ◌++◌, length, map, slice_index, take, sym, refl, ap, ap₂, ◌∙◌, arith, length-append}
 use Rattle.std.proofs.Math.ListN.{get_or-append}
 use Rattle.std.proofs.Math.Seq.{get_or-append_seam}
 use Rattle.std.proofs.lemmas.Bool.{cases_eq, cases_lt}
 use Rattle.std.proofs.lemmas.List.{get_or-take, length-map, length-take, map-append}
 use Rattle.residue_words.specs.declared.plain.Pair.{Pair}
-use Rattle.residue_words.specs.Matrix.{Matrix, IsMatrix, IsVector, entry, row}
-use Rattle.row_space.specs.Factors.{row_at, col_at}
+use Rattle.residue_words.specs.Matrix.{IsMatrix, IsVector, entry}
 use Rattle.sparse_rows.specs.Rows.{ResidueMatrix}
 use Rattle.sparse_rows.specs.Stored.{with_row}
 use Rattle.dense_finish.specs.Elimination.{ArePlaces, IsLeft, place_of}

@@ -1,11 +1,10 @@
 -- A matrix with one row more, and the pivots with one more.
-use Rattle.std.proofs.Common.{ℕ, ◌≡◌, ◌≢◌, ◌+◌, ◌<◌, ◌≤◌, Bool, true, false, inl, inr, List, [], ◌∷◌, ◌++◌, length, slice_index, slice_index_or, slice_set, sym, refl, ap, subst, ◌∙◌, arith, length-append}
+use Rattle.std.proofs.Common.{ℕ, ◌≡◌, ◌≢◌, ◌+◌, ◌<◌, true, false, inl, inr, List, [], ◌∷◌, ◌++◌, length, slice_index, slice_index_or, sym, ap, subst, ◌∙◌, arith, length-append}
 use Rattle.std.proofs.Math.ListN.{get_or-append}
 use Rattle.std.proofs.Math.Seq.{get_or-append_seam}
 use Rattle.std.proofs.lemmas.Bool.{cases_eq}
 use Rattle.std.proofs.lemmas.List.{get_or-set_same, get_or-set_other, length-set}
 use Rattle.residue_words.specs.Matrix.{Matrix, IsMatrix, IsVector, entry, row}
-use Rattle.row_space.specs.Rows.{HasSteps}
 use Rattle.sparse_rows.specs.Stored.{with_row}
 use Rattle.dense_finish.specs.declared.pivots.Found.{Found}
 use Rattle.dense_finish.specs.Elimination.{Extends, IsFound, IsPivotOf, IsPut, IsTaken, named_entry}

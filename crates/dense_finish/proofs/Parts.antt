@@ -1,6 +1,6 @@
 -- The end of a slice, changed in its place.
-use Rattle.std.proofs.Common.{ℕ, ◌≡◌, ◌+◌, ◌-◌, ◌*◌, ◌%◌, ◌<◌, ◌≤◌, inl, inr, List, [], ◌++◌, length, map, slice_index, slice_index_or, take, drop, sym, refl, ap, ap₂, ◌∙◌, arith, length-append, mod-eq_of_lt, add-zero, mul-zero}
-use Rattle.std.proofs.Math.ListN.{drop_of_length-le, get_or-append}
+use Rattle.std.proofs.Common.{ℕ, ◌≡◌, ◌+◌, ◌-◌, ◌*◌, ◌%◌, ◌<◌, ◌≤◌, inl, inr, List, ◌++◌, length, map, slice_index, slice_index_or, take, drop, sym, ap, ap₂, ◌∙◌, arith, length-append, mod-eq_of_lt, add-zero, mul-zero}
+use Rattle.std.proofs.Math.ListN.{get_or-append}
 use Rattle.std.proofs.Math.Seq.{get_or-append_right, take-append_seam}
 use Rattle.std.proofs.lemmas.Bool.{cases_lt}
 use Rattle.std.proofs.lemmas.List.{drop-map, get_or-drop, get_or-take, length-drop, length-map, length-take, map-append, take-map, take_all}

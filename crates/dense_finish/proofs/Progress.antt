@@ -8,7 +8,7 @@ use Rattle.residue_words.specs.Matrix.{IsVector}
 use Rattle.residue_words.specs.Residues.{IsPrime}
 use Rattle.row_space.specs.Rows.{HasSteps}
 use Rattle.dense_finish.specs.declared.pivots.Found.{Found}
-use Rattle.dense_finish.specs.Elimination.{AreEliminated, ArePivots, AreSplit, Continues, IsFound, IsPanel, IsPivotOf, IsSplit, IsTaken, KeepsCoefficients, Reduces, line, named_entry, place_of}
+use Rattle.dense_finish.specs.Elimination.{AreEliminated, AreSplit, IsFound, IsPanel, IsPivotOf, IsSplit, IsTaken, KeepsCoefficients, Reduces, line, named_entry, place_of}
 use Rattle.dense_finish.proofs.Growing.{Grows, unmarked}
 use Rattle.dense_finish.proofs.Splitting.{split_more, split_none, split_same}
 

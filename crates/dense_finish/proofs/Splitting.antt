@@ -1,14 +1,14 @@
 -- Rows that split into the rows of pivots and what is left.
-use Rattle.std.proofs.Common.{ℕ, zero, suc, ◌≡◌, ◌≢◌, ◌+◌, ◌*◌, ◌%◌, ◌<◌, ◌≤◌, inl, inr, List, [], length, slice_index, take, sym, refl, ap, ap₂, subst, ◌∙◌, arith, add-zero, mul-one, mul-zero, mod-eq_of_lt}
+use Rattle.std.proofs.Common.{ℕ, ◌≡◌, ◌≢◌, ◌+◌, ◌*◌, ◌%◌, ◌<◌, ◌≤◌, inl, inr, List, length, slice_index, take, sym, refl, ap, ap₂, subst, ◌∙◌, arith, add-zero, mul-one, mul-zero, mod-eq_of_lt}
 use native.Mathlib.Nat.{mod-mod}
-use Rattle.std.proofs.lemmas.Bool.{cases_lt, cases_eq}
-use Rattle.std.proofs.lemmas.List.{get_or-take, length-take, take_all}
+use Rattle.std.proofs.lemmas.Bool.{cases_eq}
+use Rattle.std.proofs.lemmas.List.{get_or-take, length-take}
 use Rattle.residue_words.specs.Matrix.{IsVector}
 use Rattle.residue_words.specs.Residues.{sum_below}
 use Rattle.residue_words.proofs.Residues.{add_same}
 use Rattle.residue_words.proofs.Sums.{sum_equal, sum_more}
 use Rattle.row_space.specs.Rows.{HasSteps}
-use Rattle.dense_finish.specs.Elimination.{ArePivots, Continues, IsSplit, IsTaken, Reduces, TakesOut, line, parts, place_of}
+use Rattle.dense_finish.specs.Elimination.{IsSplit, IsTaken, Reduces, TakesOut, line, parts}
 
 -- fewer steps
 pub steps_front : {r s n : ℕ} {e : ℕ → ℕ → ℕ} {column : ℕ → ℕ} → r ≤ s → HasSteps s n e column → HasSteps r n e column

@@ -1,5 +1,5 @@
 -- The state of an elimination between two rows of a panel.
-use Rattle.std.proofs.Common.{ℕ, ◌≡◌, ◌≢◌, ◌+◌, ◌<◌, ◌≤◌, false, inl, inr, List, length, slice_index, slice_index_or, slice_set, sym, ap, subst, ◌∙◌, arith}
+use Rattle.std.proofs.Common.{ℕ, ◌≡◌, ◌+◌, ◌<◌, false, inl, inr, List, length, slice_index, slice_index_or, slice_set, subst, arith}
 use Rattle.std.proofs.lemmas.List.{length-set}
 use Rattle.residue_words.specs.Matrix.{IsVector}
 use Rattle.residue_words.specs.Residues.{IsPrime}

@@ -1,5 +1,5 @@
 -- A pivot's row that is taken out of a row.
-use Rattle.std.proofs.Common.{ℕ, ◌≡◌, ◌≢◌, ◌+◌, ◌-◌, ◌*◌, ◌%◌, ◌<◌, ◌≤◌, inl, inr, List, length, slice_index, slice_set, sym, refl, ap, ap₂, ◌∙◌, arith, add-zero, zero-mul, one-mul, mod-eq_of_lt, mod-lt}
+use Rattle.std.proofs.Common.{ℕ, ◌≡◌, ◌≢◌, ◌+◌, ◌-◌, ◌*◌, ◌%◌, ◌<◌, inl, inr, List, slice_index, slice_set, sym, refl, ap, ap₂, ◌∙◌, arith, add-zero, zero-mul, mod-eq_of_lt, mod-lt}
 use native.Mathlib.Nat.{mod-mod}
 use Rattle.std.proofs.lemmas.Bool.{cases_eq}
 use Rattle.std.proofs.lemmas.List.{get_or-set_same, get_or-set_other, length-set}

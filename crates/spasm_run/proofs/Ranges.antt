@@ -1,5 +1,5 @@
 -- The numbers of an accepted command lie in their ranges.
-use Rattle.std.proofs.Common.{ℕ, ◌≡◌, ◌≤◌, List, subst, sym, arith}
+use Rattle.std.proofs.Common.{ℕ, ◌≤◌, List, arith}
 use Rattle.spasm_run.specs.Words.{Accepted, Given, GivenOnce, Absent, IsValueOf, Rule, modulus_rule, workers_rule, rounds_rule}
 use Rattle.spasm_run.specs.declared.words.Command.{Command}
 

@@ -1,5 +1,5 @@
 -- From the echelon forms of systems to their answers.
-use Rattle.std.proofs.Common.{ℕ, ◌≡◌, ◌+◌, ◌<◌, ◌≤◌, ◌++◌, inl, inr, List, [], ◌∷◌, None, length, slice_index, sym, ap, subst, ◌∙◌, arith}
+use Rattle.std.proofs.Common.{ℕ, ◌≡◌, ◌<◌, ◌≤◌, ◌++◌, inl, inr, List, [], ◌∷◌, None, length, slice_index, sym, ap, subst, ◌∙◌, arith}
 use Rattle.std.specs.Prelude.{codes}
 use Rattle.std.proofs.lemmas.Bool.Decides.{nat_tests}
 use Rattle.residue_words.specs.Residues.{IsPrime}

@@ -1,8 +1,7 @@
-use Rattle.std.proofs.Common.{ℕ, [], ◌∷◌, ◌++◌, ◌+◌, ◌<◌, ◌≡◌, ◌∙◌, inl, inr, ap, ap₂, arith, length, slice_index, subst, sym, length-append}
+use Rattle.std.proofs.Common.{ℕ, [], ◌∷◌, ◌+◌, ◌<◌, ◌≡◌, ◌∙◌, ap, ap₂, arith, length, slice_index, sym, length-append}
 use Rattle.residue_words.specs.Matrix.{IsVector, entry, row}
 use Rattle.sparse_rows.specs.Stored.{entry_at}
 use Rattle.sparse_rows.proofs.Spread.{entry_support}
-use Rattle.dense_finish.specs.Elimination.{line, place_of}
 use Rattle.dense_finish.proofs.Filling.{column_named}
 use Rattle.dense_finish.proofs.Lines.{appended}
 use Rattle.dense_finish.proofs.block.block_of.Goals as goal

@@ -1,4 +1,4 @@
-use Rattle.std.proofs.Common.{ℕ, Ok, Err, ◌+◌, ◌<◌, ◌≤◌, ◌≡◌, ◌∙◌, inl, inr, ap, arith, length, slice_index, subst, sym}
+use Rattle.std.proofs.Common.{ℕ, Ok, Err, ◌+◌, ◌<◌, ◌≤◌, ◌∙◌, inl, inr, ap, arith, length, slice_index, subst, sym}
 use Rattle.std.proofs.lemmas.Bool.{cases_eq, cases_lt}
 use Rattle.std.proofs.lemmas.List.Sorted.{searched}
 use Rattle.dense_finish.proofs.Filling.{IsFilling, filling_all, filling_more, filling_none}

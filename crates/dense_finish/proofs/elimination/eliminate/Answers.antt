@@ -1,6 +1,6 @@
-use Rattle.std.proofs.Common.{ℕ, ◌≡◌, ◌+◌, ◌<◌, ◌≤◌, ◌∙◌, ap, arith, length, subst, sym}
+use Rattle.std.proofs.Common.{◌≡◌, arith, length, subst}
 use Rattle.residue_words.specs.Matrix.{IsVector}
-use Rattle.dense_finish.specs.Elimination.{AreSplit, IsFound, line}
+use Rattle.dense_finish.specs.Elimination.{IsFound, line}
 use Rattle.dense_finish.proofs.Growing.{found_own}
 use Rattle.dense_finish.proofs.Progress.{eliminated_begins, eliminated_behind, split_begins, split_behind}
 use Rattle.dense_finish.proofs.elimination.eliminate.Goals as goal

@@ -1,12 +1,11 @@
-use Rattle.std.proofs.Common.{ℕ, [], List, ◌≡◌, ◌+◌, ◌<◌, ◌≤◌, ◌∙◌, false, ap, arith, length, slice_index, slice_index_or, slice_set, subst, sym}
+use Rattle.std.proofs.Common.{ℕ, ◌≡◌, ◌<◌, ◌∙◌, false, ap, arith, length, slice_index, slice_index_or, slice_set, subst, sym}
 use Rattle.std.proofs.lemmas.List.{get_or-set_same}
 use Rattle.residue_words.specs.Matrix.{IsVector}
-use Rattle.residue_words.specs.Residues.{IsPrime}
-use Rattle.dense_finish.specs.Elimination.{ArePivots, AreSplit, IsFirstLeft, IsFound, IsPanel, Reduces, TakesPivot, line}
+use Rattle.dense_finish.specs.Elimination.{IsFirstLeft, TakesPivot}
 use Rattle.dense_finish.proofs.Lines.{read_line, reduced_line}
 use Rattle.dense_finish.proofs.Growing.{found_own}
 use Rattle.dense_finish.proofs.Progress.{panel_begins}
-use Rattle.dense_finish.proofs.Stages.{IsStage, reduced_vector, stage_more, stage_more_split, stage_same, stage_same_split}
+use Rattle.dense_finish.proofs.Stages.{reduced_vector, stage_more, stage_more_split, stage_same, stage_same_split}
 use Rattle.dense_finish.proofs.elimination.find_pivots.Goals as goal
 use Rattle.dense_finish.proofs.elimination.find_pivots.Goals.{in-Some+in_ok-take_pivot, in_default}
 

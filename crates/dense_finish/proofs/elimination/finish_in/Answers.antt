@@ -1,8 +1,6 @@
-use Rattle.std.proofs.Common.{ℕ, List, ◌≡◌, ◌≤◌, ◌<◌, ◌∙◌, ap, arith, length, slice_index, subst, sym}
-use Rattle.residue_words.specs.Matrix.{IsMatrix, IsVector}
-use Rattle.residue_words.specs.Residues.{IsPrime}
-use Rattle.dense_finish.specs.Elimination.{AreColumnNames, AreEliminated, ArePlaces, AreRowNames, AreSplit, IsBlock, IsFound, IsLeft, line}
-use Rattle.dense_finish.specs.Factoring.{IsFactored}
+use Rattle.std.proofs.Common.{ℕ, List, ◌≡◌, ◌∙◌, ap, arith, length, slice_index, subst, sym}
+use Rattle.residue_words.specs.Matrix.{IsVector}
+use Rattle.dense_finish.specs.Elimination.{line}
 use Rattle.dense_finish.proofs.Assembling.{factored, names_few}
 use Rattle.dense_finish.proofs.Parts.{refilled}
 use Rattle.dense_finish.proofs.elimination.finish_in.Goals as goal

@@ -1,4 +1,4 @@
-use Rattle.std.proofs.Common.{ℕ, ◌≡◌, ◌<◌, ◌+◌, ◌∙◌, ap, arith, length, refl, slice_index, slice_set, subst, sym}
+use Rattle.std.proofs.Common.{ℕ, ◌≡◌, ◌<◌, ◌+◌, ◌∙◌, ap, arith, length, refl, slice_index, subst, sym}
 use Rattle.dense_finish.specs.Elimination.{IsPut}
 use Rattle.dense_finish.proofs.Putting.{put_behind, put_more, put_none, put_over}
 use Rattle.dense_finish.proofs.gather.coefficients.Goals as goal

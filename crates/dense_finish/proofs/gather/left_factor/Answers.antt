@@ -1,12 +1,11 @@
-use Rattle.std.proofs.Common.{ℕ, [], ◌≡◌, ◌≢◌, ◌+◌, ◌<◌, ◌∙◌, ap, arith, length, slice_index, subst, sym}
+use Rattle.std.proofs.Common.{ℕ, ◌≡◌, ◌≢◌, ◌+◌, ◌<◌, ◌∙◌, ap, arith, length, slice_index, subst, sym}
 use Rattle.sparse_rows.specs.Rows.{ResidueMatrix, ResidueRow}
 use Rattle.sparse_rows.specs.Stored.{with_row}
 use Rattle.sparse_rows.proofs.Loops.{length_zeros}
 use Rattle.residue_words.specs.Matrix.{IsVector, zeros}
-use Rattle.residue_words.proofs.Vectors.{at_zeros, zeros_vector}
+use Rattle.residue_words.proofs.Vectors.{at_zeros}
 use Rattle.dense_finish.specs.Elimination.{line, place_of}
 use Rattle.dense_finish.proofs.Gathering.{IsLeftSoFar, left_all, left_named, left_none, left_other, unnamed_row}
-use Rattle.dense_finish.proofs.Growing.{put_vector}
 use Rattle.dense_finish.proofs.Lines.{read_line}
 use Rattle.dense_finish.proofs.gather.left_factor.Goals as goal
 use Rattle.dense_finish.proofs.gather.left_factor.Goals.{then-next-row_names+then-row_names-next+in_ok-coefficients, else-next-row_names, else-next-row_names-via-then-next-row_names+else-row_names-next, else-next-row_names-via-else-next-row_names}

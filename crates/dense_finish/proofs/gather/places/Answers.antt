@@ -1,4 +1,4 @@
-use Rattle.std.proofs.Common.{ℕ, [], ◌∷◌, ◌++◌, ◌≡◌, ◌+◌, ◌<◌, ◌∙◌, ap, arith, length, slice_index, subst, sym, take}
+use Rattle.std.proofs.Common.{◌+◌, arith, subst, sym, take}
 use Rattle.std.proofs.lemmas.List.{take_all}
 use Rattle.dense_finish.specs.Elimination.{ArePlaces}
 use Rattle.dense_finish.proofs.Gathering.{places_more, places_none}

@@ -1,5 +1,4 @@
-use Rattle.std.proofs.Common.{◌+◌, ◌≡◌, arith, subst, sym}
-use Rattle.dense_finish.specs.Elimination.{AreColumns}
+use Rattle.std.proofs.Common.{◌+◌, arith, subst, sym}
 use Rattle.dense_finish.proofs.Naming.{AreColumnsSoFar, columns_more, columns_none}
 use Rattle.dense_finish.proofs.names.all_columns.Goals as goal
 

@@ -1,5 +1,4 @@
-use Rattle.std.proofs.Common.{ℕ, ◌≡◌, ◌∙◌, IfOk, Vec, Global, ap, arith, subst, sym}
-use Rattle.std.specs.List.Sorted.{IsPermutation}
+use Rattle.std.proofs.Common.{subst}
 use Rattle.std.proofs.lemmas.List.Sorted.{IsNonDecreasingBy-from_sort}
 use Rattle.rayon.proofs.ListFacts.{IfOk-then}
 use Rattle.dense_finish.specs.Elimination.{AreDistinct}

@@ -1,4 +1,4 @@
-use Rattle.std.proofs.Common.{ℕ, Vec, Global, ◌+◌, ◌≡◌, ◌∙◌, ap, arith, slice_index, subst, sym, refl}
+use Rattle.std.proofs.Common.{ℕ, Vec, Global, ◌+◌, ◌∙◌, ap, arith, slice_index, subst, sym, refl}
 use Rattle.dense_finish.proofs.Naming.{AreDistinctSoFar, distinct_all, distinct_more, distinct_none, distinct_over}
 use Rattle.dense_finish.proofs.names.distinct.Goals as goal
 use Rattle.dense_finish.proofs.names.distinct.Goals.{then-from-next+in_ok-push, else-from-next}

@@ -1,7 +1,7 @@
-use Rattle.std.proofs.Common.{ℕ, ◌≡◌, ◌<◌, ◌+◌, ◌∙◌, ap, arith, length, subst, sym, eqb, true, Bool}
+use Rattle.std.proofs.Common.{ℕ, ◌≡◌, ◌<◌, ◌+◌, ◌∙◌, ap, arith, length, subst, sym, eqb, true}
 use Rattle.std.proofs.lemmas.Bool.Decides.{nat_tests}
 use Rattle.residue_words.specs.Matrix.{entry, row}
-use Rattle.dense_finish.specs.Elimination.{AreNames, AreRowNames}
+use Rattle.dense_finish.specs.Elimination.{AreNames}
 use Rattle.dense_finish.proofs.Naming.{empty_row, names_more, names_none, names_over}
 use Rattle.dense_finish.proofs.names.rows_of.Goals as goal
 use Rattle.dense_finish.proofs.names.rows_of.Goals.{then-not-is_empty+in_ok-push, else-not-is_empty}

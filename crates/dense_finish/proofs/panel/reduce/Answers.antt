@@ -1,6 +1,5 @@
-use Rattle.std.proofs.Common.{[], ◌≡◌, ◌<◌, ◌∙◌, ap, ap₂, arith, length, slice_index, subst, sym}
+use Rattle.std.proofs.Common.{[], ◌≡◌, ◌<◌, ◌∙◌, ap, arith, length, slice_index, subst}
 use Rattle.std.proofs.lemmas.List.{get_or_default, take_all}
-use Rattle.residue_words.specs.Matrix.{IsVector}
 use Rattle.dense_finish.specs.Elimination.{Reduces, TakesOut, line}
 use Rattle.dense_finish.proofs.Splitting.{reduces_more, reduces_none}
 use Rattle.dense_finish.proofs.panel.reduce.Goals as goal

@@ -1,6 +1,5 @@
-use Rattle.std.proofs.Common.{[], ◌≡◌, ◌<◌, ◌∙◌, arith, length, refl, subst}
+use Rattle.std.proofs.Common.{[], ◌<◌, ◌∙◌, arith, length, refl, subst}
 use Rattle.std.proofs.lemmas.List.{get_or-set_other}
-use Rattle.residue_words.specs.Matrix.{IsVector}
 use Rattle.dense_finish.specs.Elimination.{Reduces}
 use Rattle.dense_finish.proofs.Lines.{each_more, read_line}
 use Rattle.dense_finish.proofs.panel.reduce_each.Goals as goal

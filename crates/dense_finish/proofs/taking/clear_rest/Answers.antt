@@ -1,4 +1,4 @@
-use Rattle.std.proofs.Common.{arith, length, subst, sym, ◌+◌, ◌<◌, ◌∙◌}
+use Rattle.std.proofs.Common.{arith, length, subst, sym, ◌+◌, ◌∙◌}
 use Rattle.dense_finish.proofs.Dividing.{IsClearing, clearing_all, clearing_more, clearing_none, clearing_over}
 use Rattle.dense_finish.proofs.taking.clear_rest.Goals as goal
 use Rattle.dense_finish.proofs.taking.clear_rest.Goals.{then-not-taken-j, else-not-taken-j}

@@ -1,4 +1,4 @@
-use Rattle.std.proofs.Common.{ℕ, ◌≡◌, ◌<◌, ◌∙◌, false, true, arith, below_more, length, slice_index, slice_index_or, sym}
+use Rattle.std.proofs.Common.{◌≡◌, ◌∙◌, false, true, arith, below_more, sym}
 use Rattle.dense_finish.proofs.taking.first_left.Goals as goal
 use Rattle.dense_finish.proofs.taking.first_left.Goals.{else-not-taken-j-via-then-not-taken-j+else-get-ne0, else-not-taken-j-via-else-not-taken-j}
 

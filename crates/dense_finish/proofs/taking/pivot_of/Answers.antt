@@ -1,4 +1,4 @@
-use Rattle.std.proofs.Common.{◌+◌, ◌*◌, ◌%◌, ◌<◌, ◌≤◌, ◌≡◌, ◌∙◌, ap, arith, length, slice_index, slice_set, subst, sym}
+use Rattle.std.proofs.Common.{◌+◌, ◌*◌, ◌%◌, ◌≤◌, ◌∙◌, ap, arith, length, slice_set, subst, sym}
 use Rattle.residue_words.specs.Matrix.{zeros}
 use Rattle.residue_words.proofs.Vectors.{length_list_of}
 use Rattle.dense_finish.proofs.Dividing.{IsDividing, dividing_all, dividing_more, dividing_none, dividing_over}
