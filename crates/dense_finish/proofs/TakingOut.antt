@@ -1,5 +1,5 @@
 -- A pivot's row that is taken out of a row.
-use Rattle.std.proofs.Common.{ℕ, ◌≡◌, ◌≢◌, ◌+◌, ◌-◌, ◌*◌, ◌%◌, ◌<◌, inl, inr, List, slice_index, slice_set, sym, refl, ap, ap₂, ◌∙◌, arith, add-zero, zero-mul, mod-eq_of_lt, mod-lt}
+use Rattle.std.proofs.Common.{ℕ, ◌≡◌, ◌≢◌, ◌+◌, ◌-◌, ◌*◌, ◌%◌, ◌<◌, inl, inr, List, slice_index, slice_set, sym, refl, ap, ap₂, ◌∙◌, arith, mod-eq_of_lt, mod-lt}
 use native.Mathlib.Nat.{mod-mod}
 use Rattle.std.proofs.lemmas.Bool.{cases_eq}
 use Rattle.std.proofs.lemmas.List.{get_or-set_same, get_or-set_other, length-set}
@@ -51,12 +51,3 @@ taken_out {p} {n} {c} {q} {v} {w} {x} a inside h coefficient added set =
       sum = λ j l d. added_back p (slice_index v j) (slice_index q j) a small (h.residues j l)
           ∙ ap₂ (λ y z. (y + z * slice_index q j) % p) (sym (there j l d)) coefficient;
     }
-
--- there is none of it in the row
-pub not_taken_out : {p n c : ℕ} {q v : List ℕ} → IsVector p n v → slice_index v c ≡ 0 → TakesOut p n c q v v
-not_taken_out {p} {n} {c} {q} {v} h none = record {
-  vector = h;
-  coefficient = refl;
-  sum = λ j l d. sym (ap (λ x. (slice_index v j + x * slice_index q j) % p) none ∙ ap (λ x. (slice_index v j + x) % p) (zero-mul (slice_index q j))
-      ∙ ap (λ x. x % p) (add-zero (slice_index v j)) ∙ mod-eq_of_lt (h.residues j l));
-}

@@ -5,7 +5,6 @@ pub mod Elimination
 pub mod Exact
 pub mod Matching
 pub mod Program
-pub mod Ranges
 pub mod Reading
 pub mod Solving
 pub mod Spelled

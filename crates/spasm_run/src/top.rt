@@ -27,9 +27,9 @@ const LIMIT: u64 = 1_099_511_627_776;
 /// went well. Where it did not, one line that says why goes to `err`.
 ///
 /// Words that aren't accepted are refused before anything is read. A source is read up to the last line that is wanted, in at most 2^40
-/// bytes, and the first faulty line is named. Memory is wanted for the entries, at most 40 bytes each while they are read, and for the rows;
-/// none for writing.
-/// `rt` and `gate` serve commands that search with several workers.
+/// bytes, and the first faulty line is named. Memory is wanted for the entries, at most 40 bytes each while they are read, for the rows, and
+/// for the echelon forms and what is made of them; none for writing.
+/// `rt` starts the threads of a command's workers, and `gate` serves commands that search.
 pub fn run<'a, R: Threads + Sync, S: Source, K: Sink, E: Sink, G: Gate>(
     rt: &R,
     alloc: Global,
