@@ -1,7 +1,8 @@
 #!/usr/bin/env bash
-# Times the dense elimination: multiples of rows added by lanes against the plain loop, modulo 2147483647; and `spasm rank --rounds 0` of a
-# dense random 2000 x 2000 matrix modulo 42013, less the time of reading it, with 1 and with 4 workers, against FLINT's `nmod_mat_rank` where
-# FLINT's library is installed (Debian: libflint-dev), elimination alone. Best of three each, ratios of one run.
+# Times the dense elimination: multiples of rows added by lanes against the plain loop, modulo 2147483647; and the factors, whose pivots
+# `spasm rank --rounds 0` counts, of a dense random 2000 x 2000 matrix modulo 42013 with 1 and with 4 workers, against FLINT's
+# `nmod_mat_rank` where FLINT's library is installed (Debian: libflint-dev). The elimination alone, best of three, ratios of one run.
+# It builds a small proved program over the library in a copy of the repository.
 set -eu
 cd "$(dirname "$0")/.."
 size=${1:-2000}
@@ -26,55 +27,145 @@ cat > "$copy/crates/dense_timed/src/main.rt" <<'R'
 //! Times multiples of rows added by lanes and plainly, and the elimination of the matrix on standard input with 1 and with 4 workers.
 #![tactic(auto)]
 
+ghost use Rattle.std.specs.Prelude.{◌≡◌, ◌<◌, ◌≤◌, ℕ, length, slice_index};
+
 use dense_finish::{axpy, axpy_plainly, finish};
 use residue_words::Modulus;
 use sms_text::{Reader, read_rows};
+use sparse_rows::Rows;
 use std::io;
 use std::process::ExitCode;
+use std::thread::Threads;
 use std::time::Instant;
 use std_edge::FromRead;
 
-fn main(rt: HostRuntime) -> ExitCode {
-    ExitCode::from(timed(rt).unwrap_or(1))
+const SIZE: usize = 2000;
+
+fn fill(out: &mut [u64], seed: u64, p: u64)
+    requires { 2 ≤ p }
+    ensures { (k : ℕ) → k < length out.old → slice_index out.new k < p }
+{
+    let mut x = seed;
+    for k in 0..out.len() {
+        x = x.wrapping_mul(6364136223846793005).wrapping_add(1442695040888963407);
+        out[k] = (x >> 20) % p;
+    }
 }
 
-fn timed(rt: HostRuntime) -> io::Result<u8> {
-    let alloc = rt.alloc();
+#[inline(never)]
+fn by_lanes(out: &mut [u64], a: u64, y: &mut [u64], p: &Modulus, rounds: u32)
+    requires lengths { length y.old ≡ length out.old }
+    requires factor { a < p.now }
+{
+    fill(out, 1, p.p());
+    fill(y, 2, p.p());
+    for _round in 0..rounds {
+        axpy(out, a, y, p);
+    }
+}
+
+#[inline(never)]
+fn plainly(out: &mut [u64], a: u64, y: &mut [u64], p: &Modulus, rounds: u32)
+    requires lengths { length y.old ≡ length out.old }
+    requires factor { a < p.now }
+{
+    fill(out, 1, p.p());
+    fill(y, 2, p.p());
+    for _round in 0..rounds {
+        axpy_plainly(out, a, y, p);
+    }
+}
+
+fn main(rt: HostRuntime) -> ExitCode {
+    ExitCode::from(timed(&rt, &rt).unwrap_or(1))
+}
+
+fn timed<R: Threads + Sync>(threads: &R, rt: &HostRuntime) -> io::Result<u8> {
+    let mut out = [0u64; SIZE];
+    let mut y = [0u64; SIZE];
     let p = Modulus::new(2147483647);
-    let mut out = [7u64; 2000];
-    let y = [1234567890u64; 2000];
-    let start = Instant::now(&rt)?;
-    for _ in 0..20000 {
-        axpy(&mut out, 987654321, &y, &p);
-    }
-    let lanes = start.elapsed(&rt)?.as_micros();
-    let start = Instant::now(&rt)?;
-    for _ in 0..20000 {
-        axpy_plainly(&mut out, 987654321, &y, &p);
-    }
-    let plain = start.elapsed(&rt)?.as_micros();
+    let start = Instant::now(rt)?;
+    by_lanes(&mut out, 1234567890, &mut y, &p, 20000);
+    let lanes = start.elapsed(rt)?.as_micros();
+    let start = Instant::now(rt)?;
+    plainly(&mut out, 1234567890, &mut y, &p, 20000);
+    let plain = start.elapsed(rt)?.as_micros();
     let mut source = FromRead::new(rt.stdin());
-    let Ok(mut reader) = Reader::new(alloc, 1099511627776) else {
+    let Ok(mut reader) = Reader::new(rt.alloc(), 1099511627776) else {
         return Ok(8);
     };
-    let Ok(rows) = read_rows(&mut reader, alloc, &mut source, &Modulus::new(42013)) else {
+    let Ok(rows) = read_rows(&mut reader, rt.alloc(), &mut source, &Modulus::new(42013)) else {
         return Ok(3);
     };
-    let start = Instant::now(&rt)?;
-    let Ok(by_one) = finish(&rt, alloc, &rows, 1) else {
-        return Ok(8);
-    };
-    let one = start.elapsed(&rt)?.as_micros();
-    let start = Instant::now(&rt)?;
-    let Ok(by_four) = finish(&rt, alloc, &rows, 4) else {
-        return Ok(8);
-    };
-    let four = start.elapsed(&rt)?.as_micros();
-    let rank = by_one.pivots.items().len();
-    let same = by_four.pivots.items().len();
+    let (one, rank) = factored(threads, rt, &rows, 1)?;
+    let (four, same) = factored(threads, rt, &rows, 4)?;
     println!(rt; "{lanes} {plain} {one} {four} {rank} {same}")?;
     Ok(0)
 }
+
+// The microseconds that the factors take, and their rank.
+fn factored<R: Threads + Sync>(threads: &R, rt: &HostRuntime, rows: &Rows, workers: u32) -> io::Result<(u128, usize)>
+    requires some { 1 ≤ workers }
+    requires few { workers ≤ 64 }
+{
+    let start = Instant::now(rt)?;
+    let factors = finish(threads, rt.alloc(), rows, workers)?;
+    let time = start.elapsed(rt)?.as_micros();
+    Ok((time, factors.pivots.items().len()))
+}
+R
+mkdir -p "$copy/crates/dense_timed/proofs/"{fill,by_lanes,plainly}
+cat > "$copy/crates/dense_timed/proofs/Lib.antt" <<'R'
+pub mod Keeps
+R
+cat > "$copy/crates/dense_timed/proofs/Keeps.antt" <<'R'
+use Rattle.std.proofs.Common.{ℕ, List, ◌<◌, ◌≡◌, ◌+◌, ◌*◌, ◌%◌, ◌∙◌, get_or, length, arith, mod-lt, sym, ap}
+use Rattle.residue_words.specs.Matrix.{list_of}
+use Rattle.residue_words.proofs.Vectors.{length_list_of, at_list_of}
+
+pub keeps : (p a : ℕ) (x y new : List ℕ) → a < p → new ≡ list_of (length x) (λ k. (get_or x k 0 + a * get_or y k 0) % p) → length y ≡ length x →
+    ((k : ℕ) → k < length y → get_or y k 0 < p) → (length y ≡ length new) × ((k : ℕ) → k < length new → get_or new k 0 < p) × ((k : ℕ) → k < length y → get_or y k 0 < p)
+keeps p a x y new l e w h =
+    let f = λ (k : ℕ). (get_or x k 0 + a * get_or y k 0) % p in
+    let long : length new ≡ length x = ap length e ∙ length_list_of (length x) f in
+    (w ∙ sym long, (λ k b. let below : f k < p = mod-lt (get_or x k 0 + a * get_or y k 0) (omega arith) in
+      let inside : k < length x = omega arith in
+      omega (arith, ap (λ v. get_or v k 0) e ∙ at_list_of (length x) f k inside)), h)
+R
+cat > "$copy/crates/dense_timed/proofs/fill/Invariants.antt" <<'R'
+use Rattle.std.proofs.Common.{ℕ, ◌<◌, get_or}
+use Rattle.dense_timed.proofs.fill.Given as goal
+
+abbrev pub invariant-loop-k : goal.invariant-loop-k
+invariant-loop-k l = (k : ℕ) → k < l.k → get_or l.out k 0 < l.p
+R
+cat > "$copy/crates/dense_timed/proofs/by_lanes/Invariants.antt" <<'R'
+use Rattle.std.proofs.Common.{ℕ, ◌<◌, get_or, length, ◌≡◌}
+use Rattle.dense_timed.proofs.by_lanes.Given as goal
+
+abbrev pub invariant-loop-round : goal.invariant-loop-round
+invariant-loop-round l = (length l.y ≡ length l.out) × ((k : ℕ) → k < length l.out → get_or l.out k 0 < l.p) × ((k : ℕ) → k < length l.y → get_or l.y k 0 < l.p)
+R
+cat > "$copy/crates/dense_timed/proofs/by_lanes/Answers.antt" <<'R'
+use Rattle.dense_timed.proofs.Keeps.{keeps}
+use Rattle.dense_timed.proofs.by_lanes.Goals as goal
+
+pub loop-round-preserved : goal.loop-round-preserved
+loop-round-preserved c = keeps c.args.p.now c.args.a c.loop-round.out c.fill-2.new.out c.axpy.new.out c.requires.factor c.axpy.ensures c.loop-round.invariant.0 c.loop-round.invariant.2
+R
+cat > "$copy/crates/dense_timed/proofs/plainly/Invariants.antt" <<'R'
+use Rattle.std.proofs.Common.{ℕ, ◌<◌, get_or, length, ◌≡◌}
+use Rattle.dense_timed.proofs.plainly.Given as goal
+
+abbrev pub invariant-loop-round : goal.invariant-loop-round
+invariant-loop-round l = (length l.y ≡ length l.out) × ((k : ℕ) → k < length l.out → get_or l.out k 0 < l.p) × ((k : ℕ) → k < length l.y → get_or l.y k 0 < l.p)
+R
+cat > "$copy/crates/dense_timed/proofs/plainly/Answers.antt" <<'R'
+use Rattle.dense_timed.proofs.Keeps.{keeps}
+use Rattle.dense_timed.proofs.plainly.Goals as goal
+
+pub loop-round-preserved : goal.loop-round-preserved
+loop-round-preserved c = keeps c.args.p.now c.args.a c.loop-round.out c.fill-2.new.out c.axpy_plainly.new.out c.requires.factor c.axpy_plainly.ensures c.loop-round.invariant.0 c.loop-round.invariant.2
 R
 (cd "$copy/crates/dense_timed" && rt run <<< "" > "$copy/log" 2>&1 || true)
 program=$copy/crates/dense_timed/out/dense_timed
