@@ -4,11 +4,14 @@
 #![tactic(auto)]
 
 mod builder;
+mod cells;
 mod group;
 mod list;
+mod order;
 mod parts;
 mod rows;
 mod sparse;
+mod sums;
 #[cfg(test)]
 mod tests;
 

@@ -2,9 +2,11 @@
 ghost use Rattle.std.specs.Prelude.{◌≡◌, ◌<◌, ◌≤◌, ◌+◌, ◌*◌, ◌%◌, ◌^◌, ℕ, [], ◌∷◌, ◌++◌, length, slice_index, All, IfOk, OnErr, OnOk};
 ghost use Rattle.residue_words.specs.Matrix.{IsMatrix, IsVector, apply, entry, row};
 ghost use Rattle.residue_words.specs.Residues.{sum_below};
-ghost use Rattle.sparse_rows.specs.Rows.{beside, entry_count, identity, nonzeros, selected, support, transposed};
+ghost use Rattle.sparse_rows.specs.Cells.{AreEntries, IsWithin, place_of, weight};
+ghost use Rattle.sparse_rows.specs.Rows.{beside, entry_count, identity, matrix_by, nonzeros, selected, support, transposed};
 ghost use Rattle.sparse_rows.specs.Stored.{IsSparse, spread, with_row};
 
+use crate::cells::{Cell, columns, row_starts, values};
 use crate::group::group;
 use crate::parts::{part, part_numbers};
 use crate::sparse::Sparse;
@@ -88,12 +90,29 @@ impl Rows {
         self.append_slices(row.cols(), row.vals())
     }
 
-    // Gives back the room that no entry needs.
-    pub(crate) fn shrink(&mut self)
-        ensures { self.new ≡ self.old }
+    // The matrix with these entries, which ascend by places. It takes 12 bytes an entry and 8 bytes a row.
+    pub(crate) fn from_cells(
+        alloc: Global,
+        modulus: Modulus,
+        height: u32,
+        width: u32,
+        cells: &[Cell],
+    ) -> Result<Rows, AllocError>
+        requires height_small { height ≤ 2147483648 }
+        requires width_small { width ≤ 2147483648 }
+        requires within { All (IsWithin height width) cells.now }
+        requires entries { AreEntries modulus cells.now }
+        ensures modulus { IfOk result (λ rows. rows.modulus ≡ modulus) }
+        ensures matrix { IfOk result (λ rows. rows.matrix ≡ matrix_by height width (λ i j. weight (place_of i j) cells.now)) }
     {
-        self.cols.shrink_to_fit();
-        self.vals.shrink_to_fit();
+        let _ = modulus.p();
+        Ok(Rows {
+            modulus,
+            width,
+            starts: row_starts(alloc, height, cells)?,
+            cols: columns(alloc, cells)?,
+            vals: values(alloc, cells)?,
+        })
     }
 
     /// The identity matrix of n rows.

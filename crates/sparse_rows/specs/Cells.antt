@@ -1,0 +1,63 @@
+-- Cells: values at places, where a matrix has 2^32 places a row.
+use Rattle.std.specs.Prelude.{◌≡◌, ◌<◌, ◌≤◌, ◌+◌, ◌*◌, ◌/◌, ◌%◌, ◌^◌, ◌==◌, if◌then◌else◌, ℕ, List, length, map, slice_index, slice_index_or, slice_range, All}
+use Rattle.std.specs.List.{sum_by}
+use Rattle.sparse_rows.specs.declared.cells.Cell.{Cell}
+use Rattle.sparse_rows.specs.Rows.{Triple}
+
+-- the place of row i and column j
+abbrev pub place_of : ℕ → ℕ → ℕ
+place_of i j = i * 4294967296 + j
+
+abbrev pub row_of : Cell → ℕ
+row_of c = c.place / 4294967296
+
+abbrev pub column_of : Cell → ℕ
+column_of c = c.place % 4294967296
+
+-- a cell as its row, its column and its value
+abbrev pub triple_of : Cell → Triple
+triple_of c = record { i = row_of c; j = column_of c; v = c.val }
+
+-- the sum of the values at a place
+abbrev pub weight : ℕ → List Cell → ℕ
+weight t cells = sum_by (λ c. if c.place == t then c.val else 0) cells
+
+-- the cell lies within a matrix of m x n
+pub record IsWithin (m n : ℕ) (c : Cell) : Type 0 where
+  pub row : row_of c < m
+  pub column : column_of c < n
+
+-- cells pushed for a matrix of m x n modulo p
+pub record ArePushed (p m n : ℕ) (cells : List Cell) : Type 0 where
+  pub height_small : m ≤ 2147483648
+  pub width_small : n ≤ 2147483648
+  pub two_or_more : 2 ≤ p
+  pub in_range : p < 2 ^ 48
+  pub within : All (IsWithin m n) cells
+  pub residues : All (λ c. c.val < p) cells
+
+-- the cells of row i stand from starts[i] up to starts[i + 1]
+abbrev pub AreGrouped : ℕ → List ℕ → List Cell → Type 0
+AreGrouped m starts cells = (i : ℕ) → i < m → All (λ c. row_of c ≡ i) (slice_range cells (slice_index starts i) (slice_index starts (i + 1)))
+
+-- cells by strictly ascending places, of positive values below p
+pub record AreEntries (p : ℕ) (cells : List Cell) : Type 0 where
+  pub ascending : (i k : ℕ) (d : Cell) → i < k → k < length cells → (slice_index_or cells i d).place < (slice_index_or cells k d).place
+  pub positive : All (λ c. 0 < c.val) cells
+  pub residues : All (λ c. c.val < p) cells
+
+-- they have at each place the sum modulo p of what these cells have there
+pub record AreSums (p : ℕ) (cells kept : List Cell) : Type 0 where
+  pub entries : AreEntries p kept
+  pub sums : (t : ℕ) → weight t kept ≡ weight t cells % p
+
+-- the cells ascend by rows
+abbrev pub IsByRows : List Cell → Type 0
+IsByRows cells = (i k : ℕ) (d : Cell) → i ≤ k → k < length cells → row_of (slice_index_or cells i d) ≤ row_of (slice_index_or cells k d)
+
+-- starts[i] cells lie in rows before row i, for each row i up to m
+pub record AreCuts (m : ℕ) (cells : List Cell) (starts : List ℕ) : Type 0 where
+  pub long : length starts ≡ m + 1
+  pub few : (i : ℕ) → i ≤ m → slice_index starts i ≤ length cells
+  pub before : (i k : ℕ) (d : Cell) → i ≤ m → k < slice_index starts i → row_of (slice_index_or cells k d) < i
+  pub behind : (i k : ℕ) (d : Cell) → i ≤ m → slice_index starts i ≤ k → k < length cells → i ≤ row_of (slice_index_or cells k d)

@@ -1,0 +1,80 @@
+// What is pushed: a value at a place, in one word beside it.
+ghost use Rattle.std.specs.Prelude.{◌≡◌, map, All, IfOk, ◌<◌, ◌≤◌, ◌^◌};
+ghost use Rattle.sparse_rows.specs.Cells.{AreCuts, IsByRows, column_of, place_of, row_of};
+
+use std::alloc::{AllocError, Global};
+
+// How many places a row has.
+const PLACES: u64 = 4_294_967_296;
+
+// A value at a place: places count row after row, 2^32 to each, so cells in the order of their places stand by rows and,
+// within a row, by columns.
+#[derive(Clone, Copy)]
+pub(crate) struct Cell {
+    pub place: u64,
+    pub val: u64,
+}
+
+impl Cell {
+    pub(crate) fn new(i: u32, j: u32, val: u64) -> Cell
+        ensures place { result.place ≡ place_of i j }
+        ensures val { result.val ≡ val }
+    {
+        Cell {
+            place: i as u64 * PLACES + j as u64,
+            val,
+        }
+    }
+
+    pub(crate) fn row(&self) -> u32
+        ensures { result ≡ row_of self.now }
+    {
+        (self.place / PLACES) as u32
+    }
+
+    pub(crate) fn column(&self) -> u32
+        ensures { result ≡ column_of self.now }
+    {
+        (self.place % PLACES) as u32
+    }
+}
+
+// Where the cells of rows 0, 1, .., height - 1 begin, and where those of the last end. The cells ascend by rows.
+pub(crate) fn row_starts(
+    alloc: Global,
+    height: u32,
+    cells: &[Cell],
+) -> Result<Vec<usize>, AllocError>
+    requires within { All (λ c. row_of c < height) cells.now }
+    requires by_rows { IsByRows cells.now }
+    ensures { IfOk result (λ starts. AreCuts height cells.now starts.items) }
+{
+    let mut starts = Vec::with_capacity(alloc, height as usize + 1)?;
+    for k in 0..cells.len() {
+        starts.resize(cells[k].row() as usize + 1, k)?;
+    }
+    starts.resize(height as usize + 1, cells.len())?;
+    Ok(starts)
+}
+
+// The columns of the cells.
+pub(crate) fn columns(alloc: Global, cells: &[Cell]) -> Result<Vec<u32>, AllocError>
+    ensures { IfOk result (λ columns. columns.items ≡ map column_of cells.now) }
+{
+    let mut columns = Vec::with_capacity(alloc, cells.len())?;
+    for cell in cells {
+        columns.push(cell.column())?;
+    }
+    Ok(columns)
+}
+
+// The values of the cells.
+pub(crate) fn values(alloc: Global, cells: &[Cell]) -> Result<Vec<u64>, AllocError>
+    ensures { IfOk result (λ values. values.items ≡ map (λ c. c.val) cells.now) }
+{
+    let mut values = Vec::with_capacity(alloc, cells.len())?;
+    for cell in cells {
+        values.push(cell.val)?;
+    }
+    Ok(values)
+}
