@@ -1,6 +1,7 @@
+pub mod Cuts
 pub mod Grouping
 pub mod Loops
-pub mod Stored
 pub mod Spread
+pub mod Stored
+pub mod Summing
 pub mod Transposed
-pub mod Summed

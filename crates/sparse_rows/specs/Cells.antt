@@ -55,9 +55,13 @@ pub record AreSums (p : ℕ) (cells kept : List Cell) : Type 0 where
 abbrev pub IsByRows : List Cell → Type 0
 IsByRows cells = (i k : ℕ) (d : Cell) → i ≤ k → k < length cells → row_of (slice_index_or cells i d) ≤ row_of (slice_index_or cells k d)
 
--- starts[i] cells lie in rows before row i, for each row i up to m
+-- the first `at` cells lie in rows before row i, and the others don't
+pub record IsCut (cells : List Cell) (i at : ℕ) : Type 0 where
+  pub inside : at ≤ length cells
+  pub before : (k : ℕ) (d : Cell) → k < at → row_of (slice_index_or cells k d) < i
+  pub behind : (k : ℕ) (d : Cell) → at ≤ k → k < length cells → i ≤ row_of (slice_index_or cells k d)
+
+-- where rows 0, 1, .., m - 1 begin, and where the last ends
 pub record AreCuts (m : ℕ) (cells : List Cell) (starts : List ℕ) : Type 0 where
   pub long : length starts ≡ m + 1
-  pub few : (i : ℕ) → i ≤ m → slice_index starts i ≤ length cells
-  pub before : (i k : ℕ) (d : Cell) → i ≤ m → k < slice_index starts i → row_of (slice_index_or cells k d) < i
-  pub behind : (i k : ℕ) (d : Cell) → i ≤ m → slice_index starts i ≤ k → k < length cells → i ≤ row_of (slice_index_or cells k d)
+  pub each : (i : ℕ) → i ≤ m → IsCut cells i (slice_index starts i)

@@ -1,0 +1,6 @@
+use Rattle.std.proofs.Common.{get_or}
+use Rattle.sparse_rows.proofs.Cuts.{AreCutsSoFar}
+use Rattle.sparse_rows.proofs.cells.row_starts.Given as goal
+
+abbrev pub invariant-loop-k : goal.invariant-loop-k
+invariant-loop-k l = AreCutsSoFar l.height l.cells l.k l.starts.items
