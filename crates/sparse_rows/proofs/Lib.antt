@@ -1,3 +1,4 @@
+pub mod Building
 pub mod Cuts
 pub mod Grouping
 pub mod Loops

@@ -1,0 +1,52 @@
+-- The matrix of what was pushed is that of the cells' sums.
+use Rattle.std.proofs.Common.{ℕ, ◌≡◌, ◌≢◌, ◌+◌, ◌%◌, ◌<◌, ◌≤◌, ◌&&◌, Bool, false, true, inl, inr, List, [], ◌∷◌, map, cond, eqb, sym, refl, ap, ap₂, ◌∙◌, arith}
+use Rattle.std.specs.List.{All}
+use Rattle.std.specs.List.Sorted.{IsPermutation}
+use Rattle.std.proofs.lemmas.Bool.{cases_eq, cond-true, cond-false, eq-eqb, ne_eqb}
+use Rattle.std.proofs.lemmas.List.Elements.{All-weaker}
+use Rattle.std.proofs.lemmas.List.Sorted.{All-permutation, sum_by-IsPermutation}
+use Rattle.std.proofs.lemmas.List.Sums.{sum_by-cons}
+use Rattle.residue_words.specs.Matrix.{list_of}
+use Rattle.residue_words.proofs.Vectors.{list_of_equal}
+use Rattle.sparse_rows.specs.declared.cells.Cell.{Cell}
+use Rattle.sparse_rows.specs.Cells.{AreSums, IsWithin, column_of, place_of, row_of, triple_of, weight}
+use Rattle.sparse_rows.specs.Rows.{built, matrix_by, sum_at}
+use Rattle.sparse_rows.proofs.Spread.{map_range_equal}
+use Rattle.sparse_rows.proofs.Summing.{kept_places}
+
+-- equal entries make equal matrices
+pub matrix_by_equal : (m n : ℕ) (f g : ℕ → ℕ → ℕ) → ((i j : ℕ) → i < m → j < n → f i j ≡ g i j) → matrix_by m n f ≡ matrix_by m n g
+matrix_by_equal m n f g h = ap (λ r. record { height = m; width = n; rows = r }) (map_range_equal (λ i. list_of n (f i)) (λ i. list_of n (g i)) 0 m (λ i a b. list_of_equal n (f i) (g i) (λ j l. h i j (omega arith) l)))
+
+-- a cell counts at its place alone
+counted : (i j : ℕ) (c : Cell) → j < 4294967296 → cond (eqb (row_of c) i && eqb (column_of c) j) c.val 0 ≡ cond (eqb c.place (place_of i j)) c.val 0
+counted i j c l = elim (cases_eq c.place (place_of i j)) [
+  | inl e ↦
+      let row : eqb (row_of c) i ≡ true = eq-eqb (row_of c) i (omega arith) in
+      let column : eqb (column_of c) j ≡ true = eq-eqb (column_of c) j (omega arith) in
+      ap₂ (λ x y. cond (x && y) c.val 0) row column ∙ sym (cond-true (eqb c.place (place_of i j)) c.val 0 (eq-eqb c.place (place_of i j) e))
+  | inr d ↦
+      sym (cond-false (eqb c.place (place_of i j)) c.val 0 (ne_eqb c.place (place_of i j) d) ∙ sym (elim (cases_eq (row_of c) i) [
+        | inl r ↦
+            ap₂ (λ x y. cond (x && y) c.val 0) (eq-eqb (row_of c) i r) (ne_eqb (column_of c) j (λ q. d (omega arith)))
+        | inr r ↦ ap (λ x. cond (x && eqb (column_of c) j) c.val 0) (ne_eqb (row_of c) i r)
+      ]))
+]
+
+-- so the sum of what was pushed at a place is the cells' weight there
+sum_at_weight : (i j : ℕ) (cells : List Cell) → j < 4294967296 → sum_at i j (map triple_of cells) ≡ weight (place_of i j) cells
+sum_at_weight i j [] l = refl
+sum_at_weight i j (c ∷ cells) l = ap₂ ◌+◌ (counted i j c l) (sum_at_weight i j cells l) ∙ sym (sum_by-cons (λ c. cond (eqb c.place (place_of i j)) c.val 0) c cells)
+
+-- the sums lie where the cells lie
+pub sums_within : (p m n : ℕ) (pushed sorted kept : List Cell) → IsPermutation pushed sorted → AreSums p sorted kept → All (IsWithin m n) pushed → All (IsWithin m n) kept
+sums_within p m n pushed sorted kept same sums within =
+    let P : ℕ → Type 0 = λ t. IsWithin m n record { place = t; val = 0 } in
+    let here : All (λ c. P c.place) sorted = All-weaker (IsWithin m n) (λ c. P c.place) (λ c h. record { row = h.row; column = h.column }) sorted (All-permutation (IsWithin m n) pushed sorted same within) in
+    All-weaker (λ c. P c.place) (IsWithin m n) (λ c h. record { row = h.row; column = h.column }) kept (kept_places p sorted kept P sums here)
+
+-- and make the matrix that is built
+pub sums_built : (p m n : ℕ) (pushed sorted kept : List Cell) → n ≤ 2147483648 → IsPermutation pushed sorted → AreSums p sorted kept →
+    matrix_by m n (λ i j. weight (place_of i j) kept) ≡ built p m n (map triple_of pushed)
+sums_built p m n pushed sorted kept small same sums = matrix_by_equal m n _ _ (λ i j a b.
+    sums.sums (place_of i j) ∙ ap (λ t. t % p) (sum_by-IsPermutation (λ c. cond (eqb c.place (place_of i j)) c.val 0) pushed sorted same ∙ sym (sum_at_weight i j pushed (omega arith))))
