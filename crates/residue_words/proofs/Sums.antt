@@ -132,6 +132,15 @@ unfolding sum_below
 sum_bound zero b f h = omega arith
 sum_bound (suc n) b f h = omega (arith, sum_bound n b f (λ i l. h i (omega arith)), h n (omega arith))
 
+-- a sum with one smaller term is smaller
+pub sum_less : (n s : ℕ) (f g : ℕ → ℕ) → s < n → ((i : ℕ) → i < n → i ≢ s → g i ≡ f i) → g s < f s → sum_below n g < sum_below n f
+unfolding sum_below
+sum_less zero s f g l h d = absurd (omega arith)
+sum_less (suc n) s f g l h d = elim (cases_eq s n) [
+  | inl q ↦ omega (arith, sum_equal n g f (λ i b. h i (omega arith) (λ e. omega arith)), ap f q, ap g q)
+  | inr o ↦ omega (arith, sum_less n s f g (omega arith) (λ i b. h i (omega arith)) d, h n (omega arith) (λ e. o (sym e)))
+]
+
 -- the coefficients of a sum may be replaced by their residues
 pub sum_reduce : (p n : ℕ) (f g : ℕ → ℕ) → sum_below n (λ k. f k % p * g k) % p ≡ sum_below n (λ k. f k * g k) % p
 sum_reduce p n f g = sum_same p n (λ k. f k % p * g k) (λ k. f k * g k) (λ k l. mul-mod_first (f k) (g k) p)

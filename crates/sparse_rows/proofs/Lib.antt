@@ -1,5 +1,6 @@
 pub mod Building
 pub mod Cuts
+pub mod Filling
 pub mod Grouping
 pub mod Loops
 pub mod Spread

@@ -1,9 +1,9 @@
 // Cells brought into the order of their places, where they stand.
-ghost use Rattle.std.specs.Prelude.{◌≡◌, ◌<◌, ◌≤◌, ◌+◌, ◌-◌, ℕ, length, map, All, IfOk, OnOk};
+ghost use Rattle.std.specs.Prelude.{◌≡◌, ◌<◌, ◌≤◌, ◌+◌, ◌-◌, ℕ, length, map, slice_index, All, IfOk, OnOk};
 ghost use Rattle.std.specs.List.Sorted.{IsNonDecreasingBy, IsPermutation};
 ghost use Rattle.residue_words.specs.Matrix.{list_of};
 ghost use Rattle.sparse_rows.specs.Cells.{AreGrouped, row_of};
-ghost use Rattle.sparse_rows.specs.Stored.{AreStarts, count_of};
+ghost use Rattle.sparse_rows.specs.Stored.{AreStarts, IsFilling, count_of};
 
 use crate::cells::Cell;
 use crate::group::running_sums;
@@ -34,7 +34,7 @@ fn group_by_rows(alloc: Global, height: u32, cells: &mut [Cell]) -> Result<Vec<u
     drop(counts);
     let mut next = Vec::from_slice(alloc, &starts)?;
     for i in 0..height as usize {
-        fill_part(cells, &mut next, i, starts[i + 1]);
+        fill_part(&starts, &mut next, i, cells);
     }
     Ok(starts)
 }
@@ -51,8 +51,17 @@ fn row_counts(alloc: Global, height: u32, cells: &[Cell]) -> Result<Vec<usize>, 
     Ok(counts)
 }
 
-// Exchanges the next cell of part i with that at the next place of the part where it belongs, until part i is filled.
-fn fill_part(cells: &mut [Cell], next: &mut [usize], i: usize, end: usize) {
+// Exchanges the next cell of part i with that at the next place of the part where it belongs, until part i is filled. No
+// part loses a cell of its row, so the parts that were filled stay so.
+fn fill_part(starts: &[usize], next: &mut [usize], i: usize, cells: &mut [Cell])
+    requires part { i + 1 < length starts.now }
+    requires filling { IsFilling (map row_of cells.old) starts.now next.old }
+    ensures filling { IsFilling (map row_of cells.new) starts.now next.new }
+    ensures filled { slice_index next.new i ≡ slice_index starts.now (i + 1) }
+    ensures kept { (r : ℕ) → slice_index next.old r ≤ slice_index next.new r }
+    ensures permutation { IsPermutation cells.old cells.new }
+{
+    let end = starts[i + 1];
     while next[i] < end {
         let row = cells[next[i]].row() as usize;
         cells.swap(next[i], next[row]);

@@ -34,6 +34,61 @@ fn listed(alloc: Global, rows: &Rows) -> Result<Vec<(u32, u32, u64)>, AllocError
     Ok(list)
 }
 
+// The sum modulo 7 of what stands at a place.
+fn sum_at(triples: &[(u32, u32, u64)], i: u32, j: u32) -> u64 {
+    let mut sum = 0u64;
+    for (a, b, v) in triples {
+        if *a == i && *b == j {
+            sum = sum.wrapping_add(*v) % 7;
+        }
+    }
+    sum
+}
+
+// The entries of the matrix of the sums, looked up place by place.
+fn sums(
+    alloc: Global,
+    m: u32,
+    n: u32,
+    triples: &[(u32, u32, u64)],
+) -> Result<Vec<(u32, u32, u64)>, AllocError> {
+    let mut list = Vec::new(alloc);
+    for i in 0..m {
+        for j in 0..n {
+            let sum = sum_at(triples, i, j);
+            if sum != 0 {
+                list.push((i, j, sum))?;
+            }
+        }
+    }
+    Ok(list)
+}
+
+// Places and values in no order, from a linear congruential generator.
+fn scattered(alloc: Global, count: u32, seed: u32) -> Result<Vec<(u32, u32, u64)>, AllocError> {
+    let mut list = Vec::new(alloc);
+    let mut state = seed;
+    for _ in 0..count {
+        state = state.wrapping_mul(1_664_525).wrapping_add(1_013_904_223);
+        list.push(((state >> 8) % 9, (state >> 16) % 6, (state >> 24) as u64 % 7))?;
+    }
+    Ok(list)
+}
+
+#[test]
+fn what_is_pushed_in_any_order_is_summed(rt: HostRuntime) -> Result<(), Fail> {
+    let alloc = rt.alloc();
+    for count in [0, 1, 2, 5, 20, 60, 300] {
+        let pushed = scattered(alloc, count, count)?;
+        assert_eq!(rt;
+            listed(alloc, &built(alloc, 9, 6, &pushed)?)?.as_slice(),
+            sums(alloc, 9, 6, &pushed)?.as_slice(),
+            "{count} pushed"
+        );
+    }
+    Ok(())
+}
+
 #[test]
 fn small_matrices(rt: HostRuntime) -> Result<(), Fail> {
     let alloc = rt.alloc();
@@ -100,20 +155,6 @@ fn small_matrices(rt: HostRuntime) -> Result<(), Fail> {
         listed(alloc, &x)?.as_slice()
     );
     assert_eq!(rt; built(alloc, 1, 1, &[(0, 0, 3), (0, 0, 4)])?.entries(), 0);
-    let mixed = [
-        (1, 3, 1),
-        (1, 1, 6),
-        (0, 2, 0),
-        (1, 3, 5),
-        (1, 1, 1),
-        (0, 4, 3),
-        (1, 0, 2),
-        (1, 4, 0),
-    ];
-    assert_eq!(rt;
-        listed(alloc, &built(alloc, 2, 5, &mixed)?)?.as_slice(),
-        [(0, 4, 3), (1, 0, 2), (1, 3, 6)].as_slice()
-    );
     assert_eq!(rt;
         listed(alloc, &Rows::identity(alloc, 2, &p)?)?.as_slice(),
         [(0, 0, 1), (1, 1, 1)].as_slice()
