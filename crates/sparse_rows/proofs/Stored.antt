@@ -1,7 +1,7 @@
 -- Rows one after another in one list, and the matrix that they stand for.
-use Rattle.std.proofs.Common.{ℕ, zero, suc, ◌≡◌, ◌+◌, ◌-◌, ◌<◌, ◌≤◌, inl, inr, List, [], ◌∷◌, ◌++◌, length, map, take, drop, get_or, slice_index, slice_range, sym, refl, ap, ap₂, subst, ◌∙◌, arith}
+use Rattle.std.proofs.Common.{ℕ, zero, suc, ◌≡◌, ◌+◌, ◌-◌, ◌<◌, ◌≤◌, inl, inr, List, [], ◌∷◌, ◌++◌, length, map, take, drop, slice_index, slice_range, sym, refl, ap, ap₂, subst, ◌∙◌, arith}
 use Rattle.std.specs.List.{range_with_len}
-use Rattle.std.proofs.lemmas.List.{drop_at, get_or_append_left, get_or_push, get_or_read, length-append, length-drop, length-take-le, length_push, take_all, take-append-le, drop-append-le}
+use Rattle.std.proofs.lemmas.List.{drop_at, get_or_append_left, get_or_push, length-append, length-drop, length-take-le, length_push, take_all, take-append-le, drop-append-le}
 use Rattle.std.proofs.lemmas.List.FromFn.{get_or-map-range_with_len, length-map-range_with_len, map-range_with_len_more}
 use Rattle.std.proofs.lemmas.Bool.{cases_lt}
 use Rattle.residue_words.specs.Matrix.{IsMatrix, Matrix, row}
@@ -21,20 +21,6 @@ starts_rise {n} {total} {starts} s (suc d) i l =
 pub starts_below : {n total : ℕ} {starts : List ℕ} → AreStarts n total starts → (i : ℕ) → i ≤ n → slice_index starts i ≤ total
 starts_below {n} {total} {starts} s i l =
     omega (arith, starts_rise s (n - i) i (omega arith), ap (slice_index starts) (let e : i + (n - i) ≡ n = omega arith in e), s.last)
-
--- part i is from `from` to `to`, within `total` items
-pub record IsPart (starts : List ℕ) (total i from to : ℕ) : Type 0 where
-  pub from_is : from ≡ slice_index starts i
-  pub to_is : to ≡ slice_index starts (i + 1)
-  pub up : from ≤ to
-  pub inside : to ≤ total
-
--- as it is read
-pub part_read : {n total : ℕ} {starts : List ℕ} → AreStarts n total starts → (i from to : ℕ) → i < n → from ≡ get_or starts i from → to ≡ get_or starts (i + 1) to → IsPart starts total i from to
-part_read {n} {total} {starts} s i from to l a b =
-    let begin : from ≡ slice_index starts i = get_or_read starts i from (omega (arith, s.long)) a 0 in
-    let end : to ≡ slice_index starts (i + 1) = get_or_read starts (i + 1) to (omega (arith, s.long)) b 0 in
-    record { from_is = begin; to_is = end; up = omega (arith, s.rising i l); inside = omega (arith, starts_below s (i + 1) (omega arith)) }
 
 -- how long a part is
 pub length_part : {n : ℕ} {starts : List ℕ} (xs : List ℕ) → AreStarts n (length xs) starts → (i : ℕ) → i < n → length (part starts xs i) + slice_index starts i ≡ slice_index starts (i + 1)

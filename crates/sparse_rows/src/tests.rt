@@ -70,7 +70,11 @@ fn scattered(alloc: Global, count: u32, seed: u32) -> Result<Vec<(u32, u32, u64)
     let mut state = seed;
     for _ in 0..count {
         state = state.wrapping_mul(1_664_525).wrapping_add(1_013_904_223);
-        list.push(((state >> 8) % 9, (state >> 16) % 6, (state >> 24) as u64 % 7))?;
+        list.push((
+            (state >> 8) % 9,
+            (state >> 16) % 6,
+            (state >> 24) as u64 % 7,
+        ))?;
     }
     Ok(list)
 }

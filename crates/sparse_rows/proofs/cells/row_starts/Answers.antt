@@ -1,4 +1,4 @@
-use Rattle.std.proofs.Common.{ℕ, ◌≡◌, ◌+◌, ◌-◌, ◌≤◌, ◌++◌, ◌∙◌, List, ap, ap₂, arith, length, replicate, take}
+use Rattle.std.proofs.Common.{ℕ, ◌≡◌, ◌+◌, ◌-◌, ◌≤◌, ◌++◌, ◌∙◌, List, ap, ap₂, arith, length, replicate}
 use Rattle.std.proofs.lemmas.List.{take_all}
 use Rattle.sparse_rows.specs.declared.cells.Cell.{Cell}
 use Rattle.sparse_rows.proofs.Cuts.{cuts_all, cuts_more, cuts_none}

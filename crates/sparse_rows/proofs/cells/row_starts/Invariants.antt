@@ -1,4 +1,3 @@
-use Rattle.std.proofs.Common.{get_or}
 use Rattle.sparse_rows.proofs.Cuts.{AreCutsSoFar}
 use Rattle.sparse_rows.proofs.cells.row_starts.Given as goal
 

@@ -1,4 +1,4 @@
-use Rattle.std.proofs.Common.{◌≡◌, ◌∙◌, [], ◌∷◌, ◌++◌, ap, ap₂, map, refl, sym}
+use Rattle.std.proofs.Common.{◌∙◌, [], ◌∷◌, ◌++◌, ap, ap₂, map, refl, sym}
 use Rattle.std.proofs.lemmas.List.{map_more, take_all}
 use Rattle.sparse_rows.proofs.cells.values.Goals as goal
 

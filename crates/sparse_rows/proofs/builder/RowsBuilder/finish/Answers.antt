@@ -43,7 +43,7 @@ returns-clause-matrix c =
     let kept : List Cell = take c.sum_cells-kept.result c.deref.result.now in
     let made : matrix_by f.height f.width (λ i j. weight (place_of i j) kept) ≡ built f.modulus f.height f.width (map triple_of f.cells.items) =
     sums_built f.modulus f.height f.width f.cells.items c.deref_mut-2.result.now kept c.self.invariant.width_small
-    (reordered _ _ c.sort_cells.new.cells _ _ _ c.deref_mut.ensures.value c.sort_cells.ensures.permutation c.deref_mut-2.ensures.value c.sort_cells.auto.cells f.cells.ok.0) 
+    (reordered _ _ c.sort_cells.new.cells _ _ _ c.deref_mut.ensures.value c.sort_cells.ensures.permutation c.deref_mut-2.ensures.value c.sort_cells.auto.cells f.cells.ok.0)
     (summed _ c.sum_cells-kept.result _ _ c.sort_cells.new.cells _ _ c.sum_cells-kept.new.cells _ _ _ c.deref_mut.ensures.value c.sort_cells.auto.cells c.deref_mut-2.ensures.value f.cells.ok.0
     c.sum_cells-kept.ensures.sums c.deref.ensures.value c.sum_cells-kept.auto.cells) in
     subst (λ (b : Building). IfOk c.from_cells.result (λ rows. rows.matrix ≡ built b.modulus b.height b.width b.pushed)) c.self.view_is (rw made at c.from_cells.ensures.matrix)

@@ -1,5 +1,4 @@
-use Rattle.std.proofs.Common.{◌≡◌, List, ap, ap₂, arith, map, sym}
-use Rattle.sparse_rows.specs.Cells.{column_of}
+use Rattle.std.proofs.Common.{arith}
 use Rattle.sparse_rows.specs.declared.cells.Cell.{Cell}
 use Rattle.sparse_rows.proofs.Cuts.{cells_matrix, cells_stored}
 use Rattle.sparse_rows.proofs.rows.Rows.from_cells.Goals as goal
