@@ -9,7 +9,7 @@ use Rattle.residue_words.specs.Matrix.{IsMatrix, IsVector, entry}
 use Rattle.sparse_rows.specs.Rows.{ResidueMatrix}
 use Rattle.sparse_rows.specs.Stored.{with_row}
 use Rattle.dense_finish.specs.Elimination.{ArePlaces, IsLeft, place_of}
-use Rattle.dense_finish.proofs.Growing.{grown_before, grown_last, grown_matrix}
+use Rattle.sparse_rows.proofs.Loops.{matrix_more, row_before, row_last}
 
 pub places_none : (rows columns row_names names : List ℕ) {pivots : List Pair} → pivots ≡ [] → ArePlaces (take 0 rows) columns row_names names pivots
 places_none rows columns row_names names {pivots} is = record { long = ap length is; row = λ k l. absurd (omega arith); column = λ k l. absurd (omega arith) }
@@ -80,13 +80,13 @@ module _ {p i next : ℕ} {row_names columns v : List ℕ} {rows : List (List �
     (rising : (s t : ℕ) → s < t → t < length row_names → slice_index row_names s < slice_index row_names t) (vector : IsVector p (length columns) v)
     (modulus : M.modulus ≡ L.modulus) (is : M.matrix ≡ with_row L.matrix v) where
   old : (x k : ℕ) → x < i → entry M.matrix x k ≡ entry L.matrix x k
-  old x k l = ap (λ A. entry A x k) is ∙ ap (λ u. slice_index u k) (grown_before v h.matrix x (omega (arith, h.height)))
+  old x k l = ap (λ A. entry A x k) is ∙ ap (λ u. slice_index u k) (row_before v h.matrix x (omega (arith, h.height)))
 
   last : (x k : ℕ) → x ≡ i → entry M.matrix x k ≡ slice_index v k
-  last x k e = ap (λ A. entry A x k) is ∙ ap (λ t. entry (with_row L.matrix v) t k) (e ∙ sym h.height) ∙ ap (λ u. slice_index u k) (grown_last v h.matrix)
+  last x k e = ap (λ A. entry A x k) is ∙ ap (λ t. entry (with_row L.matrix v) t k) (e ∙ sym h.height) ∙ ap (λ u. slice_index u k) (row_last v h.matrix)
 
   grown : IsMatrix p M.matrix
-  grown = rw is (grown_matrix h.matrix (rw h.width vector))
+  grown = rw is (matrix_more h.matrix (rw h.width vector))
 
   -- row i is the next that has a name
   pub left_named : next < length row_names → slice_index row_names next ≡ i → ((k : ℕ) → k < length columns → slice_index v k ≡ place_of rows next (slice_index columns k)) →

@@ -6,25 +6,10 @@ use Rattle.std.proofs.lemmas.Bool.{cases_eq}
 use Rattle.std.proofs.lemmas.List.{get_or-set_same, get_or-set_other, length-set}
 use Rattle.residue_words.specs.Matrix.{Matrix, IsMatrix, IsVector, entry, row}
 use Rattle.sparse_rows.specs.Stored.{with_row}
+use Rattle.sparse_rows.proofs.Loops.{matrix_more, row_before, row_last}
 use Rattle.dense_finish.specs.declared.pivots.Found.{Found}
 use Rattle.dense_finish.specs.Elimination.{Extends, IsFound, IsPivotOf, IsPut, IsTaken, named_entry}
 use Rattle.dense_finish.proofs.Naming.{named_or_not}
-
--- the rows before stay, and the last is v
-pub grown_before : {p : ℕ} {A : Matrix} (v : List ℕ) → IsMatrix p A → (i : ℕ) → i < A.height → row (with_row A v) i ≡ row A i
-grown_before {p} {A} v m i l = get_or-append A.rows (v ∷ []) [] i (omega (arith, m.len))
-
-pub grown_last : {p : ℕ} {A : Matrix} (v : List ℕ) → IsMatrix p A → row (with_row A v) A.height ≡ v
-grown_last {p} {A} v m = ap (row (with_row A v)) (sym m.len) ∙ get_or-append_seam A.rows v [] []
-
-pub grown_matrix : {p : ℕ} {A : Matrix} {v : List ℕ} → IsMatrix p A → IsVector p A.width v → IsMatrix p (with_row A v)
-grown_matrix {p} {A} {v} m vector = record {
-  len = length-append A.rows (v ∷ []) ∙ ap (λ t. t + 1) m.len;
-  each = λ i l. elim (cases_eq i A.height) [
-    | inl e ↦ subst (IsVector p A.width) (sym (ap (row (with_row A v)) e ∙ grown_last v m)) vector
-    | inr d ↦ subst (IsVector p A.width) (sym (grown_before v m i (omega arith))) (m.each i (omega arith))
-  ];
-}
 
 -- residues that are put make a vector
 pub put_vector : {p n m : ℕ} {name value : ℕ → ℕ} {v : List ℕ} → 0 < p → ((k : ℕ) → k < m → value k < p) → IsPut n m name value v → IsVector p n v
@@ -52,10 +37,10 @@ pub record Grows (names : List ℕ) (i c : ℕ) (q : List ℕ) (f g : Found) : T
 
 module _ {p width i c : ℕ} {names q : List ℕ} {f g : Found} (found : IsFound p names width i f) (extends : Extends p names i c q f g) where
   grown_row : (k : ℕ) → k < length f.columns.items → row g.u.matrix k ≡ row f.u.matrix k
-  grown_row k l = ap (λ A. row A k) extends.matrix ∙ grown_before extends.row found.matrix k (omega (arith, found.height))
+  grown_row k l = ap (λ A. row A k) extends.matrix ∙ row_before extends.row found.matrix k (omega (arith, found.height))
 
   grown_end : row g.u.matrix (length f.columns.items) ≡ extends.row
-  grown_end = ap (λ A. row A (length f.columns.items)) extends.matrix ∙ ap (row (with_row f.u.matrix extends.row)) (sym found.height) ∙ grown_last extends.row found.matrix
+  grown_end = ap (λ A. row A (length f.columns.items)) extends.matrix ∙ ap (row (with_row f.u.matrix extends.row)) (sym found.height) ∙ row_last extends.row found.matrix
 
   pub grows : Grows names i c q f g
   grows = record {
@@ -78,7 +63,7 @@ pub found_more : {p width i c : ℕ} {names v q : List ℕ} {f g : Found} → 0 
     Extends p names i c q f g → IsPivotOf p (length names) c f.taken.items v q → IsFound p names width (i + 1) g
 found_more {p} {width} {i} {c} {names} {v} {q} {f} {g} pos inside free found extends pivot = record {
   modulus = extends.modulus ∙ found.modulus;
-  matrix = rw extends.matrix (grown_matrix found.matrix (put_vector pos pivot.vector.residues extends.put));
+  matrix = rw extends.matrix (matrix_more found.matrix (put_vector pos pivot.vector.residues extends.put));
   wide = ap (λ A. A.width) extends.matrix ∙ found.wide;
   height = ap (λ A. A.height) extends.matrix ∙ ap (λ t. t + 1) found.height ∙ sym grown.count;
   long = ap length extends.rows ∙ length-append f.rows.items (i ∷ []) ∙ ap (λ t. t + 1) found.long ∙ sym grown.count;

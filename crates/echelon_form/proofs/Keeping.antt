@@ -9,22 +9,13 @@ use Rattle.row_space.specs.Rows.{of_rows}
 use Rattle.row_space.proofs.Rows as Rows
 use Rattle.row_space.proofs.Spans.{same_span_turned}
 use Rattle.sparse_rows.specs.Stored.{with_row}
+use Rattle.triangular_solve.proofs.Appending.{of_own_rows, with_own_row}
 use Rattle.triangular_solve.specs.Leads.{Appends, KeptRows, IsSound}
 use Rattle.echelon_form.specs.Keeping.{Keeps}
 
--- a matrix is that of its rows, also with one row more
-of_own_rows : (p : ℕ) (A : Matrix) → IsMatrix p A → of_rows A.width A.rows ≡ A
-of_own_rows p A m = ap (λ h. record { height = h; width = A.width; rows = A.rows }) m.len
-
-with_own_row : (p : ℕ) (A : Matrix) (v : List ℕ) → IsMatrix p A → Rows.with_row A.width A.rows v ≡ with_row A v
-with_own_row p A v m = ap (λ h. record { height = h; width = A.width; rows = A.rows ++ v ∷ [] }) (length-append A.rows (v ∷ []) ∙ ap (λ h. h + 1) m.len)
-
+-- a matrix that is made of its own rows
 own_matrix : (p : ℕ) (A : Matrix) → IsMatrix p A → IsMatrix p (of_rows A.width A.rows)
 own_matrix p A m = subst (IsMatrix p) (sym (of_own_rows p A m)) m
-
--- one row more leaves a matrix of residues
-pub matrix_more : (p : ℕ) (A : Matrix) (v : List ℕ) → IsMatrix p A → IsVector p A.width v → IsMatrix p (with_row A v)
-matrix_more p A v m vector = subst (IsMatrix p) (with_own_row p A v m) (Rows.matrix_with_row p A.width A.rows v (own_matrix p A m) vector)
 
 -- the row space grows by it
 space_more : (p : ℕ) (A : Matrix) (v u : List ℕ) → 2 ≤ p → IsMatrix p A → IsVector p A.width v → IsCombination p A u → IsCombination p (with_row A v) u

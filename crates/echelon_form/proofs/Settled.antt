@@ -15,7 +15,7 @@ use Rattle.sparse_rows.specs.Stored.{with_row}
 use Rattle.triangular_solve.specs.Leads.{KeptRows, IsSettled, IsSound}
 use Rattle.echelon_form.specs.Form.{Form, IsEchelon, IsFormOf}
 use Rattle.echelon_form.specs.Settling.{IsOrder, AreSettled, IsSettledRow}
-use Rattle.echelon_form.proofs.Keeping.{matrix_more}
+use Rattle.sparse_rows.proofs.Loops.{matrix_more}
 
 -- at first there is none
 pub settled_none : (kept : KeptRows) (order : List (ℕ × ℕ)) (E : Matrix) → E ≡ record { height = 0; width = kept.matrix.width; rows = [] } → AreSettled kept order 0 E
@@ -30,7 +30,7 @@ settled_none kept order E e = record {
 pub settled_more : {kept : KeptRows} {order : List (ℕ × ℕ)} {t : ℕ} {E : Matrix} (s : ResidueRow) → AreSettled kept order t E →
     ((c : ℕ × ℕ) → IsSettledRow kept (slice_index_or order t c).1 s) → AreSettled kept order (t + 1) (with_row E s.row)
 settled_more {kept} {order} {t} {E} s before here = record {
-  matrix = matrix_more kept.modulus E s.row before.matrix (subst (λ n. IsVector kept.modulus n s.row) (sym before.width) (here (0, 0)).vector);
+  matrix = matrix_more before.matrix (subst (λ n. IsVector kept.modulus n s.row) (sym before.width) (here (0, 0)).vector);
   height = ap (λ n. n + 1) before.height;
   width = before.width;
   each = λ k c l. elim (cases_eq k t) [

@@ -1,14 +1,14 @@
 -- What the loops keep, and how it grows.
-use Rattle.std.proofs.Common.{ℕ, ◌≡◌, ◌+◌, ◌-◌, ◌*◌, ◌%◌, ◌<◌, ◌≤◌, inl, inr, List, [], ◌∷◌, ◌++◌, length, map, take, cond, eqb, slice_index, slice_set, sym, ap, ap₂, ◌∙◌, arith}
+use Rattle.std.proofs.Common.{ℕ, ◌≡◌, ◌+◌, ◌-◌, ◌*◌, ◌%◌, ◌<◌, ◌≤◌, inl, inr, List, [], ◌∷◌, ◌++◌, length, map, take, cond, eqb, slice_index, slice_set, sym, subst, ap, ap₂, ◌∙◌, arith}
 use Rattle.std.specs.List.{range_with_len}
 use Rattle.std.specs.Prelude.{◌==◌, if◌then◌else◌}
 use Rattle.std.proofs.lemmas.Bool.{cases_eq, cases_lt, cond-true, cond-false, eq-eqb, ne_eqb}
-use Rattle.std.proofs.lemmas.List.{get_or_append_left, get_or-append_right, get_or-set_other, get_or-set_same, get_or-take, length-append, length-set, length-take-le, length_push, map_push, take_more}
+use Rattle.std.proofs.lemmas.List.{get_or_append_left, get_or-append_right, get_or_push, get_or-set_other, get_or-set_same, get_or-take, length-append, length-set, length-take-le, length_push, map_push, take_more}
 use Rattle.std.proofs.lemmas.List.FromFn.{map-range_with_len_more}
 use Rattle.residue_words.specs.Matrix.{Matrix, list_of, row, zeros}
 use Rattle.residue_words.proofs.Vectors.{at_list_of, at_zeros, length_list_of, list_equal}
 use Rattle.residue_words.specs.Residues.{sum_below}
-use Rattle.residue_words.specs.Matrix.{IsVector, entry}
+use Rattle.residue_words.specs.Matrix.{IsMatrix, IsVector, entry}
 use Rattle.residue_words.proofs.Residues.{add_same}
 use Rattle.residue_words.proofs.Sums.{sum_more, sum_none}
 use native.Mathlib.Nat.{mod-mod, zero-mod}
@@ -25,6 +25,23 @@ pub matrix_by_more : (i n : ℕ) (f : ℕ → ℕ → ℕ) (r : List ℕ) → r 
 matrix_by_more i n f r e =
     ap (λ rs. sized (i + 1) n rs)
     (ap (λ t. map (λ k. list_of n (f k)) (range_with_len 0 i) ++ t ∷ []) e ∙ sym (map-range_with_len_more (λ k. list_of n (f k)) 0 i i (omega arith)))
+
+-- the rows before stay, and the last is v
+pub row_before : {p : ℕ} {A : Matrix} (v : List ℕ) → IsMatrix p A → (i : ℕ) → i < A.height → row (with_row A v) i ≡ row A i
+row_before {p} {A} v m i l = get_or_append_left A.rows (v ∷ []) [] i (omega (arith, m.len))
+
+pub row_last : {p : ℕ} {A : Matrix} (v : List ℕ) → IsMatrix p A → row (with_row A v) A.height ≡ v
+row_last {p} {A} v m = get_or_push A.rows v [] A.height m.len
+
+-- one row more leaves a matrix of residues
+pub matrix_more : {p : ℕ} {A : Matrix} {v : List ℕ} → IsMatrix p A → IsVector p A.width v → IsMatrix p (with_row A v)
+matrix_more {p} {A} {v} m vector = record {
+  len = length_push A.rows v ∙ ap (λ t. t + 1) m.len;
+  each = λ i l. elim (cases_eq i A.height) [
+    | inl e ↦ subst (IsVector p A.width) (sym (ap (row (with_row A v)) e ∙ row_last v m)) vector
+    | inr d ↦ subst (IsVector p A.width) (sym (row_before v m i (omega arith))) (m.each i (omega arith))
+  ];
+}
 
 -- one named row more
 pub selected_more : (A : Matrix) (named : List ℕ) (i : ℕ) → with_row (selected A named) (row A i) ≡ selected A (named ++ i ∷ [])
