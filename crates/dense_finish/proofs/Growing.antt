@@ -4,7 +4,7 @@ use Rattle.std.proofs.Math.ListN.{get_or-append}
 use Rattle.std.proofs.Math.Seq.{get_or-append_seam}
 use Rattle.std.proofs.lemmas.Bool.{cases_eq}
 use Rattle.std.proofs.lemmas.List.{get_or-set_same, get_or-set_other, length-set}
-use Rattle.residue_words.specs.Matrix.{Matrix, IsMatrix, IsVector, entry, row}
+use Rattle.residue_words.specs.Matrix.{IsVector, entry, row}
 use Rattle.sparse_rows.specs.Stored.{with_row}
 use Rattle.sparse_rows.proofs.Loops.{matrix_more, row_before, row_last}
 use Rattle.dense_finish.specs.declared.pivots.Found.{Found}
