@@ -1,22 +1,33 @@
 #!/usr/bin/env bash
-# Times reading a text of a million entries into compressed rows, and writing it again, each by itself.
-# It builds a small program over the library in a copy of the repository, and prints megabytes a second (best of three).
+# Times reading texts of two million entries into compressed rows, and writing the first again, each by itself: ten a row in order; one row
+# in order, in which some values are 0 modulo the prime; all in no order; and in no order at few places, where most are summed away.
+# It builds a small program over the library in a copy of the repository. It prints megabytes a second (best of three), and the peak memory
+# of the whole program in bytes an entry of the text.
 set -eu
 cd "$(dirname "$0")/.."
-entries=${1:-1000000}
+entries=${1:-2000000}
 mkdir -p bench/out
-text=$PWD/bench/out/million.sms
-python3 - "$entries" "$text" <<'P'
+python3 - "$entries" <<'P'
 import random, sys
-n, path = int(sys.argv[1]), sys.argv[2]
+n = int(sys.argv[1])
 random.seed(2)
+
+def write(name, height, width, entries):
+    with open(f"bench/out/{name}.sms", "w") as f:
+        f.write(f"{height} {width} M\n")
+        f.writelines(f"{i} {j} {v}\n" for i, j, v in entries)
+        f.write("0 0 0\n")
+
+def value():
+    return random.randrange(1, 42013)
+
 rows = n // 10
-with open(path, "w") as f:
-    f.write(f"{rows} {rows} M\n")
-    for i in range(1, rows + 1):
-        for j in sorted(random.sample(range(1, rows + 1), 10)):
-            f.write(f"{i} {j} {random.randrange(1, 42013)}\n")
-    f.write("0 0 0\n")
+ordered = [(i, j, value()) for i in range(1, rows + 1) for j in sorted(random.sample(range(1, rows + 1), 10))]
+write("ordered", rows, rows, ordered)
+random.shuffle(ordered)
+write("shuffled", rows, rows, ordered)
+write("one_row", 1, n, [(1, j, random.randrange(-999999999, 999999999)) for j in range(1, n + 1)])
+write("summed", 100, 100, [(random.randint(1, 100), random.randint(1, 100), value()) for _ in range(n)])
 P
 copy=$(mktemp -d)
 trap 'rm -rf "$copy"' EXIT
@@ -62,10 +73,25 @@ R
 (cd "$copy/crates/matrices_timed" && rt run <<< "" > "$copy/log" 2>&1 || true)
 program=$copy/crates/matrices_timed/out/matrices_timed
 test -x "$program" || { tail -n 30 "$copy/log"; exit 1; }
-bytes=$(stat -c %s "$text")
-for _ in 1 2 3; do
-    "$program" < "$text" 2>> "$copy/times" > "$copy/written"
-done
-cmp "$text" "$copy/written" && echo "the written text is the text that was read"
-sort -n "$copy/times" | head -n 1 | awk -v b="$bytes" '{ printf "read %.1f MB: %.0f MB/s\n", b / 1e6, b / $1 }'
-sort -n -k 2 "$copy/times" | head -n 1 | awk -v b="$bytes" '{ printf "written %.1f MB: %.0f MB/s\n", b / 1e6, b / $2 }'
+python3 - "$program" "$entries" <<'P'
+import filecmp, os, subprocess, sys
+program, entries = sys.argv[1], int(sys.argv[2])
+
+def run(name):
+    with open(f"bench/out/{name}.sms") as text, open(f"bench/out/{name}.written", "w") as written:
+        child = subprocess.Popen([program], stdin=text, stdout=written, stderr=subprocess.PIPE, text=True)
+        times = child.stderr.read().split()
+        _, status, usage = os.wait4(child.pid, 0)
+    assert status == 0, status
+    return int(times[0]), int(times[1]), usage.ru_maxrss * 1024
+
+for name in ["ordered", "one_row", "shuffled", "summed"]:
+    size = os.path.getsize(f"bench/out/{name}.sms")
+    runs = [run(name) for _ in range(3)]
+    read, written, peak = (min(r[k] for r in runs) for k in range(3))
+    line = f"{name}: {size / 1e6:.1f} MB read at {size / read:.0f} MB/s, peak {peak / entries:.1f} bytes an entry"
+    if name == "ordered":
+        assert filecmp.cmp("bench/out/ordered.sms", "bench/out/ordered.written", shallow=False)
+        line += f"; the same text written at {size / written:.0f} MB/s"
+    print(line)
+P

@@ -1,6 +1,6 @@
 #!/usr/bin/env bash
 # Times reading alone, modulo a small and a large prime: `spasm inverse` on one row of two million entries, which reads the whole text and
-# then refuses its shape. No entry is 0 modulo the first prime, since a row with such entries is sorted as it is built.
+# then refuses its shape.
 # Prints the size of the text, the seconds (best of three), megabytes a second, and the peak memory of the run in bytes an entry.
 set -eu
 cd "$(dirname "$0")/.."
@@ -14,8 +14,7 @@ random.seed(1)
 with open(path, "w") as f:
     f.write(f"1 {n} M\n")
     for j in range(1, n + 1):
-        v = random.randrange(-999999999, 999999999)
-        f.write(f"1 {j} {v + (v % 42013 == 0)}\n")
+        f.write(f"1 {j} {random.randrange(-999999999, 999999999)}\n")
     f.write("0 0 0\n")
 P
 ./spasm rank < examples/x.sms > /dev/null
