@@ -1,12 +1,13 @@
 -- The example of 3 x 3 modulo 7 worked.
 use Rattle.std.proofs.Common.{ℕ, zero, suc, ◌≡◌, ◌≢◌, ◌+◌, ◌*◌, ◌%◌, ◌<◌, List, [], ◌∷◌, slice_index, refl, ap, arith, lit<}
 use Rattle.residue_words.specs.Residues.{sum_below}
-use Rattle.residue_words.specs.Matrix.{IsMatrix, IsVector, IsCombination, row, entry, combine}
+use Rattle.residue_words.specs.Matrix.{IsMatrix, IsVector, IsCombination, row, entry, combine, list_of}
 use Rattle.residue_words.proofs.Vectors.{list_equal}
 use Rattle.row_space.specs.Echelon.{HasLeads, IsRref}
 use Rattle.row_space.specs.Kernel.{EndsAt, HasEnds, IsKernel, IsNull}
 use Rattle.row_space.specs.Solution.{Annuls, IsReducedSolution, IsRefutingCombination}
-use Rattle.row_space.specs.Example.{IsWorked, example, example_kernel, example_rref}
+use Rattle.row_space.specs.Factors.{AreFactors, ShowsKernel, ShowsRref, col_at, row_at}
+use Rattle.row_space.specs.Example.{IsWorked, example, example_kernel, example_left, example_pivots, example_rref}
 use Rattle.row_space.proofs.Spans.{same_span_of_rows}
 
 -- what holds of 0, of 0 and 1, of 0 and 1 and 2
@@ -147,11 +148,54 @@ refutation_worked = record {
   reduced = λ z i a end. absurd (end.nonzero (annuls_nothing z a i end.inside));
 }
 
+-- the pivots' rows and columns
+factors_worked : AreFactors 7 example example_pivots example_left example_rref
+unfolding sum_below
+factors_worked = record {
+  left = record {
+    len = refl;
+    each = below_three (λ i. IsVector 7 2 (row example_left i)) (two_vector 7 2 1 (lit< tt) (lit< tt)) (two_vector 7 1 0 (lit< tt) (lit< tt)) (two_vector 7 3 1 (lit< tt) (lit< tt));
+  };
+  right = rref_matrix;
+  left_height = refl;
+  left_width = refl;
+  right_height = refl;
+  right_width = refl;
+  rows_below = below_two (λ k. row_at example_pivots k < 3) (lit< tt) (lit< tt);
+  columns_below = below_two (λ k. col_at example_pivots k < 3) (lit< tt) (lit< tt);
+  rows_distinct = of_two (λ k t. row_at example_pivots k ≢ row_at example_pivots t) (λ e. absurd (omega arith));
+  columns_distinct = of_two (λ k t. col_at example_pivots k ≢ col_at example_pivots t) (λ e. absurd (omega arith));
+  product = below_three (λ i. row example i ≡ combine 7 (row example_left i) example_rref) refl refl refl;
+  left_pivot = below_two (λ k. entry example_left (row_at example_pivots k) k ≢ 0) (λ e. absurd (omega arith)) (λ e. absurd (omega arith));
+  right_pivot = below_two (λ k. entry example_rref k (col_at example_pivots k) ≢ 0) (λ e. absurd (omega arith)) (λ e. absurd (omega arith));
+  left_after = of_two (λ k t. entry example_left (row_at example_pivots k) t ≡ 0) refl;
+  right_after = of_two (λ k t. entry example_rref t (col_at example_pivots k) ≡ 0) refl;
+}
+  where
+    -- what holds of the pair 0 and 1
+    of_two : (P : ℕ → ℕ → Type 0) → P 0 1 → (k t : ℕ) → k < t → t < 2 → P k t
+    of_two P h k t a b = below_two (λ t. k < t → P k t) (λ l. absurd (omega arith)) (λ l. below_one (λ k. P k 1) h k l) t b a
+
+rref_shown : ShowsRref 7 example_rref example_rref
+unfolding sum_below
+rref_shown = record {
+  matrix = rref_matrix;
+  height = refl;
+  width = refl;
+  form = (0 ∷ 2 ∷ [], rref_leads, below_two (λ k. row example_rref k ≡ combine 7 (list_of 2 (λ t. entry example_rref k (slice_index (0 ∷ 2 ∷ []) t))) example_rref) refl refl);
+}
+
+kernel_shown : ShowsKernel 7 example 2 example_kernel
+kernel_shown = record { matrix = kernel_worked.matrix; height = refl; width = refl; form = (1 ∷ [], kernel_ends); null = kernel_worked.null }
+
 pub worked : IsWorked
 worked = record {
   rref = rref_worked;
   rank = (example_rref, rref_worked, refl);
   kernel = kernel_worked;
   solution = solution_worked;
+  rank_certificate = record { modulus = refl; factors = factors_worked; shows = tt };
+  rref_certificate = record { modulus = refl; factors = factors_worked; shows = rref_shown };
+  kernel_certificate = record { modulus = refl; factors = factors_worked; shows = kernel_shown };
   refutation = refutation_worked;
 }
