@@ -73,7 +73,20 @@ fn product(left: &Rows, right: &Rows, i: u32, j: u32, p: u64) -> u128
     sum
 }
 
-// The factors by so many workers have so many pivots and multiply to the matrix.
+// Whether two matrices have the same entries.
+fn is_same(left: &Rows, right: &Rows) -> bool {
+    if left.height() != right.height() || left.width() != right.width() {
+        return false;
+    }
+    for i in 0..left.height() {
+        if left.cols(i) != right.cols(i) || left.vals(i) != right.vals(i) {
+            return false;
+        }
+    }
+    true
+}
+
+// The factors by so many workers have so many pivots, multiply to the matrix, and are those by one worker.
 fn check<R: Threads + Sync + Abort>(
     rt: &R,
     alloc: Global,
@@ -86,6 +99,9 @@ fn check<R: Threads + Sync + Abort>(
 {
     let f = finish(rt, alloc, a, workers)?;
     assert_eq!(rt; f.pivots.items().len(), pivots);
+    let by_one = finish(rt, alloc, a, 1)?;
+    assert_eq!(rt; f.pivots.items(), by_one.pivots.items());
+    assert!(rt; is_same(&f.l, &by_one.l) && is_same(&f.u, &by_one.u));
     for i in 0..a.height() {
         for j in 0..a.width() {
             assert_eq!(rt;

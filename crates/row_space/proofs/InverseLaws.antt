@@ -1,10 +1,9 @@
 -- Inverses: at most one, and then no null vector but zero. And that the refuting system of an unsolvable system is solvable.
-use Rattle.std.proofs.Common.{ℕ, ◌≡◌, ◌≢◌, ◌*◌, ◌%◌, ◌<◌, ◌≤◌, List, slice_index, sym, ap, ◌∙◌, arith, mod-eq_of_lt, mul_comm, mul-one, mul-zero}
+use Rattle.std.proofs.Common.{ℕ, ◌≡◌, ◌*◌, ◌%◌, ◌<◌, List, slice_index, sym, ap, ◌∙◌, arith, mod-eq_of_lt, mul-one, mul-zero}
 use Rattle.residue_words.specs.Residues.{sum_below}
-use Rattle.residue_words.specs.Matrix.{Matrix, apply, combine, dot, entry, list_of, row, zeros}
+use Rattle.residue_words.specs.Matrix.{apply, combine, dot, entry, list_of, row, zeros}
 use Rattle.residue_words.proofs.Sums.{sum_equal, sum_single}
 use Rattle.residue_words.proofs.Vectors.{at_apply, at_combine, at_list_of, at_zeros, delta, delta_other, delta_same, dot_combine, entry_residue, length_list_of, list_equal, matrix_equal, sum_delta}
-use Rattle.row_space.specs.Inverse.{IsInverse}
 use Rattle.row_space.specs.Laws.{InverseExcludesNull, InverseIsUnique, RefutingIsSolvable}
 use Rattle.row_space.proofs.KernelLaws.{dot_turned, dot_zeros}
 use Rattle.row_space.proofs.Refuting.{refuting}

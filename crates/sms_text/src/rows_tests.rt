@@ -4,6 +4,7 @@ ghost use Rattle.std.specs.Prelude.{◌≤◌, IfOk};
 use crate::{Kind, MemorySink, Put, Reader, Sink, SteadySource, TextError, read_rows, write_rows};
 use residue_words::Modulus;
 use sparse_rows::Rows;
+use std::alloc::Global;
 use std::test::Fail;
 
 const READ: &[u8] =
@@ -11,9 +12,10 @@ const READ: &[u8] =
 
 const WRITTEN: &[u8] = b"3 3 M\n1 1 2\n1 2 4\n1 3 1\n2 1 1\n2 2 2\n3 1 3\n3 2 6\n3 3 1\n0 0 0\n";
 
-// A sink that keeps nothing, but notes the length of the last put and the least of those before it.
+// A sink that keeps nothing, but counts the puts, and notes the length of the last one and the least of those before it.
 #[derive(Drop)]
 struct Lengths {
+    count: u32,
     least: usize,
     last: usize,
 }
@@ -26,6 +28,7 @@ impl Sink for Lengths {
     ghost faults = { λ s. 0 };
 
     fn put(&mut self, piece: &[u8]) -> Put {
+        self.count = self.count.saturating_add(1);
         self.least = self.least.min(self.last);
         self.last = piece.len();
         Put::Took(piece.len())
@@ -61,14 +64,38 @@ fn a_text_is_read_and_written(rt: HostRuntime) -> Result<(), Fail> {
     Ok(())
 }
 
+// The matrix of a text modulo 7.
+fn rows_of(alloc: Global, text: &[u8]) -> Result<Rows, Fail> {
+    let mut source = SteadySource::new(Vec::from_slice(alloc, text)?, 9);
+    let mut reader = Reader::new(alloc, 99)?;
+    match read_rows(&mut reader, alloc, &mut source, &Modulus::new(7)) {
+        Ok(rows) => Ok(rows),
+        Err(_) => Err(Fail::new("not read")),
+    }
+}
+
+#[test]
+fn what_is_written_reads_back(rt: HostRuntime) -> Result<(), Fail> {
+    let alloc = rt.alloc();
+    for text in [READ, WRITTEN] {
+        let rows = rows_of(alloc, text)?;
+        let mut sink = MemorySink::new(alloc, 64, 64, Vec::new(alloc))?;
+        assert_eq!(rt; write_rows(&mut sink, &rows).is_ok(), true);
+        assert_eq!(rt; sink.content(), WRITTEN);
+    }
+    Ok(())
+}
+
 #[test]
 fn a_long_text_is_written_in_blocks(rt: HostRuntime) -> Result<(), Fail> {
     let rows = Rows::identity(rt.alloc(), 3000, &Modulus::new(7))?;
     let mut sink = Lengths {
+        count: 0,
         least: 8192,
         last: 8192,
     };
     assert_eq!(rt; write_rows(&mut sink, &rows), Ok(()));
     assert!(rt; sink.least >= 4096);
+    assert!(rt; 4 <= sink.count && sink.count <= 9);
     Ok(())
 }

@@ -14,7 +14,7 @@ use std::marker::Model;
 const FEW: usize = 16;
 
 /// Collects the entries of a matrix in any order: what is pushed at one place is summed. It takes 16 bytes a pushed entry,
-/// and the room for them grows by doubling.
+/// and has room for a quarter more: where the room grows it takes 36 bytes an entry for a moment.
 #[derive(Drop)]
 pub struct RowsBuilder {
     alloc: Global,
@@ -61,6 +61,9 @@ impl RowsBuilder {
         ensures ok { OnOk result (self.new ≡ record self.old { pushed = self.old.pushed ++ record { i = i; j = j; v = v } ∷ [] }) }
         ensures err { OnErr result (self.new ≡ self.old) }
     {
+        if self.cells.len() == self.cells.capacity() {
+            self.cells.reserve_exact(self.cells.len() / 4 + FEW)?;
+        }
         self.cells.push(Cell::new(i, j, v))?;
         Ok(())
     }

@@ -133,8 +133,22 @@ fn small_matrices(rt: HostRuntime) -> Result<(), Fail> {
 
     let beside = x.beside(alloc, &column)?;
     assert_eq!(rt; beside.width(), 4);
-    assert_eq!(rt; beside.cols(0), [0, 1, 2, 3].as_slice());
-    assert_eq!(rt; beside.vals(2), [3, 6, 1, 1].as_slice());
+    assert_eq!(rt;
+        listed(alloc, &beside)?.as_slice(),
+        [
+            (0, 0, 2),
+            (0, 1, 4),
+            (0, 2, 1),
+            (0, 3, 1),
+            (1, 0, 1),
+            (1, 1, 2),
+            (2, 0, 3),
+            (2, 1, 6),
+            (2, 2, 1),
+            (2, 3, 1)
+        ]
+        .as_slice()
+    );
 
     let selected = listed(alloc, &x.select(alloc, &[2, 0])?)?;
     assert_eq!(rt;
