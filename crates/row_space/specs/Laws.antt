@@ -1,4 +1,5 @@
--- The laws of row spaces that the other crates rest on. Each is the contract of a public function that does nothing.
+-- The laws of row spaces that the other crates rest on. Each is the contract of a public function that does nothing. Those that divide hold for a
+-- prime modulus.
 use Rattle.std.specs.Prelude.{◌≡◌, ◌<◌, ◌≤◌, ◌↔◌, ◌⊎◌, ℕ, List, length, slice_index}
 use Rattle.residue_words.specs.declared.plain.Pair.{Pair}
 use Rattle.residue_words.specs.Residues.{IsPrime}

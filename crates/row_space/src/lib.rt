@@ -46,32 +46,32 @@ pub fn rref_exists()
     ensures { RrefExists }
 {}
 
-/// Valid factors have as many pivots as the rank.
+/// Valid factors have as many pivots as the rank, for a prime modulus.
 pub fn factors_give_rank()
     ensures { FactorsGiveRank }
 {}
 
-/// Valid factors and what shows it give the reduced echelon form.
+/// Valid factors and what shows it give the reduced echelon form, for a prime modulus.
 pub fn factors_give_rref()
     ensures { FactorsGiveRref }
 {}
 
-/// Valid factors and what shows it give the kernel basis.
+/// Valid factors and what shows it give the kernel basis, for a prime modulus.
 pub fn factors_give_kernel()
     ensures { FactorsGiveKernel }
 {}
 
-/// What a valid certificate says of a matrix holds, whoever wrote it.
+/// What a valid certificate says of a matrix holds for a prime modulus, whoever wrote it.
 pub fn certificate_is_true()
     ensures { CertificateIsTrue }
 {}
 
-/// Reduced null vectors, as many as the width exceeds the rank, are the kernel basis.
+/// Reduced null vectors, as many as the width exceeds the rank, are the kernel basis, for a prime modulus.
 pub fn rank_gives_kernel()
     ensures { RankGivesKernel }
 {}
 
-/// Reduced rows of the row space, as many as the rank, are the echelon form.
+/// Reduced rows of the row space, as many as the rank, are the echelon form, for a prime modulus.
 pub fn rank_gives_rref()
     ensures { RankGivesRref }
 {}
