@@ -32,7 +32,7 @@ pub struct Digits {
 pub struct Spelled {
     pub residue: u64,
     pub zero: bool,
-    pub no_divisor: bool,
+    pub divides_by_zero: bool,
 }
 
 /// The bytes without one byte 13 at their end.
@@ -43,7 +43,7 @@ pub fn content(line: &[u8]) -> &[u8]
         return line;
     }
     let last = line.len() - 1;
-    if line[last] != 13 {
+    if line[last] != b'\r' {
         return line;
     }
     let (front, _) = line.split_at(last);
@@ -53,7 +53,7 @@ pub fn content(line: &[u8]) -> &[u8]
 fn is_gap(b: u8) -> bool
     ensures { result ≡ is_gap b }
 {
-    b == 32 || b == 9
+    b == b' ' || b == b'\t'
 }
 
 // The place of the first byte that is no gap.
@@ -96,7 +96,7 @@ pub fn is_void(line: &[u8]) -> bool
         return true;
     }
     let first = line[start];
-    first == 37 || first == 35
+    first == b'%' || first == b'#'
 }
 
 /// The words of a line that has three.
@@ -122,7 +122,7 @@ pub fn three_words(line: &[u8]) -> Option<Three<'_>>
 fn is_digit(b: u8) -> bool
     ensures { result ≡ is_digit b }
 {
-    48 <= b && b <= 57
+    b'0' <= b && b <= b'9'
 }
 
 /// Whether the word is one letter.
@@ -133,7 +133,7 @@ pub fn is_one_letter(word: &[u8]) -> bool
         return false;
     }
     let b = word[0];
-    (65 <= b && b <= 90) || (97 <= b && b <= 122)
+    (b'A' <= b && b <= b'Z') || (b'a' <= b && b <= b'z')
 }
 
 /// The number that a word spells, or 2^32 if it is larger. `None` if the word isn't all digits.
@@ -148,7 +148,7 @@ pub fn capped(word: &[u8]) -> Option<u64>
         if !is_digit(*b) {
             return None;
         }
-        number = (10 * number + u64::from(*b - 48)).min(CAP);
+        number = (10 * number + u64::from(*b - b'0')).min(CAP);
     }
     Some(number)
 }
@@ -165,7 +165,7 @@ fn fold_digits(word: &[u8], p: &Modulus) -> Option<Digits>
         if !is_digit(*b) {
             return None;
         }
-        fold.push_digit(*b - 48);
+        fold.push_digit(*b - b'0');
     }
     Some(Digits {
         residue: fold.value(),
@@ -181,12 +181,12 @@ fn signed(word: &[u8], p: &Modulus) -> Option<Digits>
         return None;
     }
     let first = word[0];
-    if first != 45 && first != 43 {
+    if first != b'-' && first != b'+' {
         return fold_digits(word, p);
     }
     let (_, rest) = word.split_at(1);
     let number = fold_digits(rest, p)?;
-    if first == 45 {
+    if first == b'-' {
         Some(Digits {
             residue: p.neg(number.residue),
             zero: number.zero,
@@ -201,7 +201,7 @@ fn slash_place(word: &[u8]) -> usize
     ensures { result ≡ position_or_len is_slash word.now }
 {
     let mut at = 0;
-    while at < word.len() && word[at] != 47 {
+    while at < word.len() && word[at] != b'/' {
         at += 1;
     }
     at
@@ -229,7 +229,7 @@ pub fn value_word(word: &[u8], p: &Modulus) -> Option<Spelled>
         return Some(Spelled {
             residue: top.residue,
             zero: top.zero,
-            no_divisor: false,
+            divides_by_zero: false,
         });
     };
     let bottom = fold_digits(back, p)?;
@@ -237,13 +237,13 @@ pub fn value_word(word: &[u8], p: &Modulus) -> Option<Spelled>
         return Some(Spelled {
             residue: 0,
             zero: false,
-            no_divisor: true,
+            divides_by_zero: true,
         });
     }
     Some(Spelled {
         residue: p.mul(top.residue, p.inv(bottom.residue)),
         zero: false,
-        no_divisor: false,
+        divides_by_zero: false,
     })
 }
 

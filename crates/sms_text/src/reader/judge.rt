@@ -67,7 +67,7 @@ pub fn judge_entry(line: &[u8], head: &Head, p: &Modulus) -> Result<Option<Entry
     if j == 0 || j > u64::from(head.n) {
         return Err(Kind::Column);
     }
-    if value.no_divisor {
+    if value.divides_by_zero {
         return Err(Kind::Divisor);
     }
     Ok(Some(Entry {
