@@ -183,3 +183,19 @@ if gcc -O2 -o bench/out/flint bench/flint.c -lflint -lgmp -lm 2> /dev/null; then
 else
     echo "FLINT isn't installed: no comparison"
 fi
+# The whole command, from the text to the rank.
+./spasm rank < examples/x.sms > /dev/null
+for workers in 1 4; do
+    python3 - "$text" "$workers" <<'P'
+import subprocess, sys, time
+text, workers = sys.argv[1:]
+best = None
+for _ in range(3):
+    with open(text) as f:
+        start = time.perf_counter()
+        answer = subprocess.run(["./spasm", "rank", "--rounds", "0", "--workers", workers], stdin=f, capture_output=True, text=True, check=True).stdout
+        seconds = time.perf_counter() - start
+    best = seconds if best is None else min(best, seconds)
+print(f"spasm rank --rounds 0 --workers {workers}, from the text: {best:.2f} s, {answer.strip()}")
+P
+done
