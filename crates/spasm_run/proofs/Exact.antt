@@ -11,7 +11,7 @@ use Rattle.clap.specs.declared.parser.matches.ArgMatches.{ArgMatches}
 use Rattle.clap.specs.Faults.{fault_of}
 use Rattle.clap.proofs.CutLemmas.{Lacks}
 use Rattle.sms_text.specs.Numbers.{are_digits, is_digit, is_number}
-use Rattle.spasm_run.specs.Words.{Accepted, Given, IsInRange, Rule, modulus_rule, rounds_rule, spelling, spelling_of, task_name, workers_rule}
+use Rattle.spasm_run.specs.Words.{Accepted, AreRefused, Given, IsInRange, Rule, modulus_rule, rounds_rule, spelling, spelling_of, task_name, workers_rule}
 use Rattle.spasm_run.specs.Options.{AreTaken, Gives, IsCommandOf, IsNumber, IsOneCommand, Says}
 use Rattle.spasm_run.specs.Line.{command_line, option_names, tasks}
 use Rattle.spasm_run.specs.declared.words.Command.{Command}
@@ -219,13 +219,13 @@ words_dashes [] = refl
 words_dashes (w ∷ ws) = ap (λ (b : Bool). bytes_eq w.now (codes "--") || b) (words_dashes ws)
 
 -- words with --
-pub dashed : (words : List (Bor Text)) (b : Bool) → b ≡ list_any (λ w. bytes_eq w.now (codes "--")) words → b ≡ true → (c : Command) → ¬ Accepted (bytes words) c
+pub dashed : (words : List (Bor Text)) (b : Bool) → b ≡ list_any (λ w. bytes_eq w.now (codes "--")) words → b ≡ true → AreRefused (bytes words)
 dashed words b e f c a =
     let g : true ≡ false = sym f ∙ e ∙ words_dashes words ∙ dashes_false (bytes words) (accepted_dashes (bytes words) c a) in
     absurd cc
 
 -- words that clap refuses
-pub refused : (words : List Text) (o : Option ArgMatches) → AreTaken words o → o ≡ None → (c : Command) → ¬ Accepted words c
+pub refused : (words : List Text) (o : Option ArgMatches) → AreTaken words o → o ≡ None → AreRefused words
 refused words o h e c a = subst (AreTaken words) e h (accepted_fault words c a)
 
 -- words that clap takes, with the command that the matches say, if they say one

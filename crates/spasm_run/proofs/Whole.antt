@@ -14,7 +14,7 @@ use Rattle.spasm_run.specs.Answers.{misfit, wanted}
 use Rattle.spasm_run.specs.Found.{Finds, Gives}
 use Rattle.spasm_run.specs.Ran.{Ran, HasCause, IsMisfit, Completes}
 use Rattle.spasm_run.specs.Taken.{Says, Taking}
-use Rattle.spasm_run.specs.Words.{Accepted}
+use Rattle.spasm_run.specs.Words.{Accepted, AreRefused}
 use Rattle.spasm_run.proofs.Exact.{one_command}
 use Rattle.spasm_run.proofs.Stays.{said_of_all}
 use Rattle.spasm_run.proofs.Taken.{taking_nothing, taking_weaker}
@@ -55,7 +55,7 @@ found_given words c t p q limit told told' f f' values result task modulus same 
     taking_weaker told told' _ _ (λ bytes ended. given_finds words c limit f f' accepted values result bytes ended both.1) both.0
 
 -- nothing was read where no command is accepted, or memory was wanted for the words
-pub found_refused : (words : List (List ℕ)) (limit : ℕ) (told : Option (List ℕ)) (f : ℕ) → ((c : Command) → ¬ Accepted words c) → Taking told told (Finds words limit f f (Err status.Usage))
+pub found_refused : (words : List (List ℕ)) (limit : ℕ) (told : Option (List ℕ)) (f : ℕ) → AreRefused words → Taking told told (Finds words limit f f (Err status.Usage))
 found_refused words limit told f refused = taking_nothing told _ (λ held g. (refused, refl))
 
 pub found_memory : (words : List (List ℕ)) (limit : ℕ) (told : Option (List ℕ)) (f : ℕ) → Taking told told (Finds words limit f f (Err status.Memory))

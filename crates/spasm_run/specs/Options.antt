@@ -4,7 +4,7 @@ use Rattle.std.specs.Borrow.{Bor}
 use Rattle.clap.specs.Words.{Row, fault_of, first_of, subcommand_of, subcommand_rows_of}
 use Rattle.clap.specs.declared.parser.matches.ArgMatches.{ArgMatches}
 use Rattle.spasm_run.specs.declared.words.Command.{Command}
-use Rattle.spasm_run.specs.Words.{Accepted, IsInRange, Rule, modulus_rule, rounds_rule, task_name, workers_rule}
+use Rattle.spasm_run.specs.Words.{Accepted, AreRefused, IsInRange, Rule, modulus_rule, rounds_rule, task_name, workers_rule}
 use Rattle.spasm_run.specs.Line.{command_line}
 
 -- the bytes of the words
@@ -39,7 +39,7 @@ pub record Says (entered : Option (List ℕ × List Row)) (c : Command) : Type 0
 
 -- the command that these words ask for, if they are accepted
 abbrev pub IsCommandOf : List (List ℕ) → Option Command → Type 0
-IsCommandOf words result = MatchOption result ((c : Command) → ¬ Accepted words c) (Accepted words)
+IsCommandOf words result = MatchOption result (AreRefused words) (Accepted words)
 
 -- the same words ask for the same command
 abbrev pub IsOneCommand : Type 0

@@ -10,7 +10,7 @@ use Rattle.sms_text.specs.Text.{Item, matrices, read, Short, Reads, FirstFault}
 use Rattle.spasm_run.specs.declared.status.Status.{Status}
 use Rattle.spasm_run.specs.declared.status.Status.TheVariants as status
 use Rattle.spasm_run.specs.declared.words.Command.{Command}
-use Rattle.spasm_run.specs.Words.{Accepted}
+use Rattle.spasm_run.specs.Words.{Accepted, AreRefused}
 use Rattle.spasm_run.specs.Answers.{AnswerOf, misfit, wanted}
 
 -- the number of a kind of fault
@@ -72,7 +72,7 @@ abbrev pub HasCause : List (List ℕ) → ℕ → List ℕ → Bool → ℕ → 
 HasCause words limit bytes ended f f' held held' g g' status.Done =
     (c : Command) × (text : List ℕ) × Accepted words c × HasAnswer c bytes ended limit text × (held' ≡ behind held text)
 HasCause words limit bytes ended f f' held held' g g' status.No = ⊥
-HasCause words limit bytes ended f f' held held' g g' status.Usage = ((c : Command) → ¬ Accepted words c) × (held' ≡ held)
+HasCause words limit bytes ended f f' held held' g g' status.Usage = AreRefused words × (held' ≡ held)
 HasCause words limit bytes ended f f' held held' g g' (status.BadText line k) =
     (c : Command) × Accepted words c × FirstFault bytes ended limit (wanted c.task) c.modulus line k × (held' ≡ held)
 HasCause words limit bytes ended f f' held held' g g' (status.Shape height width) =

@@ -73,3 +73,7 @@ pub record Accepted (words : List (List ℕ)) (c : Command) : Type 0 where
   pub modulus : IsValueOf options modulus_rule c.modulus
   pub workers : IsValueOf options workers_rule c.workers
   pub rounds : IsValueOf options rounds_rule c.rounds
+
+-- no command is accepted for these words
+abbrev pub AreRefused : List (List ℕ) → Type 0
+AreRefused words = (c : Command) → ¬ Accepted words c

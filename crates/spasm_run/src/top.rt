@@ -1,6 +1,6 @@
 // A run, from words and bytes to an answer.
 ghost use Rattle.std.specs.Prelude.{◌≡◌, ◌<◌, ◌≤◌, ◌^◌, ℕ, List, IfOk};
-ghost use Rattle.spasm_run.specs.Words.{Accepted};
+ghost use Rattle.spasm_run.specs.Words.{Accepted, AreRefused};
 ghost use Rattle.spasm_run.specs.Faults.{SaysWhy};
 ghost use Rattle.spasm_run.specs.Found.{Finds, IsSmall};
 ghost use Rattle.spasm_run.specs.Options.{bytes_of};
@@ -42,6 +42,7 @@ pub fn run<'a, R: Threads + Sync, S: Source, K: Sink, E: Sink, G: Gate>(
     ensures ran { Ran (bytes_of words.now) 1099511627776 (S.told source.old) (S.told source.new) (S.faults source.old) (S.faults source.new) (K.held out.old) (K.held out.new) (K.faults out.old) (K.faults out.new) result }
     ensures err { SaysWhy result (E.held err.old) (E.held err.new) (E.faults err.old) (E.faults err.new) }
     ensures complete { Completes (bytes_of words.now) 1099511627776 (S.told source.old) (S.faults source.old) (S.faults source.new) (K.faults out.old) (K.faults out.new) result }
+    ensures unread { AreRefused (bytes_of words.now) → source.new ≡ source.old }
     ensures source_count { S.faults source.old ≤ S.faults source.new }
     ensures out_count { K.faults out.old ≤ K.faults out.new }
     ensures err_count { E.faults err.old ≤ E.faults err.new }
@@ -64,6 +65,7 @@ pub fn run_within<'a, R: Threads + Sync, S: Source, K: Sink, E: Sink, G: Gate>(
     ensures ran { Ran (bytes_of words.now) limit (S.told source.old) (S.told source.new) (S.faults source.old) (S.faults source.new) (K.held out.old) (K.held out.new) (K.faults out.old) (K.faults out.new) result }
     ensures err { SaysWhy result (E.held err.old) (E.held err.new) (E.faults err.old) (E.faults err.new) }
     ensures complete { Completes (bytes_of words.now) limit (S.told source.old) (S.faults source.old) (S.faults source.new) (K.faults out.old) (K.faults out.new) result }
+    ensures unread { AreRefused (bytes_of words.now) → source.new ≡ source.old }
     ensures source_count { S.faults source.old ≤ S.faults source.new }
     ensures out_count { K.faults out.old ≤ K.faults out.new }
     ensures err_count { E.faults err.old ≤ E.faults err.new }
@@ -84,6 +86,7 @@ fn answer<'a, R: Threads + Sync, S: Source, K: Sink>(
 ) -> Status
     requires { limit ≤ 1099511627776 }
     ensures ran { Ran (bytes_of words.now) limit (S.told source.old) (S.told source.new) (S.faults source.old) (S.faults source.new) (K.held out.old) (K.held out.new) (K.faults out.old) (K.faults out.new) result }
+    ensures unread { AreRefused (bytes_of words.now) → source.new ≡ source.old }
     ensures source_count { S.faults source.old ≤ S.faults source.new }
     ensures out_count { K.faults out.old ≤ K.faults out.new }
 {
@@ -106,6 +109,7 @@ fn find<'a, R: Threads + Sync, S: Source>(
 ) -> Result<Answer, Status>
     requires { limit ≤ 1099511627776 }
     ensures found { Taking (S.told source.old) (S.told source.new) (Finds (bytes_of words.now) limit (S.faults source.old) (S.faults source.new) result) }
+    ensures unread { AreRefused (bytes_of words.now) → source.new ≡ source.old }
     ensures small { IfOk result IsSmall }
     ensures count { S.faults source.old ≤ S.faults source.new }
 {
