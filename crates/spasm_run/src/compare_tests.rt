@@ -1,11 +1,11 @@
 // Kernels, solutions and inverses, compared with a search through all vectors.
-ghost use Rattle.std.specs.Prelude.{◌<◌};
+ghost use Rattle.std.specs.Prelude.{◌<◌, ◌≤◌};
 
 use crate::plain::plain_rows;
-use crate::tests::{CALM, LIMIT, run_on};
+use crate::tests::{CALM, rows_of, run_on};
 use residue_words::Modulus;
-use sms_text::{Reader, SteadySource, read_rows};
 use std::alloc::{AllocError, Global};
+use std::process::Abort;
 use std::test::Fail;
 use std::thread::Threads;
 
@@ -18,12 +18,11 @@ struct Plain {
 }
 
 // The matrix that a text stands for.
-fn plain_of(alloc: Global, modulus: &Modulus, text: &[u8]) -> Result<Plain, Fail> {
-    let mut source = SteadySource::new(Vec::from_slice(alloc, text)?, 64);
-    let mut reader = Reader::new(alloc, LIMIT)?;
-    let Ok(rows) = read_rows(&mut reader, alloc, &mut source, modulus) else {
-        return Err(Fail::new("not read"));
-    };
+fn plain_of(alloc: Global, p: u64, text: &[u8]) -> Result<Plain, Fail>
+    requires some { 2 ≤ p }
+    requires small { p < 8 }
+{
+    let rows = rows_of(alloc, &Modulus::new(p), text)?;
     Ok(Plain {
         height: rows.height(),
         width: rows.width(),
@@ -140,7 +139,7 @@ fn answered<R: Threads + Sync>(
     text: &[u8],
 ) -> Result<Vec<u8>, AllocError> {
     let words = [command, "--modulus", p];
-    let ran = run_on(rt, alloc, &words, text, LIMIT, &CALM)?;
+    let ran = run_on(rt, alloc, &words, text, &CALM)?;
     Vec::from_slice(alloc, ran.out.content())
 }
 
@@ -148,16 +147,20 @@ fn answered<R: Threads + Sync>(
 fn kernel_agrees<R: Threads + Sync>(
     rt: &R,
     alloc: Global,
-    modulus: &Modulus,
     p: u64,
     word: &str,
-    text: &[u8],
+    text: &str,
 ) -> Result<bool, Fail>
-    requires { 0 < p }
+    requires some { 2 ≤ p }
+    requires small { p < 8 }
 {
-    let a = plain_of(alloc, modulus, text)?;
+    let a = plain_of(alloc, p, text.as_bytes())?;
     let none = vector(alloc, p, a.height, 0)?;
-    let basis = plain_of(alloc, modulus, &answered(rt, alloc, "kernel", word, text)?)?;
+    let basis = plain_of(
+        alloc,
+        p,
+        &answered(rt, alloc, "kernel", word, text.as_bytes())?,
+    )?;
     for row in &basis.rows {
         if image(alloc, p, &a, row)?.as_slice() != none.as_slice() {
             return Ok(false);
@@ -166,36 +169,82 @@ fn kernel_agrees<R: Threads + Sync>(
     Ok(vectors(p, basis.height) == solutions(alloc, p, &a, &none)?)
 }
 
+// The first entry of each row.
+fn first_column(alloc: Global, a: &Plain) -> Result<Vec<u64>, AllocError> {
+    let mut x = Vec::new(alloc);
+    for row in &a.rows {
+        x.push(row.first().copied().unwrap_or(0))?;
+    }
+    Ok(x)
+}
+
+// Whether the text is that of a column x with A x = b.
+fn solves(alloc: Global, p: u64, a: &Plain, b: &[u64], text: &[u8]) -> Result<bool, Fail>
+    requires some { 2 ≤ p }
+    requires small { p < 8 }
+{
+    let x = first_column(alloc, &plain_of(alloc, p, text)?)?;
+    Ok(image(alloc, p, a, &x)?.as_slice() == b)
+}
+
+// Whether the text is that of a row y with y A = 0 and y b = 1.
+fn refutes(alloc: Global, p: u64, a: &Plain, b: &[u64], text: &[u8]) -> Result<bool, Fail>
+    requires some { 2 ≤ p }
+    requires small { p < 8 }
+{
+    match plain_of(alloc, p, text)?.rows.first() {
+        Some(y) => Ok(dot(p, y, b) == 1 && annuls(alloc, p, y, a)?),
+        None => Ok(false),
+    }
+}
+
 // Whether the answer to A x = b solves it, or refutes it where no x solves it.
 fn solution_agrees<R: Threads + Sync>(
     rt: &R,
     alloc: Global,
-    modulus: &Modulus,
     p: u64,
     word: &str,
     text: &str,
     b: &[u64],
 ) -> Result<bool, Fail>
-    requires { 0 < p }
+    requires some { 2 ≤ p }
+    requires small { p < 8 }
 {
-    let a = plain_of(alloc, modulus, text.as_bytes())?;
+    let a = plain_of(alloc, p, text.as_bytes())?;
     let system = format!(in alloc; "{text}{}", column_text(alloc, b)?)?;
     let answer = answered(rt, alloc, "solve", word, system.as_bytes())?;
-    let some = solutions(alloc, p, &a, b)? > 0;
-    if let Some(rest) = behind(&answer, b"solution\n") {
-        let column = plain_of(alloc, modulus, rest)?;
-        let mut x = Vec::new(alloc);
-        for row in &column.rows {
-            x.push(row.first().copied().unwrap_or(0))?;
+    if solutions(alloc, p, &a, b)? > 0 {
+        match behind(&answer, b"solution\n") {
+            Some(rest) => solves(alloc, p, &a, b, rest),
+            None => Ok(false),
         }
-        return Ok(some && image(alloc, p, &a, &x)?.as_slice() == b);
+    } else {
+        match behind(&answer, b"no solution\n") {
+            Some(rest) => refutes(alloc, p, &a, b, rest),
+            None => Ok(false),
+        }
     }
-    let Some(rest) = behind(&answer, b"no solution\n") else {
-        return Ok(false);
-    };
-    let refutation = plain_of(alloc, modulus, rest)?;
-    match refutation.rows.first() {
-        Some(y) => Ok(!some && dot(p, y, b) == 1 && annuls(alloc, p, y, &a)?),
+}
+
+// Whether the text is that of an inverse of A.
+fn inverts(alloc: Global, p: u64, a: &Plain, text: &[u8]) -> Result<bool, Fail>
+    requires some { 2 ≤ p }
+    requires small { p < 8 }
+{
+    let b = plain_of(alloc, p, text)?;
+    Ok(undoes(alloc, p, &b, a)? && undoes(alloc, p, a, &b)?)
+}
+
+// Whether the text is that of a nonzero row that A takes to zero.
+fn is_null(alloc: Global, p: u64, a: &Plain, text: &[u8]) -> Result<bool, Fail>
+    requires some { 2 ≤ p }
+    requires small { p < 8 }
+{
+    let none = vector(alloc, p, a.height, 0)?;
+    match plain_of(alloc, p, text)?.rows.first() {
+        Some(v) => Ok(
+            v.as_slice() != none.as_slice() && image(alloc, p, a, v)?.as_slice() == none.as_slice(),
+        ),
         None => Ok(false),
     }
 }
@@ -204,37 +253,31 @@ fn solution_agrees<R: Threads + Sync>(
 fn inverse_agrees<R: Threads + Sync>(
     rt: &R,
     alloc: Global,
-    modulus: &Modulus,
     p: u64,
     word: &str,
-    text: &[u8],
+    text: &str,
 ) -> Result<bool, Fail>
-    requires { 0 < p }
+    requires some { 2 ≤ p }
+    requires small { p < 8 }
 {
-    let a = plain_of(alloc, modulus, text)?;
+    let a = plain_of(alloc, p, text.as_bytes())?;
     let none = vector(alloc, p, a.height, 0)?;
-    let answer = answered(rt, alloc, "inverse", word, text)?;
-    let regular = solutions(alloc, p, &a, &none)? == 1;
-    if let Some(rest) = behind(&answer, b"inverse\n") {
-        let b = plain_of(alloc, modulus, rest)?;
-        return Ok(regular && undoes(alloc, p, &b, &a)? && undoes(alloc, p, &a, &b)?);
-    }
-    let Some(rest) = behind(&answer, b"singular\n") else {
-        return Ok(false);
-    };
-    let null = plain_of(alloc, modulus, rest)?;
-    match null.rows.first() {
-        Some(v) => Ok(
-            !regular
-                && v.as_slice() != none.as_slice()
-                && image(alloc, p, &a, v)?.as_slice() == none.as_slice(),
-        ),
-        None => Ok(false),
+    let answer = answered(rt, alloc, "inverse", word, text.as_bytes())?;
+    if solutions(alloc, p, &a, &none)? == 1 {
+        match behind(&answer, b"inverse\n") {
+            Some(rest) => inverts(alloc, p, &a, rest),
+            None => Ok(false),
+        }
+    } else {
+        match behind(&answer, b"singular\n") {
+            Some(rest) => is_null(alloc, p, &a, rest),
+            None => Ok(false),
+        }
     }
 }
 
-// Small matrices, of which the square ones come first, with their moduli.
-const SQUARE: [(u64, &str, &str); 8] = [
+// Small square matrices with their moduli.
+const SQUARE: &[(u64, &str, &str)] = &[
     (2, "2", "2 2 M\n1 1 1\n1 2 1\n2 1 1\n2 2 1\n0 0 0\n"),
     (2, "2", "3 3 M\n1 2 1\n2 1 1\n2 3 1\n3 3 1\n0 0 0\n"),
     (
@@ -249,7 +292,8 @@ const SQUARE: [(u64, &str, &str); 8] = [
     (5, "5", "2 2 M\n1 1 2\n1 2 4\n2 1 1\n2 2 2\n0 0 0\n"),
 ];
 
-const OBLONG: [(u64, &str, &str); 5] = [
+// Such as aren't square.
+const OBLONG: &[(u64, &str, &str)] = &[
     (2, "2", "2 4 M\n1 2 1\n1 4 1\n2 3 1\n2 4 1\n0 0 0\n"),
     (3, "3", "3 2 M\n1 1 1\n2 1 2\n3 2 1\n0 0 0\n"),
     (5, "5", "2 3 M\n1 3 4\n2 2 3\n2 3 4\n0 0 0\n"),
@@ -258,20 +302,43 @@ const OBLONG: [(u64, &str, &str); 5] = [
 ];
 
 #[test]
-fn kernels_and_solutions_agree_with_a_search(rt: HostRuntime) -> Result<(), Fail> {
-    let alloc = rt.alloc();
-    for table in [SQUARE.as_slice(), OBLONG.as_slice()] {
+fn kernels_agree_with_a_search(rt: HostRuntime) -> Result<(), Fail> {
+    for table in [SQUARE, OBLONG] {
         for (p, word, text) in table {
             assert!(rt; 2 <= *p && *p < 8);
-            let modulus = Modulus::new(*p);
-            let agrees = kernel_agrees(&rt, alloc, &modulus, *p, word, text.as_bytes())?;
-            assert!(rt; agrees, "kernel at {text}");
-            let height = plain_of(alloc, &modulus, text.as_bytes())?.height;
-            for k in 0..vectors(*p, height) {
-                let b = vector(alloc, *p, height, k)?;
-                let agrees = solution_agrees(&rt, alloc, &modulus, *p, word, text, &b)?;
-                assert!(rt; agrees, "solve at {text} {k}");
-            }
+            let agrees = kernel_agrees(&rt, rt.alloc(), *p, word, text)?;
+            assert!(rt; agrees, "at {text}");
+        }
+    }
+    Ok(())
+}
+
+// Each right-hand side has an answer that agrees.
+fn check_solutions<R: Threads + Sync + Abort>(
+    rt: &R,
+    alloc: Global,
+    p: u64,
+    word: &str,
+    text: &str,
+) -> Result<(), Fail>
+    requires some { 2 ≤ p }
+    requires small { p < 8 }
+{
+    let height = plain_of(alloc, p, text.as_bytes())?.height;
+    for k in 0..vectors(p, height) {
+        let b = vector(alloc, p, height, k)?;
+        let agrees = solution_agrees(rt, alloc, p, word, text, &b)?;
+        assert!(rt; agrees, "at {text} {k}");
+    }
+    Ok(())
+}
+
+#[test]
+fn solutions_agree_with_a_search(rt: HostRuntime) -> Result<(), Fail> {
+    for table in [SQUARE, OBLONG] {
+        for (p, word, text) in table {
+            assert!(rt; 2 <= *p && *p < 8);
+            check_solutions(&rt, rt.alloc(), *p, word, text)?;
         }
     }
     Ok(())
@@ -280,9 +347,9 @@ fn kernels_and_solutions_agree_with_a_search(rt: HostRuntime) -> Result<(), Fail
 #[test]
 fn inverses_agree_with_a_search(rt: HostRuntime) -> Result<(), Fail> {
     for (p, word, text) in SQUARE {
-        assert!(rt; 2 <= p && p < 8);
-        let agrees = inverse_agrees(&rt, rt.alloc(), &Modulus::new(p), p, word, text.as_bytes())?;
-        assert!(rt; agrees, "inverse at {text}");
+        assert!(rt; 2 <= *p && *p < 8);
+        let agrees = inverse_agrees(&rt, rt.alloc(), *p, word, text)?;
+        assert!(rt; agrees, "at {text}");
     }
     Ok(())
 }

@@ -1,7 +1,7 @@
 //! The words that are accepted, with the command that they ask for, and words that are refused.
 use crate::words::{Command, Task, read_words};
 
-const ACCEPTED: [(&[&str], Task, u64, u32, u32); 11] = [
+const ACCEPTED: &[(&[&str], Task, u64, u32, u32)] = &[
     (&["rank"], Task::Rank, 42_013, 1, 3),
     (&["rank", "--modulus", "7"], Task::Rank, 7, 1, 3),
     (
@@ -58,7 +58,7 @@ const ACCEPTED: [(&[&str], Task, u64, u32, u32); 11] = [
     ),
 ];
 
-const REFUSED: [&[&str]; 64] = [
+const REFUSED: &[&[&str]] = &[
     &[],
     &["--help"],
     &["-h"],
@@ -126,17 +126,21 @@ const REFUSED: [&[&str]; 64] = [
 ];
 
 #[test]
-fn commands_of_words(rt: HostRuntime) {
+fn accepted_words_are_commands(rt: HostRuntime) {
     for (words, task, modulus, workers, rounds) in ACCEPTED {
         let command = read_words(rt.alloc(), words).expect(&rt, "memory");
         let expected = Command {
-            task,
-            modulus,
-            workers,
-            rounds,
+            task: *task,
+            modulus: *modulus,
+            workers: *workers,
+            rounds: *rounds,
         };
         assert_eq!(rt; command, Some(expected), "at {words:?}");
     }
+}
+
+#[test]
+fn refused_words_are_none(rt: HostRuntime) {
     for words in REFUSED {
         let command = read_words(rt.alloc(), words).expect(&rt, "memory");
         assert_eq!(rt; command, None, "at {words:?}");
