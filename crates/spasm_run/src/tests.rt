@@ -207,7 +207,7 @@ const RANKS: &[(&str, &str, &str)] = &[
     ),
     ("7", "1 1 M\n1 1 1\n0 0 0\nanything\n\x00", "rank 1\n"),
     ("7", "1 1 M\n1 1 0/5\n0 0 0\n", "rank 0\n"),
-    ("7", "1 1 M\n0 0 -00", "rank 0\n"),
+    ("7", "1 1 M\n0 0 -00\n0 0 0\n", "rank 0\n"),
 ];
 
 #[test]
