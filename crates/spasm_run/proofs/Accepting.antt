@@ -39,7 +39,7 @@ or_second true b e = absurd (let f : true ≡ false = e in cc)
 neither : (a b : Bool) → a ≡ false → b ≡ false → (a || (b || false)) ≡ false
 neither a b e f = rw (e, f) refl
 
-differ : (a b : Text) → bytes_eq a b ≡ false → a ≢ b
+pub differ : (a b : Text) → bytes_eq a b ≡ false → a ≢ b
 differ a b e s = let f : false ≡ true = sym e ∙ (bytes_eq-Decides a b).1 s in absurd cc
 
 differs : (a b : Text) → a ≢ b → bytes_eq a b ≡ false

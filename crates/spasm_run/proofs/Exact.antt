@@ -12,12 +12,12 @@ use Rattle.clap.specs.Faults.{fault_of}
 use Rattle.clap.proofs.CutLemmas.{Lacks}
 use Rattle.sms_text.specs.Numbers.{are_digits, is_digit, is_number}
 use Rattle.spasm_run.specs.Words.{Accepted, AreRefused, Given, IsInRange, Rule, modulus_rule, rounds_rule, spelling, spelling_of, task_name, workers_rule}
-use Rattle.spasm_run.specs.Options.{AreTaken, Gives, IsCommandOf, IsNumber, IsOneCommand, Says}
+use Rattle.spasm_run.specs.Options.{AcceptedIsPlain, AreTaken, Gives, IsCommandOf, IsNumber, IsOneCommand, Says}
 use Rattle.spasm_run.specs.Line.{command_line, option_names, tasks}
 use Rattle.spasm_run.specs.declared.words.Command.{Command}
 use Rattle.spasm_run.specs.declared.words.Task.{Task}
 use Rattle.spasm_run.specs.declared.words.Task.TheVariants.{Rank, Rref, Kernel, Solve, LeftKernel, Inverse}
-use Rattle.spasm_run.proofs.Accepting.{fits_first, fits_known, first_of_list, gives_value, known_fits, later_in_list, value_gives}
+use Rattle.spasm_run.proofs.Accepting.{differ, fits_first, fits_known, first_of_list, gives_value, known_fits, later_in_list, value_gives}
 use Rattle.spasm_run.proofs.Program.{fault_at, first_is_named, subcommand_at}
 use Rattle.spasm_run.proofs.Reading.{ArePlain, Fits, IsName, IsPlainValue, NoDashes, apart_dashes, joined_dashes, level_passes, passes_level, passes_reads, reads_passes, row_of_given}
 
@@ -58,18 +58,18 @@ plain_value (b ∷ bs) e =
     let other : (b == 45) ≡ false = grind (arith, nat_tests) in
     (rw other refl, rw other refl, rw other refl)
 
--- a given value of which a number is made is plain
-given_plain : (rule : Rule) (rows : List Row) (n : ℕ) (g : Given) → Gives rule rows n → rule.name ≡ g.name → first_of g.name rows ≡ Some g.value → IsPlainValue g.value
-given_plain rule rows n g h e f =
+-- a given value of which a number is made is digits
+given_digits : (rule : Rule) (rows : List Row) (n : ℕ) (g : Given) → Gives rule rows n → rule.name ≡ g.name → first_of g.name rows ≡ Some g.value → is_number g.value ≡ true
+given_digits rule rows n g h e f =
     let h2 : IsInRange rule.low rule.high g.value n = subst (λ (o : Option Text). IsNumber rule.low rule.high rule.absent o n) (ap (λ (t : Text). first_of t rows) e ∙ f) h in
-    plain_value g.value h2.0
+    h2.0
 
-plain_given : (c : Command) (rows : List Row) (g : Given) → Gives modulus_rule rows c.modulus → Gives workers_rule rows c.workers → Gives rounds_rule rows c.rounds
-    → Contains option_names g.name → first_of g.name rows ≡ Some g.value → IsPlainValue g.value
-plain_given c rows g m w r (zero, lt, e) f = given_plain modulus_rule rows c.modulus g m e f
-plain_given c rows g m w r (suc zero, lt, e) f = given_plain workers_rule rows c.workers g w e f
-plain_given c rows g m w r (suc (suc zero), lt, e) f = given_plain rounds_rule rows c.rounds g r e f
-plain_given c rows g m w r (suc (suc (suc k)), lt, e) f = absurd (omega arith)
+digits_given : (c : Command) (rows : List Row) (g : Given) → Gives modulus_rule rows c.modulus → Gives workers_rule rows c.workers → Gives rounds_rule rows c.rounds
+    → Contains option_names g.name → first_of g.name rows ≡ Some g.value → is_number g.value ≡ true
+digits_given c rows g m w r (zero, lt, e) f = given_digits modulus_rule rows c.modulus g m e f
+digits_given c rows g m w r (suc zero, lt, e) f = given_digits workers_rule rows c.workers g w e f
+digits_given c rows g m w r (suc (suc zero), lt, e) f = given_digits rounds_rule rows c.rounds g r e f
+digits_given c rows g m w r (suc (suc (suc k)), lt, e) f = absurd (omega arith)
 
 all_plain : (options : List Given) → ((g : Given) → Contains options g → IsPlainValue g.value) → ArePlain options
 all_plain [] h = tt
@@ -123,7 +123,7 @@ record Taken (words : List Text) (c : Command) : Type 0 where
 taken_options : (c : Command) (options : List Given) (rest : List Text) → rest ≡ flat_map spelling options → Fits option_names [] options → Gives modulus_rule (map row_of_given options) c.modulus
     → Gives workers_rule (map row_of_given options) c.workers → Gives rounds_rule (map row_of_given options) c.rounds → Taken (task_name c.task ∷ flat_map spelling options) c
 taken_options c options rest e f m w r =
-    let plain = all_plain options (λ g k. plain_given c (map row_of_given options) g m w r ((fits_known option_names options f).known g k) (fits_first option_names [] options g f k)) in
+    let plain = all_plain options (λ g k. plain_value g.value (digits_given c (map row_of_given options) g m w r ((fits_known option_names options f).known g k) (fits_first option_names [] options g f k))) in
     let level = passes_level (task_name c.task) option_names (flat_map spelling options) (map row_of_given options) (reads_passes (task_name c.task) option_names are_names options f plain) in
     record {
       no_fault = fault_at c.task (flat_map spelling options) ∙ level.0;
@@ -146,6 +146,21 @@ accepted_says words c a = (taken words c a).says
 
 pub accepted_dashes : (words : List Text) (c : Command) → Accepted words c → NoDashes words
 accepted_dashes words c a = (taken words c a).dashes
+
+digits_first : (w : Text) → is_number w ≡ true → (rest : Text) → w ≢ 45 ∷ rest
+digits_first w h rest e = let f : false ≡ true = subst (λ (x : Text). is_number x ≡ true) e h in absurd cc
+
+pub accepted_plain : AcceptedIsPlain
+accepted_plain words c a =
+    let f = known_fits option_names a.options a.known in
+    let known : (g : Given) → Contains a.options g → Contains option_names g.name = (fits_known option_names a.options f).known in (
+      λ w k. differ w (codes "--") (dashes_at words (accepted_dashes words c a) w k),
+      λ g k. record {
+        value = digits_first g.value (digits_given c (map row_of_given a.options) g (value_gives option_names a.options modulus_rule c.modulus f a.modulus)
+            (value_gives option_names a.options workers_rule c.workers f a.workers) (value_gives option_names a.options rounds_rule c.rounds f a.rounds) (known g k) (fits_first option_names [] a.options g f k));
+        name = (are_names g.name (known g k)).lacks;
+      },
+    )
 
 -- ---- and words that are taken and say a command are accepted
 

@@ -1,10 +1,11 @@
 -- The options of a command, as its words are read.
-use Rattle.std.specs.Prelude.{◌≡◌, ◌≢◌, ℕ, List, [], Option, Some, None, MatchOption, map}
+use Rattle.std.specs.Prelude.{◌≡◌, ◌≢◌, ◌<◌, ℕ, List, [], ◌∷◌, Option, Some, None, MatchOption, codes, length, map, slice_index}
+use Rattle.std.specs.List.{Contains}
 use Rattle.std.specs.Borrow.{Bor}
 use Rattle.clap.specs.Words.{Row, fault_of, first_of, subcommand_of, subcommand_rows_of}
 use Rattle.clap.specs.declared.parser.matches.ArgMatches.{ArgMatches}
 use Rattle.spasm_run.specs.declared.words.Command.{Command}
-use Rattle.spasm_run.specs.Words.{Accepted, AreRefused, IsInRange, Rule, modulus_rule, rounds_rule, task_name, workers_rule}
+use Rattle.spasm_run.specs.Words.{Accepted, AreRefused, Given, IsInRange, Rule, modulus_rule, rounds_rule, task_name, workers_rule}
 use Rattle.spasm_run.specs.Line.{command_line}
 
 -- the bytes of the words
@@ -44,3 +45,13 @@ IsCommandOf words result = MatchOption result (AreRefused words) (Accepted words
 -- the same words ask for the same command
 abbrev pub IsOneCommand : Type 0
 IsOneCommand = (words : List (List ℕ)) (c d : Command) → Accepted words c → Accepted words d → c ≡ d
+
+-- the value of the option doesn't begin with a dash, and its name has no =, so that a word is cut at its first one
+pub record IsPlain (g : Given) : Type 0 where
+  pub value : (rest : List ℕ) → g.value ≢ 45 ∷ rest
+  pub name : (k : ℕ) → k < length g.name → slice_index g.name k ≢ 61
+
+-- no accepted word is --, and each option given is plain
+abbrev pub AcceptedIsPlain : Type 0
+AcceptedIsPlain = (words : List (List ℕ)) (c : Command) (a : Accepted words c) →
+    ((w : List ℕ) → Contains words w → w ≢ codes "--") × ((g : Given) → Contains a.options g → IsPlain g)

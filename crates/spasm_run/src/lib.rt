@@ -20,4 +20,4 @@ pub use plain::plain_rows;
 pub use rank::rank_of;
 pub use status::Status;
 pub use top::{run, run_within};
-pub use words::{Command, Task, at_most_one_command, read_words};
+pub use words::{Command, Task, accepted_words_are_plain, at_most_one_command, read_words};

@@ -11,7 +11,7 @@ use std::alloc::AllocError;
 pub enum Status {
     /// The answer was written.
     Done,
-    /// What was to be checked isn't valid, and `no` was written.
+    /// What was to be checked isn't valid. No command answers so yet.
     No,
     /// The words aren't accepted.
     Usage,

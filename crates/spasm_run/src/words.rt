@@ -5,9 +5,9 @@ ghost use Rattle.std.specs.Str.{bytes_eq};
 ghost use Rattle.clap.specs.Words.{first_value, found_of, subcommand_rows_of};
 ghost use Rattle.sms_text.specs.Numbers.{is_number, value};
 ghost use Rattle.spasm_run.specs.Words.{IsInRange};
-ghost use Rattle.spasm_run.specs.Options.{IsCommandOf, IsNumberOf, IsOneCommand, AreTaken, Says, bytes_of};
+ghost use Rattle.spasm_run.specs.Options.{AcceptedIsPlain, IsCommandOf, IsNumberOf, IsOneCommand, AreTaken, Says, bytes_of};
 
-mod line;
+pub mod line;
 #[cfg(test)]
 mod tests;
 
@@ -46,7 +46,8 @@ pub struct Command {
     pub modulus: u64,
     /// How many workers share the elimination, from 1 to 64.
     pub workers: u32,
-    /// How many structural rounds come before the dense elimination, from 0 to 16; with 0 the rank is counted by it alone.
+    /// How many structural rounds may come first, from 0 to 16: with 0 the rank is counted by the dense elimination, and no other
+    /// number makes a difference yet.
     pub rounds: u32,
 }
 
@@ -67,6 +68,11 @@ pub fn read_words<'a>(alloc: Global, words: &'a [&'a str]) -> Result<Option<Comm
 /// Words ask for one command at most.
 pub fn at_most_one_command()
     ensures { IsOneCommand }
+{}
+
+/// No word that is accepted is `--`, no value that is given begins with `-`, and no name has an `=`.
+pub fn accepted_words_are_plain()
+    ensures { AcceptedIsPlain }
 {}
 
 // Whether one of the words is `--`.

@@ -1,5 +1,5 @@
 //! The words that are accepted, with the command that they ask for, and words that are refused.
-use crate::words::{Command, Task, read_words};
+use crate::words::{Command, Task, line, read_words};
 
 const ACCEPTED: &[(&[&str], Task, u64, u32, u32)] = &[
     (&["rank"], Task::Rank, 42_013, 1, 3),
@@ -145,4 +145,9 @@ fn refused_words_are_none(rt: HostRuntime) {
         let command = read_words(rt.alloc(), words).expect(&rt, "memory");
         assert_eq!(rt; command, None, "at {words:?}");
     }
+}
+
+#[test]
+fn the_command_line_is_built(rt: HostRuntime) {
+    assert!(rt; line::command(rt.alloc()).is_ok());
 }
