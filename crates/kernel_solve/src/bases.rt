@@ -27,8 +27,10 @@ pub fn kernel(alloc: Global, form: &Echelon) -> Result<Rows, AllocError>
     let by_column = rows.transpose(alloc)?;
     let free = by_column.select(alloc, &columns.free)?;
     let at_leads = negated(alloc, &free)?;
+    drop((by_column, free));
     let at_free = Rows::identity(alloc, columns.free.len() as u32, &modulus)?;
     let by_place = arranged(alloc, &at_leads, &at_free, &columns.order)?;
+    drop((at_leads, at_free));
     let basis = by_place.transpose(alloc)?;
     Ok(basis)
 }
@@ -50,5 +52,6 @@ pub fn left_kernel<R: Threads + Sync>(
 {
     let columns = a.transpose(alloc)?;
     let form = Echelon::of(rt, alloc, &columns, workers)?;
+    drop(columns);
     kernel(alloc, &form)
 }

@@ -2,7 +2,9 @@
 ghost use Rattle.std.specs.Prelude.{◌≡◌, ◌<◌, ◌≤◌, ◌+◌, ◌-◌, ◌↔◌, ℕ, All, length, slice_index, IfOk, IsTrue};
 ghost use Rattle.residue_words.specs.Residues.{IsPrime};
 ghost use Rattle.residue_words.specs.Matrix.{Matrix, IsMatrix, row};
+ghost use Rattle.sparse_rows.specs.Rows.{beside, identity, transposed};
 ghost use Rattle.row_space.specs.Kernel.{IsKernel};
+ghost use Rattle.echelon_form.specs.Form.{IsFormOf};
 ghost use Rattle.kernel_solve.specs.Columns.{right_half};
 ghost use Rattle.kernel_solve.specs.Inverted.{HasInverseShape, Inverts};
 
@@ -29,16 +31,35 @@ pub fn inverse<R: Threads + Sync>(
     ensures shape { IfOk result (λ found. HasInverseShape a.now.modulus a.now.matrix.width found) }
     ensures inverse { IfOk result (λ found. IsPrime a.now.modulus → Inverts a.now.modulus a.now.matrix found) }
 {
-    let modulus = a.modulus();
     let width = a.width();
-    let transposed = a.transpose(alloc)?;
-    let identity = Rows::identity(alloc, width, &modulus)?;
-    let both = transposed.beside(alloc, &identity)?;
-    let form = Echelon::of(rt, alloc, &both, workers)?;
+    let form = both_form(rt, alloc, a, workers)?;
     if fills(form.leads(), width) {
         return Ok(Inverse::Of(right_half(alloc, form.rows(), width)?));
     }
+    drop(form);
     Ok(Inverse::Singular(null_row(rt, alloc, a, workers)?))
+}
+
+// The echelon form of the transposed matrix beside the identity.
+fn both_form<R: Threads + Sync>(
+    rt: &R,
+    alloc: Global,
+    a: &Rows,
+    workers: u32,
+) -> Result<Echelon, AllocError>
+    requires square { a.now.matrix.height ≡ a.now.matrix.width }
+    requires small { a.now.matrix.width ≤ 1073741824 }
+    requires some { 1 ≤ workers }
+    requires few { workers ≤ 64 }
+    ensures sound { IsMatrix a.now.modulus a.now.matrix }
+    ensures form { IfOk result (λ form. IsFormOf a.now.modulus (beside (transposed a.now.matrix) (identity a.now.matrix.width)) form) }
+{
+    let modulus = a.modulus();
+    let transposed = a.transpose(alloc)?;
+    let identity = Rows::identity(alloc, a.width(), &modulus)?;
+    let both = transposed.beside(alloc, &identity)?;
+    drop((transposed, identity));
+    Echelon::of(rt, alloc, &both, workers)
 }
 
 // Whether these are n leads, all of them below n: the last is.

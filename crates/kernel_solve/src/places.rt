@@ -61,6 +61,7 @@ pub(crate) fn arranged(
 {
     let both = left.beside(alloc, right)?;
     let columns = both.transpose(alloc)?;
+    drop(both);
     columns.select(alloc, order)
 }
 

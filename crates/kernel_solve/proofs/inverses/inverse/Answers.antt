@@ -1,12 +1,10 @@
 use Rattle.std.proofs.Common.{ℕ, ◌≡◌, ◌+◌, ◌-◌, ◌<◌, ◌∙◌, List, ap, ap₂, arith, length, slice_index, subst, sym, true, false}
 use Rattle.residue_words.specs.Matrix.{Matrix, IsMatrix, row}
 use Rattle.residue_words.proofs.Vectors.{length_list_of}
-use Rattle.sparse_rows.specs.Rows.{beside, identity, transposed}
 use Rattle.row_space.specs.Inverse.{IsInverse}
 use Rattle.row_space.specs.Kernel.{IsNull}
-use Rattle.echelon_form.specs.Form.{IsFormOf}
 use Rattle.kernel_solve.specs.Columns.{right_half}
-use Rattle.kernel_solve.proofs.Inverting.{basis_some, first_null, form_same, half_inverts, half_matrix, not_filled}
+use Rattle.kernel_solve.proofs.Inverting.{basis_some, first_null, half_inverts, half_matrix, not_filled}
 use Rattle.kernel_solve.proofs.inverses.inverse.Goals as goal
 
 pub returns-then-fills-clause-shape : goal.returns-then-fills-clause-shape
@@ -15,9 +13,7 @@ returns-then-fills-clause-shape g c =
     let A : Matrix = c.args.a.now.matrix in
     let w : ℕ = c.width-width.result in
     let F : Matrix = c.rows.result.now.matrix in
-    let form : IsFormOf p (beside (transposed A) (identity A.width)) c.in_ok-form.form =
-    form_same c.in_ok-both.both.modulus p c.in_ok-both.both.matrix (beside (transposed A) (identity A.width)) c.in_ok-form.form (c.in_ok-both.ensures.modulus ∙ c.in_ok-transposed.ensures.modulus)
-    (c.in_ok-both.ensures.matrix ∙ ap₂ beside c.in_ok-transposed.ensures.matrix (c.in_ok-identity.ensures.matrix ∙ ap identity c.width-width.ensures.value)) c.in_ok-form.ensures in
+    let form = c.in_ok-form.ensures.form in
     let sound : IsMatrix p F = subst (λ m. IsMatrix p m) (sym c.rows.ensures.matrix) form.matrix in
     let wide : F.width ≡ w + w = omega (arith, ap (λ m. m.width) c.rows.ensures.matrix, form.width, c.requires.square, c.width-width.ensures.value) in
     let filled = c.fills.ensures.0 c.if-fills.true in (
@@ -41,9 +37,7 @@ returns-then-fills-clause-inverse g c = λ prime.
     let A : Matrix = c.args.a.now.matrix in
     let w : ℕ = c.width-width.result in
     let leads : List ℕ = c.in_ok-form.form.leads in
-    let form : IsFormOf p (beside (transposed A) (identity A.width)) c.in_ok-form.form =
-    form_same c.in_ok-both.both.modulus p c.in_ok-both.both.matrix (beside (transposed A) (identity A.width)) c.in_ok-form.form (c.in_ok-both.ensures.modulus ∙ c.in_ok-transposed.ensures.modulus)
-    (c.in_ok-both.ensures.matrix ∙ ap₂ beside c.in_ok-transposed.ensures.matrix (c.in_ok-identity.ensures.matrix ∙ ap identity c.width-width.ensures.value)) c.in_ok-form.ensures in
+    let form = c.in_ok-form.ensures.form in
     let filled = c.fills.ensures.0 c.if-fills.true in
     let last : 0 < A.width → slice_index leads (A.width - 1) < A.width = λ some. omega (
       arith,
@@ -54,7 +48,7 @@ returns-then-fills-clause-inverse g c = λ prime.
     ) in
     let half : c.in_ok-right_half.field-0.matrix ≡ right_half A.width c.in_ok-form.form.matrix = c.in_ok-right_half.ensures.matrix ∙ ap₂ right_half c.width-width.ensures.value c.rows.ensures.matrix in
     subst (λ m. IsInverse p A m) (sym half)
-    (half_inverts p A c.in_ok-form.form.matrix leads prime.two_or_more c.modulus-modulus.ensures.sound c.requires.square (form.rref prime) form.leads last)
+    (half_inverts p A c.in_ok-form.form.matrix leads prime.two_or_more c.both_form.ensures.sound c.requires.square (form.rref prime) form.leads last)
 
 pub returns-clause-inverse : goal.returns-clause-inverse
 returns-clause-inverse g c = λ prime.
@@ -63,11 +57,9 @@ returns-clause-inverse g c = λ prime.
     let w : ℕ = c.width-width.result in
     let leads : List ℕ = c.in_ok-form.form.leads in
     let u : List ℕ = row c.in_ok-null_row.field-0.matrix 0 in
-    let form : IsFormOf p (beside (transposed A) (identity A.width)) c.in_ok-form.form =
-    form_same c.in_ok-both.both.modulus p c.in_ok-both.both.matrix (beside (transposed A) (identity A.width)) c.in_ok-form.form (c.in_ok-both.ensures.modulus ∙ c.in_ok-transposed.ensures.modulus)
-    (c.in_ok-both.ensures.matrix ∙ ap₂ beside c.in_ok-transposed.ensures.matrix (c.in_ok-identity.ensures.matrix ∙ ap identity c.width-width.ensures.value)) c.in_ok-form.ensures in
+    let form = c.in_ok-form.ensures.form in
     let F : Matrix = c.in_ok-form.form.matrix in
-    let sound : IsMatrix p A = c.modulus-modulus.ensures.sound in
+    let sound : IsMatrix p A = c.both_form.ensures.sound in
     let other : (length leads ≡ A.width) × (0 < A.width → slice_index leads (A.width - 1) < A.width) → ⊥ = λ h.
     let holds : c.fills.result ≡ true = c.fills.ensures.1 (
       ap length c.leads.ensures.value ∙ h.0 ∙ sym c.width-width.ensures.value,
