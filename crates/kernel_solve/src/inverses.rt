@@ -81,8 +81,7 @@ fn right_half(alloc: Global, rows: &Rows, n: u32) -> Result<Rows, AllocError>
     for k in 0..n {
         named.push(n + k)?;
     }
-    let half = columns.select(alloc, &named)?;
-    Ok(half)
+    columns.select(alloc, &named)
 }
 
 // The first row of the kernel basis; a zero row where there is none.
