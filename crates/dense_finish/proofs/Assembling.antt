@@ -10,7 +10,7 @@ use Rattle.row_space.specs.Factors.{row_at, col_at}
 use Rattle.row_space.proofs.Counting.{pigeonhole}
 use Rattle.sparse_rows.specs.Rows.{ResidueMatrix}
 use Rattle.dense_finish.specs.declared.pivots.Found.{Found}
-use Rattle.dense_finish.specs.Elimination.{AreColumnNames, AreEliminated, AreNames, ArePlaces, AreRowNames, AreSplit, IsBlock, IsFound, IsLeft, IsTaken, line, named_entry, parts}
+use Rattle.dense_finish.specs.Elimination.{AreColumnNames, AreEliminated, AreNames, ArePlaces, AreRowNames, AreSplit, IsBlock, IsFound, IsLeft, IsTaken, block_row, named_entry, parts}
 use Rattle.dense_finish.specs.Factoring.{IsFactored}
 use Rattle.dense_finish.proofs.Naming.{named_or_not}
 use Rattle.dense_finish.proofs.Splitting.{fresh, steps_front}
@@ -59,15 +59,15 @@ module _ {p : ℕ} {A : Matrix} {row_names names : List ℕ} {block rows : List 
       let s = (split prime).done t low low in
       let e = named_entry f.u.matrix names in
       let column = slice_index f.columns.items in
-      let same : parts r e column (line rows t) j ≡ product_at (slice_index row_names t) (slice_index names j) =
-      sum_equal r (λ k. slice_index (line rows t) (column k) * e k j) (λ k. entry L.matrix (slice_index row_names t) k * entry f.u.matrix k (slice_index names j))
+      let same : parts r e column (block_row rows t) j ≡ product_at (slice_index row_names t) (slice_index names j) =
+      sum_equal r (λ k. slice_index (block_row rows t) (column k) * e k j) (λ k. entry L.matrix (slice_index row_names t) k * entry f.u.matrix k (slice_index names j))
       (λ k l. ap (λ x. x * e k j) (sym (left.named t k lt l))) in
       ap (λ x. x % p) (sym (is_block.each t j low lj))
       ∙ elim (named_or_not r column j) [
         | inl w ↦ s.taken j lj w ∙ ap (λ x. x % p) same
         | inr none ↦
             let out : IsTaken r column j → ⊥ = λ w. none w.0 w.1 w.2 in
-            s.left j lj out ∙ ap (λ x. (parts r e column (line rows t) j + x) % p) (eliminated.clear t j low lj out) ∙ ap (λ x. x % p) (add-zero (parts r e column (line rows t) j) ∙ same)
+            s.left j lj out ∙ ap (λ x. (parts r e column (block_row rows t) j + x) % p) (eliminated.clear t j low lj out) ∙ ap (λ x. x % p) (add-zero (parts r e column (block_row rows t) j) ∙ same)
       ]
 
   -- everywhere it is the matrix's entry

@@ -8,7 +8,7 @@ use Rattle.residue_words.specs.declared.plain.Pair.{Pair}
 use Rattle.residue_words.specs.Matrix.{IsMatrix, IsVector, entry}
 use Rattle.sparse_rows.specs.Rows.{ResidueMatrix}
 use Rattle.sparse_rows.specs.Stored.{with_row}
-use Rattle.dense_finish.specs.Elimination.{ArePlaces, IsLeft, place_of}
+use Rattle.dense_finish.specs.Elimination.{ArePlaces, IsLeft, entry_of}
 use Rattle.sparse_rows.proofs.Loops.{matrix_more, row_before, row_last}
 
 pub places_none : (rows columns row_names names : List ℕ) {pivots : List Pair} → pivots ≡ [] → ArePlaces (take 0 rows) columns row_names names pivots
@@ -60,7 +60,7 @@ pub record IsLeftSoFar (p : ℕ) (row_names columns : List ℕ) (rows : List (Li
   pub width : L.matrix.width ≡ length columns
   pub passed : (t : ℕ) → t < next → slice_index row_names t < i
   pub coming : (t : ℕ) → next ≤ t → t < length row_names → i ≤ slice_index row_names t
-  pub named : (t k : ℕ) → t < next → k < length columns → entry L.matrix (slice_index row_names t) k ≡ place_of rows t (slice_index columns k)
+  pub named : (t k : ℕ) → t < next → k < length columns → entry L.matrix (slice_index row_names t) k ≡ entry_of rows t (slice_index columns k)
   pub others : (x k : ℕ) → x < i → k < length columns → ((t : ℕ) → t < length row_names → slice_index row_names t ≢ x) → entry L.matrix x k ≡ 0
 
 pub left_none : {p : ℕ} (row_names columns : List ℕ) (rows : List (List ℕ)) {L : ResidueMatrix} → L.modulus ≡ p → L.matrix ≡ record { height = 0; width = length columns; rows = [] } →
@@ -89,7 +89,7 @@ module _ {p i next : ℕ} {row_names columns v : List ℕ} {rows : List (List �
   grown = rw is (matrix_more h.matrix (rw h.width vector))
 
   -- row i is the next that has a name
-  pub left_named : next < length row_names → slice_index row_names next ≡ i → ((k : ℕ) → k < length columns → slice_index v k ≡ place_of rows next (slice_index columns k)) →
+  pub left_named : next < length row_names → slice_index row_names next ≡ i → ((k : ℕ) → k < length columns → slice_index v k ≡ entry_of rows next (slice_index columns k)) →
       IsLeftSoFar p row_names columns rows (i + 1) (next + 1) M
   left_named some at read = record {
     modulus = modulus ∙ h.modulus;
@@ -99,7 +99,7 @@ module _ {p i next : ℕ} {row_names columns v : List ℕ} {rows : List (List �
     passed = λ t l. elim (cases_eq t next) [ inl e ↦ omega (arith, ap (slice_index row_names) e) | inr d ↦ omega (arith, h.passed t (omega arith)) ];
     coming = λ t a l. omega (arith, rising next t (omega arith) l);
     named = λ t k l lk. elim (cases_eq t next) [
-      | inl e ↦ last (slice_index row_names t) k (ap (slice_index row_names) e ∙ at) ∙ read k lk ∙ ap (λ s. place_of rows s (slice_index columns k)) (sym e)
+      | inl e ↦ last (slice_index row_names t) k (ap (slice_index row_names) e ∙ at) ∙ read k lk ∙ ap (λ s. entry_of rows s (slice_index columns k)) (sym e)
       | inr d ↦ old (slice_index row_names t) k (h.passed t (omega arith)) ∙ h.named t k (omega arith) lk
     ];
     others = λ x k l lk none. elim (cases_eq x i) [

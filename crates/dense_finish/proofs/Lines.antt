@@ -4,30 +4,30 @@ use Rattle.std.proofs.Math.ListN.{get_or-append}
 use Rattle.std.proofs.Math.Seq.{get_or-append_seam}
 use Rattle.std.proofs.lemmas.Bool.{cases_eq}
 use Rattle.std.proofs.lemmas.List.{get_or_default, get_or-set_same, get_or-set_other}
-use Rattle.dense_finish.specs.Elimination.{Reduces, line}
+use Rattle.dense_finish.specs.Elimination.{Reduces, block_row}
 
 -- what holds of the rows before k and of v, holds with v put at k
-pub each_more : (P : List ℕ → List ℕ → Type 0) (xs ys : List (List ℕ)) (k : ℕ) (v : List ℕ) → k < length ys → P (line xs k) v →
-    ((t : ℕ) → t < k → P (line xs t) (line ys t)) → (t : ℕ) → t < k + 1 → P (line xs t) (line (slice_set ys k v) t)
+pub each_more : (P : List ℕ → List ℕ → Type 0) (xs ys : List (List ℕ)) (k : ℕ) (v : List ℕ) → k < length ys → P (block_row xs k) v →
+    ((t : ℕ) → t < k → P (block_row xs t) (block_row ys t)) → (t : ℕ) → t < k + 1 → P (block_row xs t) (block_row (slice_set ys k v) t)
 each_more P xs ys k v l here before t lt =
     elim (cases_eq t k) [
-      | inl e ↦ subst (P (line xs t)) (sym (ap (line (slice_set ys k v)) e ∙ get_or-set_same ys k v [] l)) (subst (λ s. P (line xs s) v) (sym e) here)
-      | inr d ↦ subst (P (line xs t)) (sym (get_or-set_other ys k t v [] d)) (before t (omega arith))
+      | inl e ↦ subst (P (block_row xs t)) (sym (ap (block_row (slice_set ys k v)) e ∙ get_or-set_same ys k v [] l)) (subst (λ s. P (block_row xs s) v) (sym e) here)
+      | inr d ↦ subst (P (block_row xs t)) (sym (get_or-set_other ys k t v [] d)) (before t (omega arith))
     ]
 
 -- a row that is read is this row
-pub read_line : (rows : List (List ℕ)) (k : ℕ) (v : List ℕ) → k < length rows → slice_index_or rows k v ≡ line rows k
+pub read_line : (rows : List (List ℕ)) (k : ℕ) (v : List ℕ) → k < length rows → slice_index_or rows k v ≡ block_row rows k
 read_line rows k v l = get_or_default rows k v [] l
 
 -- what holds of each row and of v, holds with v behind them
-pub appended : (P : ℕ → List ℕ → Type 0) (xs : List (List ℕ)) (v : List ℕ) → P (length xs) v → ((t : ℕ) → t < length xs → P t (line xs t)) →
-    (t : ℕ) → t < length (xs ++ v ∷ []) → P t (line (xs ++ v ∷ []) t)
+pub appended : (P : ℕ → List ℕ → Type 0) (xs : List (List ℕ)) (v : List ℕ) → P (length xs) v → ((t : ℕ) → t < length xs → P t (block_row xs t)) →
+    (t : ℕ) → t < length (xs ++ v ∷ []) → P t (block_row (xs ++ v ∷ []) t)
 appended P xs v here before t l =
     elim (cases_eq t (length xs)) [
-      | inl e ↦ subst (P t) (sym (ap (line (xs ++ v ∷ [])) e ∙ get_or-append_seam xs v [] [])) (subst (λ s. P s v) (sym e) here)
+      | inl e ↦ subst (P t) (sym (ap (block_row (xs ++ v ∷ [])) e ∙ get_or-append_seam xs v [] [])) (subst (λ s. P s v) (sym e) here)
       | inr d ↦ let less : t < length xs = omega (arith, length-append xs (v ∷ [])) in subst (P t) (sym (get_or-append xs (v ∷ []) [] t less)) (before t less)
     ]
 
 -- a row that was read and reduced
-pub reduced_line : (p n : ℕ) (columns : List ℕ) (rows block : List (List ℕ)) (i : ℕ) (d v : List ℕ) → i < length block → Reduces p n columns rows (slice_index_or block i d) v → Reduces p n columns rows (line block i) v
+pub reduced_line : (p n : ℕ) (columns : List ℕ) (rows block : List (List ℕ)) (i : ℕ) (d v : List ℕ) → i < length block → Reduces p n columns rows (slice_index_or block i d) v → Reduces p n columns rows (block_row block i) v
 reduced_line p n columns rows block i d v l h = subst (λ u. Reduces p n columns rows u v) (read_line block i d l) h

@@ -8,7 +8,7 @@ use Rattle.residue_words.specs.Matrix.{IsVector}
 use Rattle.residue_words.specs.Residues.{IsPrime}
 use Rattle.row_space.specs.Rows.{HasSteps}
 use Rattle.dense_finish.specs.declared.pivots.Found.{Found}
-use Rattle.dense_finish.specs.Elimination.{AreEliminated, AreSplit, IsFound, IsPanel, IsPivotOf, IsSplit, IsTaken, KeepsCoefficients, Reduces, line, named_entry, place_of}
+use Rattle.dense_finish.specs.Elimination.{AreEliminated, AreSplit, IsFound, IsPanel, IsPivotOf, IsSplit, IsTaken, KeepsCoefficients, Reduces, block_row, entry_of, named_entry}
 use Rattle.dense_finish.proofs.Growing.{Grows, unmarked}
 use Rattle.dense_finish.proofs.Splitting.{split_more, split_none, split_same}
 
@@ -19,13 +19,13 @@ cases_bool false = inr refl
 -- row i becomes w
 pub record Changes (i : ℕ) (w : List ℕ) (old new : List (List ℕ)) : Type 0 where
   pub long : length new ≡ length old
-  pub here : (t : ℕ) → t ≡ i → line new t ≡ w
-  pub others : (t : ℕ) → t ≢ i → line new t ≡ line old t
+  pub here : (t : ℕ) → t ≡ i → block_row new t ≡ w
+  pub others : (t : ℕ) → t ≢ i → block_row new t ≡ block_row old t
 
 pub changes_set : (rows : List (List ℕ)) (i : ℕ) (w : List ℕ) → i < length rows → Changes i w rows (slice_set rows i w)
 changes_set rows i w l = record {
   long = length-set rows i w;
-  here = λ t e. ap (line (slice_set rows i w)) e ∙ get_or-set_same rows i w [] l;
+  here = λ t e. ap (block_row (slice_set rows i w)) e ∙ get_or-set_same rows i w [] l;
   others = λ t d. get_or-set_other rows i t w [] d;
 }
 
@@ -33,7 +33,7 @@ pub changes_twice : {i : ℕ} {v w : List ℕ} {old mid new : List (List ℕ)} �
 changes_twice a b = record { long = b.long ∙ a.long; here = b.here; others = λ t d. b.others t d ∙ a.others t d }
 
 -- of a changed row i, what holds of w
-changed : (P : List ℕ → Type 0) {i : ℕ} {w : List ℕ} {old new : List (List ℕ)} → Changes i w old new → P w → (t : ℕ) → (t ≢ i → P (line old t)) → P (line new t)
+changed : (P : List ℕ → Type 0) {i : ℕ} {w : List ℕ} {old new : List (List ℕ)} → Changes i w old new → P w → (t : ℕ) → (t ≢ i → P (block_row old t)) → P (block_row new t)
 changed P {i} {w} {old} {new} h here t other = elim (cases_eq t i) [ inl e ↦ subst P (sym (h.here t e)) here | inr d ↦ subst P (sym (h.others t d)) (other d) ]
 
 -- row i holds coefficients alone
@@ -46,7 +46,7 @@ eliminated_same {p} {n} {width} {i} {names} {w} {f} {old} {new} found h vector c
   after = λ k t a l. same k (slice_index f.columns.items t) (omega arith) ∙ before.after k t a l;
 }
   where
-    same : (k j : ℕ) → k < length f.columns.items → place_of new (slice_index f.rows.items k) j ≡ place_of old (slice_index f.rows.items k) j
+    same : (k j : ℕ) → k < length f.columns.items → entry_of new (slice_index f.rows.items k) j ≡ entry_of old (slice_index f.rows.items k) j
     same k j l = ap (λ v. slice_index v j) (h.others (slice_index f.rows.items k) (λ e. omega (arith, found.inside k l)))
 
 -- row i is the next pivot's
@@ -66,33 +66,33 @@ eliminated_more {p} {width} {i} {c} {names} {q} {v} {w} {f} {g} {old} {new} foun
   leads = λ k l z. elim (cases_eq k r) [
     | inl e ↦
         nonzero (sym kept.lead ∙ ap (λ u. slice_index u c) (sym (h.here (slice_index g.rows.items k) (ap (slice_index g.rows.items) e ∙ grown.row)))
-        ∙ ap (slice_index (line new (slice_index g.rows.items k))) (sym (ap (slice_index g.columns.items) e ∙ grown.column)) ∙ z)
+        ∙ ap (slice_index (block_row new (slice_index g.rows.items k))) (sym (ap (slice_index g.columns.items) e ∙ grown.column)) ∙ z)
     | inr d ↦
         let low : k < r = omega (arith, grown.count) in
-        before.leads k low (sym (same k (slice_index f.columns.items k) low) ∙ ap (place_of new (slice_index g.rows.items k)) (sym (grown.columns k low)) ∙ z)
+        before.leads k low (sym (same k (slice_index f.columns.items k) low) ∙ ap (entry_of new (slice_index g.rows.items k)) (sym (grown.columns k low)) ∙ z)
   ];
   after = λ k t a l.
       let low : k < r = omega (arith, grown.count) in
       elim (cases_eq t r) [
         | inl e ↦
-            ap (place_of new (slice_index g.rows.items k)) (ap (slice_index g.columns.items) e ∙ grown.column) ∙ same k c low
+            ap (entry_of new (slice_index g.rows.items k)) (ap (slice_index g.columns.items) e ∙ grown.column) ∙ same k c low
             ∙ before.clear (slice_index f.rows.items k) c (found.inside k low) inside (unmarked found c free)
         | inr d ↦
             let less : t < r = omega (arith, grown.count) in
-            ap (place_of new (slice_index g.rows.items k)) (grown.columns t less) ∙ same k (slice_index f.columns.items t) low ∙ before.after k t a less
+            ap (entry_of new (slice_index g.rows.items k)) (grown.columns t less) ∙ same k (slice_index f.columns.items t) low ∙ before.after k t a less
       ];
 }
   where
     r : ℕ
     r = length f.columns.items
 
-    same : (k j : ℕ) → k < r → place_of new (slice_index g.rows.items k) j ≡ place_of old (slice_index f.rows.items k) j
+    same : (k j : ℕ) → k < r → entry_of new (slice_index g.rows.items k) j ≡ entry_of old (slice_index f.rows.items k) j
     same k j l =
-        ap (λ t. place_of new t j) (grown.rows k l) ∙ ap (λ u. slice_index u j) (h.others (slice_index f.rows.items k) (λ e. omega (arith, found.inside k l)))
+        ap (λ t. entry_of new t j) (grown.rows k l) ∙ ap (λ u. slice_index u j) (h.others (slice_index f.rows.items k) (λ e. omega (arith, found.inside k l)))
 
 -- the rows behind the first i are changed
-pub eliminated_behind : {p n width i : ℕ} {names : List ℕ} {f : Found} {old new : List (List ℕ)} → IsFound p names width i f → length new ≡ length old → ((t : ℕ) → t < i → line new t ≡ line old t) →
-    ((t : ℕ) → i ≤ t → t < length old → IsVector p n (line new t)) → AreEliminated p n i f old → AreEliminated p n i f new
+pub eliminated_behind : {p n width i : ℕ} {names : List ℕ} {f : Found} {old new : List (List ℕ)} → IsFound p names width i f → length new ≡ length old → ((t : ℕ) → t < i → block_row new t ≡ block_row old t) →
+    ((t : ℕ) → i ≤ t → t < length old → IsVector p n (block_row new t)) → AreEliminated p n i f old → AreEliminated p n i f new
 eliminated_behind {p} {n} {width} {i} {names} {f} {old} {new} found long same vectors before = record {
   vectors = λ t l. elim (cases_lt t i) [
     | inl less ↦ subst (IsVector p n) (sym (same t less)) (before.vectors t (omega arith))
@@ -117,25 +117,25 @@ reduced_split {p} {r} {width} {names} {columns} {b} {v} {w} {rows} {f} panel ste
 
 -- row i splits by all pivots
 pub split_row : {p r i : ℕ} {names w : List ℕ} {block old new : List (List ℕ)} {f : Found} → Changes i w old new →
-    IsSplit p (length names) (length f.columns.items) (named_entry f.u.matrix names) (slice_index f.columns.items) (line block i) w → AreSplit p names r i block f old → AreSplit p names r (i + 1) block f new
+    IsSplit p (length names) (length f.columns.items) (named_entry f.u.matrix names) (slice_index f.columns.items) (block_row block i) w → AreSplit p names r i block f old → AreSplit p names r (i + 1) block f new
 split_row {p} {r} {i} {names} {w} {block} {old} {new} {f} h here before = record {
   long = h.long ∙ before.long;
   done = λ t l lb. elim (cases_eq t i) [
-    | inl e ↦ subst (IsSplit p (length names) (length f.columns.items) (named_entry f.u.matrix names) (slice_index f.columns.items) (line block t)) (sym (h.here t e))
-        (subst (λ s. IsSplit p (length names) (length f.columns.items) (named_entry f.u.matrix names) (slice_index f.columns.items) (line block s) w) (sym e) here)
-    | inr d ↦ subst (IsSplit p (length names) (length f.columns.items) (named_entry f.u.matrix names) (slice_index f.columns.items) (line block t)) (sym (h.others t d)) (before.done t (omega arith) lb)
+    | inl e ↦ subst (IsSplit p (length names) (length f.columns.items) (named_entry f.u.matrix names) (slice_index f.columns.items) (block_row block t)) (sym (h.here t e))
+        (subst (λ s. IsSplit p (length names) (length f.columns.items) (named_entry f.u.matrix names) (slice_index f.columns.items) (block_row block s) w) (sym e) here)
+    | inr d ↦ subst (IsSplit p (length names) (length f.columns.items) (named_entry f.u.matrix names) (slice_index f.columns.items) (block_row block t)) (sym (h.others t d)) (before.done t (omega arith) lb)
   ];
-  ahead = λ t l lb. subst (IsSplit p (length names) r (named_entry f.u.matrix names) (slice_index f.columns.items) (line block t)) (sym (h.others t (λ e. omega arith))) (before.ahead t (omega arith) lb);
+  ahead = λ t l lb. subst (IsSplit p (length names) r (named_entry f.u.matrix names) (slice_index f.columns.items) (block_row block t)) (sym (h.others t (λ e. omega arith))) (before.ahead t (omega arith) lb);
 }
 
 -- with the next pivot, of row i, whose reduced row is v
 pub split_pivot : {p r width i c : ℕ} {names q v w : List ℕ} {block old : List (List ℕ)} {f g : Found} → IsPrime p → r ≤ length f.columns.items → IsFound p names width i f →
     IsFound p names width (i + 1) g → Grows names i c q f g → c < length names → slice_index_or f.taken.items c false ≡ false → IsPivotOf p (length names) c f.taken.items v q →
     KeepsCoefficients p (length names) c f.taken.items v w → AreEliminated p (length names) i f old →
-    IsSplit p (length names) (length f.columns.items) (named_entry f.u.matrix names) (slice_index f.columns.items) (line block i) v → AreSplit p names r i block f old →
-    IsSplit p (length names) (length g.columns.items) (named_entry g.u.matrix names) (slice_index g.columns.items) (line block i) w × AreSplit p names r i block g old
+    IsSplit p (length names) (length f.columns.items) (named_entry f.u.matrix names) (slice_index f.columns.items) (block_row block i) v → AreSplit p names r i block f old →
+    IsSplit p (length names) (length g.columns.items) (named_entry g.u.matrix names) (slice_index g.columns.items) (block_row block i) w × AreSplit p names r i block g old
 split_pivot {p} {r} {width} {i} {c} {names} {q} {v} {w} {block} {old} {f} {g} prime le found found_then grown inside free pivot kept eliminated here before = (
-  longer (line block i) w (split_more steps
+  longer (block_row block i) w (split_more steps
       (λ k l. ap (slice_index w) (grown.columns k l) ∙ kept.kept (slice_index f.columns.items k) (found.steps.inside k l) (found.marked k l) ∙ ap (slice_index v) (sym (grown.columns k l)))
       (ap (slice_index w) grown.column ∙ kept.lead ∙ ap (slice_index v) (sym grown.column))
       (λ j l none other.
@@ -146,18 +146,18 @@ split_pivot {p} {r} {width} {i} {c} {names} {q} {v} {w} {block} {old} {f} {g} pr
             pivot.scaled prime j l last unmarked
             ∙ ap (λ x. x % p) (ap₂ (λ x y. slice_index v x * y) (sym grown.column) (sym (grown.entry j l)) ∙ sym (zero-add (slice_index v (slice_index g.columns.items s) * named_entry g.u.matrix names s j)))
             ∙ ap (λ x. (x + slice_index v (slice_index g.columns.items s) * named_entry g.u.matrix names s j) % p) (sym (kept.clear j l last unmarked))
-      ]) (turned s (omega arith) (line block i) v here)),
+      ]) (turned s (omega arith) (block_row block i) v here)),
   record {
     long = before.long;
     done = λ t l lb.
-        let none : slice_index (line old t) (slice_index g.columns.items s) ≡ 0 =
-        ap (slice_index (line old t)) grown.column ∙ eliminated.clear t c l inside (unmarked found c free) in
-        longer (line block t) (line old t)
+        let none : slice_index (block_row old t) (slice_index g.columns.items s) ≡ 0 =
+        ap (slice_index (block_row old t)) grown.column ∙ eliminated.clear t c l inside (unmarked found c free) in
+        longer (block_row block t) (block_row old t)
         (split_more steps (λ k lk. refl) refl
         (λ j lj out other.
-        ap (λ x. x % p) (sym (ap (λ x. slice_index (line old t) j + x * named_entry g.u.matrix names s j) none ∙ ap (λ x. slice_index (line old t) j + x) (zero-mul (named_entry g.u.matrix names s j))
-        ∙ add-zero (slice_index (line old t) j)))) (turned s (omega arith) (line block t) (line old t) (before.done t l lb)));
-    ahead = λ t l lb. turned r le (line block t) (line old t) (before.ahead t l lb);
+        ap (λ x. x % p) (sym (ap (λ x. slice_index (block_row old t) j + x * named_entry g.u.matrix names s j) none ∙ ap (λ x. slice_index (block_row old t) j + x) (zero-mul (named_entry g.u.matrix names s j))
+        ∙ add-zero (slice_index (block_row old t) j)))) (turned s (omega arith) (block_row block t) (block_row old t) (before.done t l lb)));
+    ahead = λ t l lb. turned r le (block_row block t) (block_row old t) (before.ahead t l lb);
   },
 )
   where
@@ -177,11 +177,11 @@ split_pivot {p} {r} {width} {i} {c} {names} {q} {v} {w} {block} {old} {f} {g} pr
 
 -- the panel's pivots are taken from the rows behind the first i
 pub split_behind : {p r i width : ℕ} {names columns : List ℕ} {rows block old new : List (List ℕ)} {f : Found} → IsPanel p names r f width columns rows →
-    HasSteps (length f.columns.items) (length names) (named_entry f.u.matrix names) (slice_index f.columns.items) → length new ≡ length old → ((t : ℕ) → t < i → line new t ≡ line old t) →
-    ((t : ℕ) → i ≤ t → t < length old → Reduces p width columns rows (line old t) (line new t)) → AreSplit p names r i block f old → AreSplit p names (length f.columns.items) i block f new
+    HasSteps (length f.columns.items) (length names) (named_entry f.u.matrix names) (slice_index f.columns.items) → length new ≡ length old → ((t : ℕ) → t < i → block_row new t ≡ block_row old t) →
+    ((t : ℕ) → i ≤ t → t < length old → Reduces p width columns rows (block_row old t) (block_row new t)) → AreSplit p names r i block f old → AreSplit p names (length f.columns.items) i block f new
 split_behind {p} {r} {i} {width} {names} {columns} {rows} {block} {old} {new} {f} panel steps long same behind before = record {
   long = long ∙ before.long;
-  done = λ t l lb. subst (IsSplit p (length names) (length f.columns.items) (named_entry f.u.matrix names) (slice_index f.columns.items) (line block t)) (sym (same t l)) (before.done t l lb);
+  done = λ t l lb. subst (IsSplit p (length names) (length f.columns.items) (named_entry f.u.matrix names) (slice_index f.columns.items) (block_row block t)) (sym (same t l)) (before.done t l lb);
   ahead = λ t l lb. reduced_split panel steps (behind t l (omega (arith, before.long))) (before.ahead t l lb);
 }
 
@@ -190,10 +190,10 @@ pub split_begins : {p : ℕ} (names : List ℕ) (block : List (List ℕ)) (f : F
 split_begins {p} names block f none = record {
   long = refl;
   done = λ t l lb. absurd (omega arith);
-  ahead = λ t l lb. subst (λ r. IsSplit p (length names) r (named_entry f.u.matrix names) (slice_index f.columns.items) (line block t) (line block t)) (sym none) split_none;
+  ahead = λ t l lb. subst (λ r. IsSplit p (length names) r (named_entry f.u.matrix names) (slice_index f.columns.items) (block_row block t) (block_row block t)) (sym none) split_none;
 }
 
-pub eliminated_begins : {p n : ℕ} (block : List (List ℕ)) (f : Found) → length f.columns.items ≡ 0 → ((t : ℕ) → t < length block → IsVector p n (line block t)) → AreEliminated p n 0 f block
+pub eliminated_begins : {p n : ℕ} (block : List (List ℕ)) (f : Found) → length f.columns.items ≡ 0 → ((t : ℕ) → t < length block → IsVector p n (block_row block t)) → AreEliminated p n 0 f block
 eliminated_begins block f none vectors = record {
   vectors = vectors;
   clear = λ t j l lj out. absurd (omega arith);
@@ -269,8 +269,8 @@ panel_more {p} {r} {width} {i} {c} {names} {q} {v} {columns} {columns_then} {row
     old : (k : ℕ) → k < m → slice_index columns_then k ≡ slice_index columns k
     old k l = ap (λ xs. slice_index xs k) more_columns ∙ get_or-append columns (c ∷ []) 0 k l
 
-    last_row : (k : ℕ) → k ≡ m → line rows_then k ≡ q
-    last_row k e = ap₂ (λ xs t. line xs t) more_rows (e ∙ sym panel.pivots.long) ∙ get_or-append_seam rows q [] []
+    last_row : (k : ℕ) → k ≡ m → block_row rows_then k ≡ q
+    last_row k e = ap₂ (λ xs t. block_row xs t) more_rows (e ∙ sym panel.pivots.long) ∙ get_or-append_seam rows q [] []
 
-    old_row : (k : ℕ) → k < m → line rows_then k ≡ line rows k
-    old_row k l = ap (λ xs. line xs k) more_rows ∙ get_or-append rows (q ∷ []) [] k (omega (arith, panel.pivots.long))
+    old_row : (k : ℕ) → k < m → block_row rows_then k ≡ block_row rows k
+    old_row k l = ap (λ xs. block_row xs k) more_rows ∙ get_or-append rows (q ∷ []) [] k (omega (arith, panel.pivots.long))

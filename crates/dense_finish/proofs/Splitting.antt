@@ -8,7 +8,7 @@ use Rattle.residue_words.specs.Residues.{sum_below}
 use Rattle.residue_words.proofs.Residues.{add_same}
 use Rattle.residue_words.proofs.Sums.{sum_equal, sum_more}
 use Rattle.row_space.specs.Rows.{HasSteps}
-use Rattle.dense_finish.specs.Elimination.{IsSplit, IsTaken, Reduces, TakesOut, line, parts}
+use Rattle.dense_finish.specs.Elimination.{IsSplit, IsTaken, Reduces, TakesOut, block_row, parts}
 
 -- fewer steps
 pub steps_front : {r s n : ℕ} {e : ℕ → ℕ → ℕ} {column : ℕ → ℕ} → r ≤ s → HasSteps s n e column → HasSteps r n e column
@@ -106,7 +106,7 @@ reduces_none {p} {n} columns {rows} {v} vector = record {
 
 -- one more is
 pub reduces_more : {p n : ℕ} (columns : List ℕ) {rows : List (List ℕ)} {v w x : List ℕ} (k : ℕ) → k < length columns → Reduces p n (take k columns) rows v w →
-    TakesOut p n (slice_index columns k) (line rows k) w x → Reduces p n (take (k + 1) columns) rows v x
+    TakesOut p n (slice_index columns k) (block_row rows k) w x → Reduces p n (take (k + 1) columns) rows v x
 reduces_more {p} {n} columns {rows} {v} {w} {x} k l h out = record {
   vector = out.vector;
   split = λ r e column b continues steps before.

@@ -4,7 +4,7 @@ use Rattle.std.proofs.lemmas.List.{length-set}
 use Rattle.residue_words.specs.Matrix.{IsVector}
 use Rattle.residue_words.specs.Residues.{IsPrime}
 use Rattle.dense_finish.specs.declared.pivots.Found.{Found}
-use Rattle.dense_finish.specs.Elimination.{AreEliminated, AreSplit, Extends, IsFirstLeft, IsFound, IsPanel, IsTaken, Reduces, TakesPivot, line}
+use Rattle.dense_finish.specs.Elimination.{AreEliminated, AreSplit, Extends, IsFirstLeft, IsFound, IsPanel, IsTaken, Reduces, TakesPivot, block_row}
 use Rattle.dense_finish.proofs.Growing.{Grows, found_more, grows}
 use Rattle.dense_finish.proofs.Progress.{Changes, cases_bool, changes_set, changes_twice, eliminated_more, eliminated_same, panel_more, reduced_split, split_pivot, split_row}
 
@@ -34,7 +34,7 @@ found_later h = record {
 
 -- what is left of row i is v, in which nothing is left
 module _ {p width r i wide : ℕ} {names columns v : List ℕ} {rows block : List (List ℕ)} {f : Found} (stage : IsStage p names width r i f block wide columns rows) (inside : i < length block)
-    (reduced : Reduces p wide columns rows (line block i) v) where
+    (reduced : Reduces p wide columns rows (block_row block i) v) where
   pub reduced_vector : IsVector p (length names) v
   reduced_vector = subst (λ n. IsVector p n v) stage.panel.wide reduced.vector
 

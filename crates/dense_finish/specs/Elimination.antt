@@ -9,12 +9,12 @@ use Rattle.sparse_rows.specs.Stored.{with_row}
 use Rattle.row_space.specs.Rows.{HasSteps}
 use Rattle.dense_finish.specs.declared.pivots.Found.{Found}
 
--- row t of some rows, and its entry at j: 0 outside
-abbrev pub line : List (List ℕ) → ℕ → List ℕ
-line rows t = slice_index_or rows t []
+-- row t of a block's rows, and its entry at j: 0 outside
+abbrev pub block_row : List (List ℕ) → ℕ → List ℕ
+block_row rows t = slice_index_or rows t []
 
-abbrev pub place_of : List (List ℕ) → ℕ → ℕ → ℕ
-place_of rows t j = slice_index (line rows t) j
+abbrev pub entry_of : List (List ℕ) → ℕ → ℕ → ℕ
+entry_of rows t j = slice_index (block_row rows t) j
 
 -- one of the first r pivots stands at column j
 abbrev pub IsTaken : ℕ → (ℕ → ℕ) → ℕ → Type 0
@@ -33,13 +33,13 @@ pub record IsSplit (p n r : ℕ) (e : ℕ → ℕ → ℕ) (column : ℕ → ℕ
 pub record ArePivots (p n : ℕ) (columns : List ℕ) (rows : List (List ℕ)) : Type 0 where
   pub long : length rows ≡ length columns
   pub inside : (k : ℕ) → k < length columns → slice_index columns k < n
-  pub vectors : (k : ℕ) → k < length columns → IsVector p n (line rows k)
-  pub before : (k j : ℕ) → k < length columns → j < slice_index columns k → place_of rows k j ≡ 0
+  pub vectors : (k : ℕ) → k < length columns → IsVector p n (block_row rows k)
+  pub before : (k j : ℕ) → k < length columns → j < slice_index columns k → entry_of rows k j ≡ 0
 
 -- the pivots from the r-th on have these columns and rows
 pub record Continues (n r : ℕ) (e : ℕ → ℕ → ℕ) (column : ℕ → ℕ) (columns : List ℕ) (rows : List (List ℕ)) : Type 0 where
   pub stands : (k : ℕ) → k < length columns → column (r + k) ≡ slice_index columns k
-  pub entries : (k j : ℕ) → k < length columns → j < n → e (r + k) j ≡ place_of rows k j
+  pub entries : (k j : ℕ) → k < length columns → j < n → e (r + k) j ≡ entry_of rows k j
 
 -- v is w and the multiple of q by v's entry at column c; there w keeps this entry
 pub record TakesOut (p n c : ℕ) (q v w : List ℕ) : Type 0 where
@@ -75,16 +75,16 @@ pub record IsFound (p : ℕ) (names : List ℕ) (width i : ℕ) (f : Found) : Ty
 
 -- the first i rows hold coefficients alone: of a pivot's row the last, at its column, is not 0
 pub record AreEliminated (p n i : ℕ) (f : Found) (rows : List (List ℕ)) : Type 0 where
-  pub vectors : (t : ℕ) → t < length rows → IsVector p n (line rows t)
-  pub clear : (t j : ℕ) → t < i → j < n → (IsTaken (length f.columns.items) (slice_index f.columns.items) j → ⊥) → place_of rows t j ≡ 0
-  pub leads : (k : ℕ) → k < length f.columns.items → place_of rows (slice_index f.rows.items k) (slice_index f.columns.items k) ≢ 0
-  pub after : (k t : ℕ) → k < t → t < length f.columns.items → place_of rows (slice_index f.rows.items k) (slice_index f.columns.items t) ≡ 0
+  pub vectors : (t : ℕ) → t < length rows → IsVector p n (block_row rows t)
+  pub clear : (t j : ℕ) → t < i → j < n → (IsTaken (length f.columns.items) (slice_index f.columns.items) j → ⊥) → entry_of rows t j ≡ 0
+  pub leads : (k : ℕ) → k < length f.columns.items → entry_of rows (slice_index f.rows.items k) (slice_index f.columns.items k) ≢ 0
+  pub after : (k t : ℕ) → k < t → t < length f.columns.items → entry_of rows (slice_index f.rows.items k) (slice_index f.columns.items t) ≡ 0
 
 -- the block's first i rows split into these by all pivots, the others by the first r
 pub record AreSplit (p : ℕ) (names : List ℕ) (r i : ℕ) (block : List (List ℕ)) (f : Found) (rows : List (List ℕ)) : Type 0 where
   pub long : length rows ≡ length block
-  pub done : (t : ℕ) → t < i → t < length block → IsSplit p (length names) (length f.columns.items) (named_entry f.u.matrix names) (slice_index f.columns.items) (line block t) (line rows t)
-  pub ahead : (t : ℕ) → i ≤ t → t < length block → IsSplit p (length names) r (named_entry f.u.matrix names) (slice_index f.columns.items) (line block t) (line rows t)
+  pub done : (t : ℕ) → t < i → t < length block → IsSplit p (length names) (length f.columns.items) (named_entry f.u.matrix names) (slice_index f.columns.items) (block_row block t) (block_row rows t)
+  pub ahead : (t : ℕ) → i ≤ t → t < length block → IsSplit p (length names) r (named_entry f.u.matrix names) (slice_index f.columns.items) (block_row block t) (block_row rows t)
 
 -- these are the pivots from the r-th on
 pub record IsPanel (p : ℕ) (names : List ℕ) (r : ℕ) (f : Found) (width : ℕ) (columns : List ℕ) (rows : List (List ℕ)) : Type 0 where
@@ -165,8 +165,8 @@ AreColumnNames A names = AreNames A.width (λ x. (i : ℕ) → i < A.height → 
 -- the entries of A at the named rows and columns
 pub record IsBlock (p : ℕ) (A : Matrix) (row_names names : List ℕ) (block : List (List ℕ)) : Type 0 where
   pub long : length block ≡ length row_names
-  pub vectors : (t : ℕ) → t < length block → IsVector p (length names) (line block t)
-  pub each : (t j : ℕ) → t < length block → j < length names → place_of block t j ≡ entry A (slice_index row_names t) (slice_index names j)
+  pub vectors : (t : ℕ) → t < length block → IsVector p (length names) (block_row block t)
+  pub each : (t j : ℕ) → t < length block → j < length names → entry_of block t j ≡ entry A (slice_index row_names t) (slice_index names j)
 
 -- the left factor: at each named row the coefficients of this row of the block, and zeros at the others
 pub record IsLeft (p m : ℕ) (row_names columns : List ℕ) (rows : List (List ℕ)) (L : ResidueMatrix) : Type 0 where
@@ -174,7 +174,7 @@ pub record IsLeft (p m : ℕ) (row_names columns : List ℕ) (rows : List (List 
   pub matrix : IsMatrix p L.matrix
   pub height : L.matrix.height ≡ m
   pub width : L.matrix.width ≡ length columns
-  pub named : (t k : ℕ) → t < length row_names → k < length columns → entry L.matrix (slice_index row_names t) k ≡ place_of rows t (slice_index columns k)
+  pub named : (t k : ℕ) → t < length row_names → k < length columns → entry L.matrix (slice_index row_names t) k ≡ entry_of rows t (slice_index columns k)
   pub others : (i k : ℕ) → i < m → k < length columns → ((t : ℕ) → t < length row_names → slice_index row_names t ≢ i) → entry L.matrix i k ≡ 0
 
 -- the pivots' places in the matrix, by the names of their rows and columns

@@ -2,7 +2,7 @@
 ghost use Rattle.std.specs.Prelude.{◌≡◌, ◌<◌, ◌≤◌, ℕ, List, length, slice_index, IfOk};
 ghost use Rattle.residue_words.specs.Matrix.{IsVector};
 ghost use Rattle.residue_words.specs.Residues.{IsPrime};
-ghost use Rattle.dense_finish.specs.Elimination.{AreEliminated, AreSplit, IsFound, IsPanel, line};
+ghost use Rattle.dense_finish.specs.Elimination.{AreEliminated, AreSplit, IsFound, IsPanel, block_row};
 ghost use Rattle.dense_finish.specs.Factoring.{IsFactored};
 
 use crate::block::block_of;
@@ -89,7 +89,7 @@ fn eliminate<R: Threads + Sync, W: Residue>(
     requires few { length names.now ≤ 2147483648 }
     requires inside { (j : ℕ) → j < length names.now → slice_index names.now j < width }
     requires rising { (j k : ℕ) → j < k → k < length names.now → slice_index names.now j < slice_index names.now k }
-    requires residues { (t : ℕ) → t < length block.old → IsVector p.now (length names.now) (line block.old t) }
+    requires residues { (t : ℕ) → t < length block.old → IsVector p.now (length names.now) (block_row block.old t) }
     ensures found { IfOk result (IsFound p.now names.now width (length block.old)) }
     ensures eliminated { IfOk result (λ found. AreEliminated p.now (length names.now) (length block.old) found block.new) }
     ensures split { IsPrime p.now → IfOk result (λ found. AreSplit p.now names.now (length found.columns.items) (length block.old) block.old found block.new) }

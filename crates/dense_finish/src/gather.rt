@@ -1,7 +1,7 @@
 // The factors, gathered from the rows that an elimination leaves.
 ghost use Rattle.std.specs.Prelude.{◌≡◌, ◌<◌, ◌≤◌, ℕ, length, slice_index, IfOk, OnOk};
 ghost use Rattle.residue_words.specs.Matrix.{IsVector, zeros};
-ghost use Rattle.dense_finish.specs.Elimination.{ArePlaces, IsLeft, IsPut, line};
+ghost use Rattle.dense_finish.specs.Elimination.{ArePlaces, IsLeft, IsPut, block_row};
 
 use crate::dense::Dense;
 use crate::residue::Residue;
@@ -47,8 +47,8 @@ pub(crate) fn left_factor<W: Residue>(
     requires long { length block.now ≡ length row_names.now }
     requires below { (t : ℕ) → t < length row_names.now → slice_index row_names.now t < m }
     requires rising { (j k : ℕ) → j < k → k < length row_names.now → slice_index row_names.now j < slice_index row_names.now k }
-    requires residues { (t : ℕ) → t < length block.now → IsVector p.now (length (line block.now t)) (line block.now t) }
-    requires inside { (t k : ℕ) → t < length block.now → k < length columns.now → slice_index columns.now k < length (line block.now t) }
+    requires residues { (t : ℕ) → t < length block.now → IsVector p.now (length (block_row block.now t)) (block_row block.now t) }
+    requires inside { (t k : ℕ) → t < length block.now → k < length columns.now → slice_index columns.now k < length (block_row block.now t) }
     ensures { IfOk result (IsLeft p.now m row_names.now columns.now block.now) }
 {
     let width = columns.len() as u32;

@@ -1,7 +1,7 @@
 // The pivots of one panel, and what they leave of other rows.
 ghost use Rattle.std.specs.Prelude.{◌≡◌, ◌<◌, ◌≤◌, ℕ, [], length, slice_index};
 ghost use Rattle.residue_words.specs.Matrix.{IsVector};
-ghost use Rattle.dense_finish.specs.Elimination.{ArePivots, Reduces, TakesOut, line};
+ghost use Rattle.dense_finish.specs.Elimination.{ArePivots, Reduces, TakesOut, block_row};
 
 use crate::dense::Dense;
 use crate::residue::Residue;
@@ -63,9 +63,9 @@ pub(crate) fn reduce<W: Residue>(row: &mut Dense<W>, panel: &Panel<W>, p: &Modul
 // Takes the panel's pivots from each row.
 fn reduce_each<W: Residue>(rows: &mut [Dense<W>], panel: &Panel<W>, p: &Modulus)
     requires modulus { W.serves p.now }
-    requires residues { (t : ℕ) → t < length rows.old → IsVector p.now panel.now.width (line rows.old t) }
+    requires residues { (t : ℕ) → t < length rows.old → IsVector p.now panel.now.width (block_row rows.old t) }
     requires pivots { ArePivots p.now panel.now.width panel.now.columns.items panel.now.rows.items }
-    ensures { (t : ℕ) → t < length rows.old → Reduces p.now panel.now.width panel.now.columns.items panel.now.rows.items (line rows.old t) (line rows.new t) }
+    ensures { (t : ℕ) → t < length rows.old → Reduces p.now panel.now.width panel.now.columns.items panel.now.rows.items (block_row rows.old t) (block_row rows.new t) }
 {
     for k in 0..rows.len() {
         reduce(&mut rows[k], panel, p);
@@ -84,11 +84,11 @@ pub(crate) fn update<R: Threads + Sync, W: Residue>(
     requires modulus { W.serves p.now }
     requires some { 1 ≤ workers }
     requires inside { from ≤ length rows.old }
-    requires residues { (t : ℕ) → t < length rows.old → IsVector p.now panel.now.width (line rows.old t) }
+    requires residues { (t : ℕ) → t < length rows.old → IsVector p.now panel.now.width (block_row rows.old t) }
     requires pivots { ArePivots p.now panel.now.width panel.now.columns.items panel.now.rows.items }
     ensures long { length rows.new ≡ length rows.old }
-    ensures before { (t : ℕ) → t < from → line rows.new t ≡ line rows.old t }
-    ensures behind { (t : ℕ) → from ≤ t → t < length rows.old → Reduces p.now panel.now.width panel.now.columns.items panel.now.rows.items (line rows.old t) (line rows.new t) }
+    ensures before { (t : ℕ) → t < from → block_row rows.new t ≡ block_row rows.old t }
+    ensures behind { (t : ℕ) → from ≤ t → t < length rows.old → Reduces p.now panel.now.width panel.now.columns.items panel.now.rows.items (block_row rows.old t) (block_row rows.new t) }
 {
     let later = &mut rows[from..];
     if workers == 1 || panel.columns.is_empty() {
@@ -108,9 +108,9 @@ fn share<R: Threads + Sync, W: Residue>(
 )
     requires modulus { W.serves p.now }
     requires some { 1 ≤ workers }
-    requires residues { (t : ℕ) → t < length rows.old → IsVector p.now panel.now.width (line rows.old t) }
+    requires residues { (t : ℕ) → t < length rows.old → IsVector p.now panel.now.width (block_row rows.old t) }
     requires pivots { ArePivots p.now panel.now.width panel.now.columns.items panel.now.rows.items }
-    ensures { (t : ℕ) → t < length rows.old → Reduces p.now panel.now.width panel.now.columns.items panel.now.rows.items (line rows.old t) (line rows.new t) }
+    ensures { (t : ℕ) → t < length rows.old → Reduces p.now panel.now.width panel.now.columns.items panel.now.rows.items (block_row rows.old t) (block_row rows.new t) }
 {
     if rows.is_empty() {
         return;
@@ -121,8 +121,8 @@ fn share<R: Threads + Sync, W: Residue>(
         rows,
         size,
         |_at: usize, piece: &mut [Dense<W>]|
-            requires { W.serves p.now × ((t : ℕ) → t < length piece.old → IsVector p.now panel.now.width (line piece.old t)) × ArePivots p.now panel.now.width panel.now.columns.items panel.now.rows.items }
-            ensures { (t : ℕ) → t < length piece.old → Reduces p.entry.now panel.entry.now.width panel.entry.now.columns.items panel.entry.now.rows.items (line piece.old t) (line piece.new t) }
+            requires { W.serves p.now × ((t : ℕ) → t < length piece.old → IsVector p.now panel.now.width (block_row piece.old t)) × ArePivots p.now panel.now.width panel.now.columns.items panel.now.rows.items }
+            ensures { (t : ℕ) → t < length piece.old → Reduces p.entry.now panel.entry.now.width panel.entry.now.columns.items panel.entry.now.rows.items (block_row piece.old t) (block_row piece.new t) }
         { reduce_each(piece, panel, p) },
     );
 }

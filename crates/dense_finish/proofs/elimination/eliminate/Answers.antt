@@ -1,6 +1,6 @@
 use Rattle.std.proofs.Common.{◌≡◌, arith, length, subst}
 use Rattle.residue_words.specs.Matrix.{IsVector}
-use Rattle.dense_finish.specs.Elimination.{IsFound, line}
+use Rattle.dense_finish.specs.Elimination.{IsFound, block_row}
 use Rattle.dense_finish.proofs.Growing.{found_own}
 use Rattle.dense_finish.proofs.Progress.{eliminated_begins, eliminated_behind, split_begins, split_behind}
 use Rattle.dense_finish.proofs.elimination.eliminate.Goals as goal
@@ -34,7 +34,7 @@ loop-start-preserved g c =
       inside = omega arith;
       found = found;
       eliminated = eliminated_behind found c.update.ensures.long c.update.ensures.before
-          (λ t a l. subst (λ n. IsVector p n (line c.update.new.rows t)) c.in_ok-panel.ensures.panel.wide (c.update.ensures.behind t a l).vector) c.in_ok-panel.ensures.eliminated;
+          (λ t a l. subst (λ n. IsVector p n (block_row c.update.new.rows t)) c.in_ok-panel.ensures.panel.wide (c.update.ensures.behind t a l).vector) c.in_ok-panel.ensures.eliminated;
       split = λ prime. split_behind c.in_ok-panel.ensures.panel found.steps c.update.ensures.long c.update.ensures.before c.update.ensures.behind
           (c.in_ok-panel.ensures.split prime c.args.block.now (c.loop-start.invariant.split prime));
     }

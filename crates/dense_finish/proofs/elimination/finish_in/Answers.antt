@@ -1,6 +1,6 @@
 use Rattle.std.proofs.Common.{ℕ, List, ◌≡◌, ◌∙◌, ap, arith, length, slice_index, subst, sym}
 use Rattle.residue_words.specs.Matrix.{IsVector}
-use Rattle.dense_finish.specs.Elimination.{line}
+use Rattle.dense_finish.specs.Elimination.{block_row}
 use Rattle.dense_finish.proofs.Assembling.{factored, names_few}
 use Rattle.dense_finish.proofs.Parts.{refilled}
 use Rattle.dense_finish.proofs.elimination.finish_in.Goals as goal
@@ -22,8 +22,8 @@ left_factor-requires-clause-residues g c κs within = λ t l.
     let rows = c.eliminate.new.block in
     let left : c.deref-4.result.now ≡ rows = c.deref-4.ensures.value ∙ refilled block.len rows block.items (c.eliminate.auto.block ∙ c.deref_mut.ensures.len) (sym block.ok.0) in
     let vector = c.in_ok-found.ensures.eliminated.vectors t (omega (arith, ap length left)) in
-    let own : IsVector p (length (line rows t)) (line rows t) = subst (λ n. IsVector p n (line rows t)) (sym vector.len) vector in
-    subst (λ (u : List (List ℕ)). IsVector p (length (line u t)) (line u t)) (sym left) own
+    let own : IsVector p (length (block_row rows t)) (block_row rows t) = subst (λ n. IsVector p n (block_row rows t)) (sym vector.len) vector in
+    subst (λ (u : List (List ℕ)). IsVector p (length (block_row u t)) (block_row u t)) (sym left) own
 
 pub left_factor-requires-clause-inside : goal.left_factor-requires-clause-inside
 left_factor-requires-clause-inside g c κs within = λ t k l lk.
@@ -33,7 +33,7 @@ left_factor-requires-clause-inside g c κs within = λ t k l lk.
     let vector = c.in_ok-found.ensures.eliminated.vectors t (omega (arith, ap length left)) in
     omega (
       arith,
-      ap (λ (u : List (List ℕ)). length (line u t)) left,
+      ap (λ (u : List (List ℕ)). length (block_row u t)) left,
       vector.len,
       ap (λ (u : List ℕ). slice_index u k) c.deref-6.ensures.value,
       c.in_ok-found.ensures.found.steps.inside k (omega (arith, ap length c.deref-6.ensures.value)),

@@ -4,7 +4,7 @@ use Rattle.sparse_rows.specs.Stored.{with_row}
 use Rattle.sparse_rows.proofs.Loops.{length_zeros}
 use Rattle.residue_words.specs.Matrix.{IsVector, zeros}
 use Rattle.residue_words.proofs.Vectors.{at_zeros}
-use Rattle.dense_finish.specs.Elimination.{line, place_of}
+use Rattle.dense_finish.specs.Elimination.{block_row, entry_of}
 use Rattle.dense_finish.proofs.Gathering.{IsLeftSoFar, left_all, left_named, left_none, left_other, unnamed_row}
 use Rattle.dense_finish.proofs.Lines.{read_line}
 use Rattle.dense_finish.proofs.gather.left_factor.Goals as goal
@@ -72,9 +72,9 @@ loop-i-preserved g c =
     elim c.if-next-row_names.branch [
       | then-next-row_names+then-row_names-next+in_ok-coefficients w ↦
           let inside : next < length block = omega (arith, w.if-next-row_names.true, c.requires.long) in
-          let line-is : w.index-block-next.result ≡ line block next = w.index-block-next.is ∙ read_line block next w.index-block-next.result inside in
-          let read : (k : ℕ) → k < length columns → slice_index w.coefficients.new.to.row k ≡ place_of block next (slice_index columns k) =
-          λ k l. w.in_ok-coefficients.ensures.row.put k l ∙ ap (λ u. slice_index u (slice_index columns k)) line-is in
+          let row-is : w.index-block-next.result ≡ block_row block next = w.index-block-next.is ∙ read_line block next w.index-block-next.result inside in
+          let read : (k : ℕ) → k < length columns → slice_index w.coefficients.new.to.row k ≡ entry_of block next (slice_index columns k) =
+          λ k l. w.in_ok-coefficients.ensures.row.put k l ∙ ap (λ u. slice_index u (slice_index columns k)) row-is in
           let vector : IsVector p (length columns) w.coefficients.new.to.row = record {
             len = w.in_ok-coefficients.ensures.row.long ∙ long;
             residues = λ k l. omega (arith, read k l, (c.requires.residues next inside).residues (slice_index columns k) (c.requires.inside next k inside l));
