@@ -144,12 +144,6 @@ pub record AreNames (n : ℕ) (Absent : ℕ → Type 0) (names : List ℕ) : Typ
   pub rising : (j k : ℕ) → j < k → k < length names → slice_index names j < slice_index names k
   pub others : (x : ℕ) → x < n → ((j : ℕ) → j < length names → slice_index names j ≢ x) → Absent x
 
--- these ascend, and are those that stand in `all`
-pub record AreDistinct (all names : List ℕ) : Type 0 where
-  pub rising : (j k : ℕ) → j < k → k < length names → slice_index names j < slice_index names k
-  pub from : (j : ℕ) → j < length names → (k : ℕ) × (k < length all) × (slice_index all k ≡ slice_index names j)
-  pub each : (k : ℕ) → k < length all → (j : ℕ) × (j < length names) × (slice_index names j ≡ slice_index all k)
-
 -- these are below A's width, and each column with an entry is there
 pub record AreColumns (A : Matrix) (all : List ℕ) : Type 0 where
   pub inside : (k : ℕ) → k < length all → slice_index all k < A.width

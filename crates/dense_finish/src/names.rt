@@ -1,6 +1,6 @@
 // The rows and the columns of a matrix that have an entry.
-ghost use Rattle.std.specs.Prelude.{◌≤◌, ◌<◌, ℕ, length, slice_index, IfOk};
-ghost use Rattle.dense_finish.specs.Elimination.{AreColumnNames, AreColumns, AreDistinct, AreRowNames};
+ghost use Rattle.std.specs.Prelude.{IfOk};
+ghost use Rattle.dense_finish.specs.Elimination.{AreColumnNames, AreColumns, AreRowNames};
 
 use sparse_rows::Rows;
 use std::alloc::{AllocError, Global};
@@ -24,7 +24,8 @@ pub(crate) fn columns_of(alloc: Global, rows: &Rows) -> Result<Vec<u32>, AllocEr
 {
     let mut all = all_columns(alloc, rows)?;
     all.sort_unstable();
-    distinct(alloc, &all)
+    all.dedup();
+    Ok(all)
 }
 
 // The columns of all entries, row after row.
@@ -36,20 +37,4 @@ fn all_columns(alloc: Global, rows: &Rows) -> Result<Vec<u32>, AllocError>
         all.extend_from_slice(rows.cols(i))?;
     }
     Ok(all)
-}
-
-// Each of these once.
-fn distinct(alloc: Global, all: &[u32]) -> Result<Vec<u32>, AllocError>
-    requires { (j k : ℕ) → j ≤ k → k < length all.now → slice_index all.now j ≤ slice_index all.now k }
-    ensures { IfOk result (λ names. AreDistinct all.now names.items) }
-{
-    let mut names = Vec::new(alloc);
-    let mut next = 0;
-    for x in all {
-        if u64::from(*x) >= next {
-            names.push(*x)?;
-            next = u64::from(*x) + 1;
-        }
-    }
-    Ok(names)
 }
