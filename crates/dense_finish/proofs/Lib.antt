@@ -1,10 +1,10 @@
 pub mod Adding
 pub mod Assembling
+pub mod BlockRows
 pub mod Dividing
 pub mod Filling
 pub mod Gathering
 pub mod Growing
-pub mod Lines
 pub mod Naming
 pub mod Parts
 pub mod Progress

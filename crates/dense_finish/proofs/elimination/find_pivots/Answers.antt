@@ -2,7 +2,7 @@ use Rattle.std.proofs.Common.{ℕ, ◌≡◌, ◌<◌, ◌∙◌, false, ap, ari
 use Rattle.std.proofs.lemmas.List.{get_or-set_same}
 use Rattle.residue_words.specs.Matrix.{IsVector}
 use Rattle.dense_finish.specs.Elimination.{IsFirstLeft, TakesPivot}
-use Rattle.dense_finish.proofs.Lines.{read_line, reduced_line}
+use Rattle.dense_finish.proofs.BlockRows.{read_row, reduced_row}
 use Rattle.dense_finish.proofs.Growing.{found_own}
 use Rattle.dense_finish.proofs.Progress.{panel_begins}
 use Rattle.dense_finish.proofs.Stages.{reduced_vector, stage_more, stage_more_split, stage_same, stage_same_split}
@@ -23,7 +23,7 @@ pub reduce-requires-clause-residues : goal.reduce-requires-clause-residues
 reduce-requires-clause-residues g c κs within =
     let stage = c.loop-i.invariant.stage in
     let inside : c.loop-i.i < length c.loop-i.block = omega (arith, c.loop-i.auto.block, c.requires.end) in
-    rw (read_line c.loop-i.block c.loop-i.i c.index-block-i.result inside, stage.panel.wide) (stage.eliminated.vectors c.loop-i.i inside)
+    rw (read_row c.loop-i.block c.loop-i.i c.index-block-i.result inside, stage.panel.wide) (stage.eliminated.vectors c.loop-i.i inside)
 
 pub reduce-requires-clause-pivots : goal.reduce-requires-clause-pivots
 reduce-requires-clause-pivots g c κs within = rw c.loop-i.invariant.stage.panel.wide c.loop-i.invariant.stage.panel.pivots
@@ -34,7 +34,7 @@ first_left-requires-after_bounds g c κs within =
     let block = c.loop-i.block in
     let i = c.loop-i.i in
     let inside : i < length block = omega (arith, c.loop-i.auto.block, c.requires.end) in
-    let vector = reduced_vector stage inside (reduced_line c.args.p.now c.loop-i.panel.width c.loop-i.panel.columns.items c.loop-i.panel.rows.items block i c.index-block-i.result c.reduce.new.row inside c.reduce.ensures) in
+    let vector = reduced_vector stage inside (reduced_row c.args.p.now c.loop-i.panel.width c.loop-i.panel.columns.items c.loop-i.panel.rows.items block i c.index-block-i.result c.reduce.new.row inside c.reduce.ensures) in
     ap length c.deref.ensures.value ∙ stage.found.marks ∙ sym (ap length (get_or-set_same block i c.reduce.new.row c.index-block-i-in-loop-i.result inside) ∙ vector.len)
 
 pub take_pivot-requires-clause-residues : goal.take_pivot-requires-clause-residues
@@ -44,7 +44,7 @@ take_pivot-requires-clause-residues g c κs within =
     let inside : i < length block = omega (arith, c.loop-i.auto.block, c.requires.end) in
     subst (IsVector c.args.p.now (length c.args.names.now)) (sym (get_or-set_same block i c.reduce.new.row c.index-block-i-in-Some.result inside))
     (reduced_vector c.loop-i.invariant.stage inside
-    (reduced_line c.args.p.now c.loop-i.panel.width c.loop-i.panel.columns.items c.loop-i.panel.rows.items block i c.index-block-i.result c.reduce.new.row inside c.reduce.ensures))
+    (reduced_row c.args.p.now c.loop-i.panel.width c.loop-i.panel.columns.items c.loop-i.panel.rows.items block i c.index-block-i.result c.reduce.new.row inside c.reduce.ensures))
 
 pub take_pivot-requires-clause-first : goal.take_pivot-requires-clause-first
 take_pivot-requires-clause-first g c κs within =
@@ -69,7 +69,7 @@ loop-i-preserved g c =
     let v = c.reduce.new.row in
     let n = length c.args.names.now in
     let inside : i < length block = omega (arith, c.loop-i.auto.block, c.requires.end) in
-    let reduced = reduced_line c.args.p.now c.loop-i.panel.width c.loop-i.panel.columns.items c.loop-i.panel.rows.items block i c.index-block-i.result v inside c.reduce.ensures in
+    let reduced = reduced_row c.args.p.now c.loop-i.panel.width c.loop-i.panel.columns.items c.loop-i.panel.rows.items block i c.index-block-i.result v inside c.reduce.ensures in
     let left = get_or-set_same block i v c.index-block-i-in-loop-i.result inside in
     elim c.match-first_left.branch [
       | in-Some+in_ok-take_pivot w ↦

@@ -6,7 +6,7 @@ use Rattle.residue_words.specs.Matrix.{IsVector, zeros}
 use Rattle.residue_words.proofs.Vectors.{at_zeros}
 use Rattle.dense_finish.specs.Elimination.{block_row, entry_of}
 use Rattle.dense_finish.proofs.Gathering.{IsLeftSoFar, left_all, left_named, left_none, left_other, unnamed_row}
-use Rattle.dense_finish.proofs.Lines.{read_line}
+use Rattle.dense_finish.proofs.BlockRows.{read_row}
 use Rattle.dense_finish.proofs.gather.left_factor.Goals as goal
 use Rattle.dense_finish.proofs.gather.left_factor.Goals.{then-next-row_names+then-row_names-next+in_ok-coefficients, else-next-row_names, else-next-row_names-via-then-next-row_names+else-row_names-next, else-next-row_names-via-else-next-row_names}
 
@@ -24,7 +24,7 @@ pub coefficients-requires-clause-residues : goal.coefficients-requires-clause-re
 coefficients-requires-clause-residues g c κs within =
     let next = c.loop-i.next in
     let inside : next < length c.args.block.now = omega (arith, c.requires.long) in
-    let read = c.index-block-next.is ∙ read_line c.args.block.now next c.index-block-next.result inside in
+    let read = c.index-block-next.is ∙ read_row c.args.block.now next c.index-block-next.result inside in
     rw (c.clear.ensures.modulus, c.loop-i.invariant.modulus, read) (c.requires.residues next inside)
 
 pub coefficients-requires-clause-zero : goal.coefficients-requires-clause-zero
@@ -34,7 +34,7 @@ pub coefficients-requires-clause-inside : goal.coefficients-requires-clause-insi
 coefficients-requires-clause-inside g c κs within =
     let next = c.loop-i.next in
     let inside : next < length c.args.block.now = omega (arith, c.requires.long) in
-    let read = c.index-block-next.is ∙ read_line c.args.block.now next c.index-block-next.result inside in
+    let read = c.index-block-next.is ∙ read_row c.args.block.now next c.index-block-next.result inside in
     λ k l. omega (arith, ap length read, c.requires.inside next k inside l)
 
 pub append-requires-clause-height_small : goal.append-requires-clause-height_small
@@ -72,7 +72,7 @@ loop-i-preserved g c =
     elim c.if-next-row_names.branch [
       | then-next-row_names+then-row_names-next+in_ok-coefficients w ↦
           let inside : next < length block = omega (arith, w.if-next-row_names.true, c.requires.long) in
-          let row-is : w.index-block-next.result ≡ block_row block next = w.index-block-next.is ∙ read_line block next w.index-block-next.result inside in
+          let row-is : w.index-block-next.result ≡ block_row block next = w.index-block-next.is ∙ read_row block next w.index-block-next.result inside in
           let read : (k : ℕ) → k < length columns → slice_index w.coefficients.new.to.row k ≡ entry_of block next (slice_index columns k) =
           λ k l. w.in_ok-coefficients.ensures.row.put k l ∙ ap (λ u. slice_index u (slice_index columns k)) row-is in
           let vector : IsVector p (length columns) w.coefficients.new.to.row = record {

@@ -1,7 +1,7 @@
 use Rattle.std.proofs.Common.{[], ◌<◌, ◌∙◌, arith, length, refl, subst}
 use Rattle.std.proofs.lemmas.List.{get_or-set_other}
 use Rattle.dense_finish.specs.Elimination.{Reduces}
-use Rattle.dense_finish.proofs.Lines.{each_more, read_line}
+use Rattle.dense_finish.proofs.BlockRows.{each_more, read_row}
 use Rattle.dense_finish.proofs.panel.reduce_each.Goals as goal
 
 pub loop-k-init : goal.loop-k-init
@@ -10,7 +10,7 @@ loop-k-init g c = record { done = λ t l. absurd (omega arith); ahead = λ t l. 
 pub reduce-requires-clause-residues : goal.reduce-requires-clause-residues
 reduce-requires-clause-residues g c κs within =
     let k = c.loop-k.k in
-    rw (read_line c.loop-k.rows k c.index-rows-k.result (omega (arith, c.loop-k.auto.rows)), c.loop-k.invariant.ahead k (omega arith)) (c.requires.residues k (omega arith))
+    rw (read_row c.loop-k.rows k c.index-rows-k.result (omega (arith, c.loop-k.auto.rows)), c.loop-k.invariant.ahead k (omega arith)) (c.requires.residues k (omega arith))
 
 pub loop-k-preserved : goal.loop-k-preserved
 loop-k-preserved g c =
@@ -18,7 +18,7 @@ loop-k-preserved g c =
     let panel = c.args.panel.now in
     let p = c.args.p.now in
     let inside : k < length c.loop-k.rows = omega (arith, c.loop-k.auto.rows) in
-    let old = read_line c.loop-k.rows k c.index-rows-k.result inside ∙ c.loop-k.invariant.ahead k (omega arith) in
+    let old = read_row c.loop-k.rows k c.index-rows-k.result inside ∙ c.loop-k.invariant.ahead k (omega arith) in
     record {
       done = each_more (Reduces p panel.width panel.columns.items panel.rows.items) c.args.rows.now c.loop-k.rows k c.reduce.new.row inside
           (subst (λ v. Reduces p panel.width panel.columns.items panel.rows.items v c.reduce.new.row) old c.reduce.ensures) c.loop-k.invariant.done;

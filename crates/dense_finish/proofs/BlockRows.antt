@@ -16,8 +16,8 @@ each_more P xs ys k v l here before t lt =
     ]
 
 -- a row that is read is this row
-pub read_line : (rows : List (List ℕ)) (k : ℕ) (v : List ℕ) → k < length rows → slice_index_or rows k v ≡ block_row rows k
-read_line rows k v l = get_or_default rows k v [] l
+pub read_row : (rows : List (List ℕ)) (k : ℕ) (v : List ℕ) → k < length rows → slice_index_or rows k v ≡ block_row rows k
+read_row rows k v l = get_or_default rows k v [] l
 
 -- what holds of each row and of v, holds with v behind them
 pub appended : (P : ℕ → List ℕ → Type 0) (xs : List (List ℕ)) (v : List ℕ) → P (length xs) v → ((t : ℕ) → t < length xs → P t (block_row xs t)) →
@@ -29,5 +29,5 @@ appended P xs v here before t l =
     ]
 
 -- a row that was read and reduced
-pub reduced_line : (p n : ℕ) (columns : List ℕ) (rows block : List (List ℕ)) (i : ℕ) (d v : List ℕ) → i < length block → Reduces p n columns rows (slice_index_or block i d) v → Reduces p n columns rows (block_row block i) v
-reduced_line p n columns rows block i d v l h = subst (λ u. Reduces p n columns rows u v) (read_line block i d l) h
+pub reduced_row : (p n : ℕ) (columns : List ℕ) (rows block : List (List ℕ)) (i : ℕ) (d v : List ℕ) → i < length block → Reduces p n columns rows (slice_index_or block i d) v → Reduces p n columns rows (block_row block i) v
+reduced_row p n columns rows block i d v l h = subst (λ u. Reduces p n columns rows u v) (read_row block i d l) h
