@@ -28,6 +28,7 @@ impl<W: Residue> Dense<W> {
         ensures row { IfOk result (λ row. row ≡ zeros n) }
         ensures vector { IfOk result (IsVector p.now n) }
     {
+        // The call's contract tells the range of the modulus.
         let _ = p.p();
         let mut places = Vec::with_capacity(alloc, n)?;
         for _ in 0..n {

@@ -22,6 +22,7 @@ pub(crate) fn none_found(
     ensures found { IfOk result (IsFound p.now names.now width 0) }
     ensures none { IfOk result (λ found. length found.columns.items ≡ 0) }
 {
+    // The call's contract tells the range of the modulus.
     let _ = p.p();
     Ok(Found {
         rows: Vec::new(alloc),

@@ -50,6 +50,7 @@ impl Kept {
         requires { n ≤ 2147483648 }
         ensures { IfOk result (λ k. k ≡ record { modulus = p.now; matrix = record { height = 0; width = n; rows = [] }; leads = [] }) }
     {
+        // The call's contract tells the range of the modulus.
         let _ = p.p();
         Ok(Kept {
             modulus: *p,
@@ -229,6 +230,7 @@ fn divided_tail(alloc: Global, row: &Sparse) -> Result<Sparse, AllocError>
     let mut tail = Sparse::new(alloc, row.width(), modulus);
     for k in 1..cols.len() {
         let value = modulus.mul(factor, vals[k]);
+        // Modulo a number that is no prime, a product may be 0 where neither factor is.
         if value > 0 {
             tail.push(cols[k], value)?;
         }
