@@ -11,5 +11,5 @@ returns-clause-form g c =
     let W = beside (transposed c.args.a.now.matrix) (identity c.args.a.now.matrix.width) in
     IfOk-weaker c.of.result (λ form. IsFormOf c.in_ok-both.both.modulus c.in_ok-both.both.matrix form) (λ form. IsFormOf p W form)
     (λ form h. form_same c.in_ok-both.both.modulus p c.in_ok-both.both.matrix W form (c.in_ok-both.ensures.modulus ∙ c.in_ok-transposed.ensures.modulus)
-      (c.in_ok-both.ensures.matrix ∙ ap₂ beside c.in_ok-transposed.ensures.matrix (c.in_ok-identity.ensures.matrix ∙ ap identity c.width.ensures.value)) h)
+    (c.in_ok-both.ensures.matrix ∙ ap₂ beside c.in_ok-transposed.ensures.matrix (c.in_ok-identity.ensures.matrix ∙ ap identity c.width.ensures.value)) h)
     c.of.ensures
