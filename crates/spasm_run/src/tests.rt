@@ -192,11 +192,6 @@ fn check_answer<'a, R: Threads + Sync + Abort>(
 const RANKS: &[(&str, &str, &str)] = &[
     ("7", X, "rank 2\n"),
     ("7", Y, "rank 3\n"),
-    (
-        "2147483647",
-        "1000000 1000000 M\n1000000 1000000 3\n0 0 0\n",
-        "rank 1\n",
-    ),
     ("4294967311", X, "rank 2\n"),
     ("7", "2 2 M\n1 1 14\n0 0 0\n", "rank 0\n"),
     ("7", "1 1 M\n1 1 3\n1 1 4\n0 0 0\n", "rank 0\n"),
@@ -245,11 +240,6 @@ const FORMS: &[(&str, &str, &str)] = &[
         "7",
         "1 2 M\n1 1 1/2\n1 2 -3/4\n0 0 0\n",
         "1 2 M\n1 1 1\n1 2 2\n0 0 0\n",
-    ),
-    (
-        "7",
-        "1000000 1000000 M\n1 1000000 3\n1000000 1 2\n0 0 0\n",
-        "2 1000000 M\n1 1 1\n2 1000000 1\n0 0 0\n",
     ),
     ("7", "5 0 M\n0 0 0\n", "0 0 M\n0 0 0\n"),
 ];
@@ -320,6 +310,30 @@ const ANSWERS: &[(&str, &str, &str, &str)] = &[
 #[test]
 fn kernels_solutions_and_inverses_are_as_known(rt: HostRuntime) -> Result<(), Fail> {
     for (command, p, text, want) in ANSWERS {
+        check_answer(&rt, rt.alloc(), command, p, text, want)?;
+    }
+    Ok(())
+}
+
+// Large matrices, almost empty. They stand apart since `rt try` needs `--seconds 300` for them.
+const LARGE: &[(&str, &str, &str, &str)] = &[
+    (
+        "rank",
+        "2147483647",
+        "1000000 1000000 M\n1000000 1000000 3\n0 0 0\n",
+        "rank 1\n",
+    ),
+    (
+        "rref",
+        "7",
+        "1000000 1000000 M\n1 1000000 3\n1000000 1 2\n0 0 0\n",
+        "2 1000000 M\n1 1 1\n2 1000000 1\n0 0 0\n",
+    ),
+];
+
+#[test]
+fn large_matrices_are_as_known(rt: HostRuntime) -> Result<(), Fail> {
+    for (command, p, text, want) in LARGE {
         check_answer(&rt, rt.alloc(), command, p, text, want)?;
     }
     Ok(())
