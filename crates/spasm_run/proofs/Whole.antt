@@ -95,7 +95,8 @@ module _ (limit : ℕ) (told told' : Option (List ℕ)) (taken : List ℕ) (ende
 
 -- where no count rose either, the run was done or wanted memory
 completes_by : (words : List (List ℕ)) (limit : ℕ) (told told' : Option (List ℕ)) (f f' : ℕ) (held held' : Option (List ℕ)) (g g' : ℕ) (s : Status) (taken : List ℕ) (ended : Bool) →
-    told ≡ before taken told' → (ended ≡ true → IsSpent told') → HasCause words limit taken ended f f' held held' g g' s → Completes words limit told f f' g g' s
+    told ≡ before taken told' → (ended ≡ true → IsSpent told') →
+    HasCause record { words = words; limit = limit; bytes = taken; ended = ended; faults = f; faults_after = f'; held = held; held_after = held'; failures = g; failures_after = g' } s → Completes words limit told f f' g g' s
 completes_by words limit told told' f f' held held' g g' status.Done taken ended source spent cause = λ c bytes items rest accepted prime left reads fits nf ng. inl refl
 completes_by words limit told told' f f' held held' g g' status.No taken ended source spent cause = λ c bytes items rest accepted prime left reads fits nf ng. absurd cause
 completes_by words limit told told' f f' held held' g g' status.Usage taken ended source spent cause = λ c bytes items rest accepted prime left reads fits nf ng. absurd (cause.0 c accepted)

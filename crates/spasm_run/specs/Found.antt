@@ -58,4 +58,15 @@ Gives t p values (Err _) = ⊥
 -- what comes of these words, where these bytes are read: the answer to their command; or a status with its cause, and nothing is written
 abbrev pub Finds : List (List ℕ) → ℕ → ℕ → ℕ → Result Answer Status → List ℕ → Bool → Type 0
 Finds words limit f f' (Ok a) bytes ended = (c : Command) × Accepted words c × HasAnswer c bytes ended limit (answer_text a)
-Finds words limit f f' (Err s) bytes ended = (held : Option (List ℕ)) (g : ℕ) → HasCause words limit bytes ended f f' held held g g s
+Finds words limit f f' (Err s) bytes ended = (held : Option (List ℕ)) (g : ℕ) → HasCause record {
+  words = words;
+  limit = limit;
+  bytes = bytes;
+  ended = ended;
+  faults = f;
+  faults_after = f';
+  held = held;
+  held_after = held;
+  failures = g;
+  failures_after = g;
+} s

@@ -51,6 +51,20 @@ code_of status.WriteFault = 7
 code_of status.Memory = 8
 code_of (status.Wide height width) = 9
 
+-- what there is to see of a run: its words; the limit of its input, the bytes that it took from the source, whether the source gave its end, and
+-- its count of faults before and after; what the output held, where it tells, and its count of faults, before and after
+pub record Run : Type 0 where
+  pub words : List (List ℕ)
+  pub limit : ℕ
+  pub bytes : List ℕ
+  pub ended : Bool
+  pub faults : ℕ
+  pub faults_after : ℕ
+  pub held : Option (List ℕ)
+  pub held_after : Option (List ℕ)
+  pub failures : ℕ
+  pub failures_after : ℕ
+
 -- the input is whole: these are the matrices read from it, of the shapes that are wanted, and this is a text of the answer for a prime modulus
 pub record HasAnswer (c : Command) (bytes : List ℕ) (ended : Bool) (limit : ℕ) (text : List ℕ) : Type 0 where
   pub items : List Item
@@ -66,36 +80,49 @@ pub record IsMisfit (c : Command) (bytes : List ℕ) (ended : Bool) (limit : ℕ
   pub reads : Reads bytes ended limit (wanted c.task) c.modulus items rest
   pub refused : misfit c.task (matrices c.modulus items) ≡ Some s
 
--- why a run ended so: these bytes were taken from the source, `ended` says whether it gave its end, and the counts of faults of the source
--- and of the output went from f to f' and from g to g'; the output's content went from held to held'
-abbrev pub HasCause : List (List ℕ) → ℕ → List ℕ → Bool → ℕ → ℕ → Option (List ℕ) → Option (List ℕ) → ℕ → ℕ → Status → Type 0
-HasCause words limit bytes ended f f' held held' g g' status.Done =
-    (c : Command) × (text : List ℕ) × Accepted words c × HasAnswer c bytes ended limit text × (held' ≡ behind held text)
-HasCause words limit bytes ended f f' held held' g g' status.No = ⊥
-HasCause words limit bytes ended f f' held held' g g' status.Usage = AreRefused words × (held' ≡ held)
-HasCause words limit bytes ended f f' held held' g g' (status.BadText line k) =
-    (c : Command) × Accepted words c × FirstFault bytes ended limit (wanted c.task) c.modulus line k × (held' ≡ held)
-HasCause words limit bytes ended f f' held held' g g' (status.Shape height width) =
-    (c : Command) × Accepted words c × IsMisfit c bytes ended limit (status.Shape height width) × (held' ≡ held)
-HasCause words limit bytes ended f f' held held' g g' status.ReadFault =
-    (c : Command) × Accepted words c × (read c.modulus ended limit 1 (wanted c.task) (lines bytes) ≡ Short) × Rose f f' × (held' ≡ held)
-HasCause words limit bytes ended f f' held held' g g' status.WriteFault =
-    (c : Command) × (part rest : List ℕ) × Accepted words c × HasAnswer c bytes ended limit (part ++ rest) × (held' ≡ behind held part) × Rose g g'
-HasCause words limit bytes ended f f' held held' g g' status.Memory = held' ≡ held
-HasCause words limit bytes ended f f' held held' g g' (status.Wide height width) =
-    (c : Command) × Accepted words c × IsMisfit c bytes ended limit (status.Wide height width) × (held' ≡ held)
+-- the output is as it was, or gained this
+abbrev pub IsUnwritten : Run → Type 0
+IsUnwritten r = r.held_after ≡ r.held
+
+abbrev pub HasWritten : Run → List ℕ → Type 0
+HasWritten r text = r.held_after ≡ behind r.held text
+
+-- why a run ended so
+abbrev pub HasCause : Run → Status → Type 0
+HasCause r status.Done = (c : Command) × (text : List ℕ) × Accepted r.words c × HasAnswer c r.bytes r.ended r.limit text × HasWritten r text
+HasCause r status.No = ⊥
+HasCause r status.Usage = AreRefused r.words × IsUnwritten r
+HasCause r (status.BadText line k) = (c : Command) × Accepted r.words c × FirstFault r.bytes r.ended r.limit (wanted c.task) c.modulus line k × IsUnwritten r
+HasCause r (status.Shape height width) = (c : Command) × Accepted r.words c × IsMisfit c r.bytes r.ended r.limit (status.Shape height width) × IsUnwritten r
+HasCause r status.ReadFault =
+    (c : Command) × Accepted r.words c × (read c.modulus r.ended r.limit 1 (wanted c.task) (lines r.bytes) ≡ Short) × Rose r.faults r.faults_after × IsUnwritten r
+HasCause r status.WriteFault =
+    (c : Command) × (part rest : List ℕ) × Accepted r.words c × HasAnswer c r.bytes r.ended r.limit (part ++ rest) × HasWritten r part × Rose r.failures r.failures_after
+HasCause r status.Memory = IsUnwritten r
+HasCause r (status.Wide height width) = (c : Command) × Accepted r.words c × IsMisfit c r.bytes r.ended r.limit (status.Wide height width) × IsUnwritten r
 
 -- the error stream gained its line, or a prefix of it where its count rose
 abbrev pub Tells : List ℕ → Option (List ℕ) → Option (List ℕ) → ℕ → ℕ → Type 0
 Tells line told told' h h' = (told' ≡ behind told line) ⊎ ((part : List ℕ) × (rest : List ℕ) × (line ≡ part ++ rest) × (told' ≡ behind told part) × Rose h h')
 
--- a run took these bytes, no more than were left, and its status has a cause
+-- what a run did: of what is to be seen of it, no more bytes were taken than were left, and its status has a cause
 pub record Ran (words : List (List ℕ)) (limit : ℕ) (told told' : Option (List ℕ)) (f f' : ℕ) (held held' : Option (List ℕ)) (g g' : ℕ) (s : Status) : Type 0 where
   pub bytes : List ℕ
   pub ended : Bool
   pub taken : told ≡ before bytes told'
   pub spent : ended ≡ true → IsSpent told'
-  pub cause : HasCause words limit bytes ended f f' held held' g g' s
+  pub cause : HasCause record {
+    words = words;
+    limit = limit;
+    bytes = bytes;
+    ended = ended;
+    faults = f;
+    faults_after = f';
+    held = held;
+    held_after = held';
+    failures = g;
+    failures_after = g';
+  } s
 
 -- Where a source that tells had this valid input left, of the shapes that are wanted, for words that are accepted and a prime modulus, and no count
 -- of faults rose, the run was done, or it wanted memory.
