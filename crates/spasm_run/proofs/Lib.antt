@@ -1,6 +1,5 @@
 pub mod Accepting
 pub mod Building
-pub mod Capped
 pub mod Elimination
 pub mod Exact
 pub mod Matching

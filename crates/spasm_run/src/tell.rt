@@ -10,8 +10,7 @@ ghost use Rattle.spasm_run.specs.Ran.{fault_line};
 
 use crate::answers::Answer;
 use crate::status::{Status, kind_number};
-use sms_text::{Sink, WriteFault, write_number, write_rows, write_text};
-use sparse_rows::Rows;
+use sms_text::{Sink, WriteFault, write_number, write_rows, write_text, write_titled};
 
 /// Writes an answer. It takes no memory.
 pub fn write_answer<K: Sink>(out: &mut K, answer: &Answer) -> Result<(), WriteFault>
@@ -36,16 +35,6 @@ fn write_rank<K: Sink>(out: &mut K, rank: u64) -> Result<(), WriteFault>
 {
     write_with_number(out, "rank ", rank)?;
     write_text(out, "\n")
-}
-
-// Writes a title, and the text of a matrix behind it.
-fn write_titled<K: Sink>(out: &mut K, title: &str, rows: &Rows) -> Result<(), WriteFault>
-    requires { HasSmallSizes rows.now.matrix }
-    ensures did { Writes result (title.now ++ text_of rows.now.matrix) (K.held out.old) (K.held out.new) (K.faults out.old) (K.faults out.new) }
-    ensures count { K.faults out.old ≤ K.faults out.new }
-{
-    write_text(out, title)?;
-    write_rows(out, rows)
 }
 
 /// Writes the line of a fault to the error stream, if the status has one. Where the stream fails, nothing more is done.

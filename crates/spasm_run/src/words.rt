@@ -13,6 +13,7 @@ mod tests;
 
 use clap::ArgMatches;
 use clap::error::ErrorKind;
+use sms_text::capped;
 use std::alloc::{AllocError, Global};
 
 // The largest modulus, and above it a number that is as good as any larger one.
@@ -131,26 +132,9 @@ fn number_in(word: &[u8], low: u64, high: u64) -> Option<u64>
     requires { high ≤ LARGEST }
     ensures { MatchOption result ((n : ℕ) → ¬ IsInRange low high word.now n) (IsInRange low high word.now) }
 {
-    let number = capped_number(word)?;
+    let number = capped(word, CAP)?;
     if number < low || high < number {
         return None;
-    }
-    Some(number)
-}
-
-// The number that digits spell, or the cap if it is larger. `None` if the word isn't all digits, or is empty.
-fn capped_number(word: &[u8]) -> Option<u64>
-    ensures { MatchOption result (is_number word.now ≡ false) (λ n. (is_number word.now ≡ true) × (n ≡ min (value word.now) CAP)) }
-{
-    if word.is_empty() {
-        return None;
-    }
-    let mut number = 0u64;
-    for b in word {
-        if *b < 48 || 57 < *b {
-            return None;
-        }
-        number = (10 * number + u64::from(*b - 48)).min(CAP);
     }
     Some(number)
 }
