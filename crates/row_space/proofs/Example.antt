@@ -152,19 +152,21 @@ refutation_worked = record {
 factors_worked : AreFactors 7 example example_pivots example_left example_rref
 unfolding sum_below
 factors_worked = record {
-  left = record {
-    len = refl;
-    each = below_three (λ i. IsVector 7 2 (row example_left i)) (two_vector 7 2 1 (lit< tt) (lit< tt)) (two_vector 7 1 0 (lit< tt) (lit< tt)) (two_vector 7 3 1 (lit< tt) (lit< tt));
+  fit = record {
+    left = record {
+      len = refl;
+      each = below_three (λ i. IsVector 7 2 (row example_left i)) (two_vector 7 2 1 (lit< tt) (lit< tt)) (two_vector 7 1 0 (lit< tt) (lit< tt)) (two_vector 7 3 1 (lit< tt) (lit< tt));
+    };
+    right = rref_matrix;
+    left_height = refl;
+    left_width = refl;
+    right_height = refl;
+    right_width = refl;
+    rows_below = below_two (λ k. row_at example_pivots k < 3) (lit< tt) (lit< tt);
+    columns_below = below_two (λ k. col_at example_pivots k < 3) (lit< tt) (lit< tt);
+    rows_distinct = of_two (λ k t. row_at example_pivots k ≢ row_at example_pivots t) (λ e. absurd (omega arith));
+    columns_distinct = of_two (λ k t. col_at example_pivots k ≢ col_at example_pivots t) (λ e. absurd (omega arith));
   };
-  right = rref_matrix;
-  left_height = refl;
-  left_width = refl;
-  right_height = refl;
-  right_width = refl;
-  rows_below = below_two (λ k. row_at example_pivots k < 3) (lit< tt) (lit< tt);
-  columns_below = below_two (λ k. col_at example_pivots k < 3) (lit< tt) (lit< tt);
-  rows_distinct = of_two (λ k t. row_at example_pivots k ≢ row_at example_pivots t) (λ e. absurd (omega arith));
-  columns_distinct = of_two (λ k t. col_at example_pivots k ≢ col_at example_pivots t) (λ e. absurd (omega arith));
   product = below_three (λ i. row example i ≡ combine 7 (row example_left i) example_rref) refl refl refl;
   left_pivot = below_two (λ k. entry example_left (row_at example_pivots k) k ≢ 0) (λ e. absurd (omega arith)) (λ e. absurd (omega arith));
   right_pivot = below_two (λ k. entry example_rref k (col_at example_pivots k) ≢ 0) (λ e. absurd (omega arith)) (λ e. absurd (omega arith));

@@ -72,9 +72,16 @@ null_iff p A b y =
     let same = annuls_iff p A b 0 y in
     (λ s. same.0 (s.0, s.1 ∙ side), λ a. let s = same.1 a in (s.0, s.1 ∙ sym side))
 
--- its columns with the right-hand side behind them
-system_beside : (A : Matrix) (b : List ℕ) → refuting_system A b ≡ beside (refuting_rows A b) (refuting_side A.width)
-system_beside A b =
+-- the rows of the refuting system
+abbrev pub system_rows : Matrix → List ℕ → Matrix
+system_rows A b = record {
+  height = A.width + 1;
+  width = A.height + 1;
+  rows = map (λ j. list_of A.height (λ i. entry A i j) ++ 0 ∷ []) (range_with_len 0 A.width) ++ (list_of A.height (slice_index b) ++ 1 ∷ []) ∷ [];
+}
+
+pub system_is : (A : Matrix) (b : List ℕ) → system_rows A b ≡ refuting_system A b
+system_is A b =
     let f : ℕ → List ℕ = λ j. row (refuting_rows A b) j ++ slice_index (refuting_side A.width) j ∷ [] in
     let g : ℕ → List ℕ = λ j. list_of A.height (λ i. entry A i j) ++ 0 ∷ [] in
     let front : (j : ℕ) → j < A.width → g j ≡ f j = λ j l. ap₂ (λ u t. u ++ t ∷ []) (sym (refuting_column A b j l))
@@ -92,7 +99,6 @@ system_beside A b =
 pub refuting : RefutingSystem
 refuting p A b y two m v =
     record {
-      system = system_beside A b;
       solution = annuls_iff p A b 1 y;
       reduced = (
         λ s. record { refutes = (annuls_iff p A b 1 y).0 s.solves; reduced = λ z i none end. s.reduced z i ((null_iff p A b z).1 none) end },

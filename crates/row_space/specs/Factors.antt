@@ -12,8 +12,8 @@ row_at pivots k = slice_index (map (λ q. q.row) pivots) k
 abbrev pub col_at : List Pair → ℕ → ℕ
 col_at pivots k = slice_index (map (λ q. q.col) pivots) k
 
--- A = L U, where the rows of L and the columns of U at the pivots, in their order, are triangular with a diagonal that is nowhere 0
-pub record AreFactors (p : ℕ) (A : Matrix) (pivots : List Pair) (L U : Matrix) : Type 0 where
+-- L and U are of the sizes of factors of A, with a column of L and a row of U for each pivot; the pivots lie in A, each in a row and a column of its own
+pub record FitAsFactors (p : ℕ) (A : Matrix) (pivots : List Pair) (L U : Matrix) : Type 0 where
   pub left : IsMatrix p L
   pub right : IsMatrix p U
   pub left_height : L.height ≡ A.height
@@ -24,6 +24,10 @@ pub record AreFactors (p : ℕ) (A : Matrix) (pivots : List Pair) (L U : Matrix)
   pub columns_below : (k : ℕ) → k < length pivots → col_at pivots k < A.width
   pub rows_distinct : (k t : ℕ) → k < t → t < length pivots → row_at pivots k ≢ row_at pivots t
   pub columns_distinct : (k t : ℕ) → k < t → t < length pivots → col_at pivots k ≢ col_at pivots t
+
+-- A = L U, where the rows of L and the columns of U at the pivots, in their order, are triangular with a diagonal that is nowhere 0
+pub record AreFactors (p : ℕ) (A : Matrix) (pivots : List Pair) (L U : Matrix) : Type 0 where
+  pub fit : FitAsFactors p A pivots L U
   pub product : (i : ℕ) → i < A.height → row A i ≡ combine p (row L i) U
   pub left_pivot : (k : ℕ) → k < length pivots → entry L (row_at pivots k) k ≢ 0
   pub right_pivot : (k : ℕ) → k < length pivots → entry U k (col_at pivots k) ≢ 0

@@ -84,7 +84,6 @@ RrefSolves = (p : ℕ) (A : Matrix) (b : List ℕ) (E : Matrix) (leads : List �
 
 -- the refuting system is a system for y whose solutions are the y with y A = 0 and y . b = 1, and its reduced solution is the refuting combination
 pub record RefutingSystemIs (p : ℕ) (A : Matrix) (b y : List ℕ) : Type 0 where
-  pub system : refuting_system A b ≡ beside (refuting_rows A b) (refuting_side A.width)
   pub solution : IsSolution p (refuting_rows A b) (refuting_side A.width) y ↔ Annuls p A b 1 y
   pub reduced : IsReducedSolution p (refuting_rows A b) (refuting_side A.width) y ↔ IsRefutingCombination p A b y
 

@@ -45,8 +45,4 @@ refuting_side n = zeros n ++ 1 ∷ []
 
 -- both side by side: the rows of A transposed with a 0 behind each, and b with a 1
 abbrev pub refuting_system : Matrix → List ℕ → Matrix
-refuting_system A b = record {
-  height = A.width + 1;
-  width = A.height + 1;
-  rows = map (λ j. list_of A.height (λ i. entry A i j) ++ 0 ∷ []) (range_with_len 0 A.width) ++ (list_of A.height (slice_index b) ++ 1 ∷ []) ∷ [];
-}
+refuting_system A b = beside (refuting_rows A b) (refuting_side A.width)
