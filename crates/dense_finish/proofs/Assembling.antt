@@ -6,7 +6,7 @@ use Rattle.residue_words.specs.Matrix.{Matrix, IsMatrix, combine, entry, row}
 use Rattle.residue_words.specs.Residues.{IsPrime, sum_below}
 use Rattle.residue_words.proofs.Sums.{sum_equal, sum_zero}
 use Rattle.residue_words.proofs.Vectors.{at_combine, entry_residue, length_list_of, list_equal}
-use Rattle.row_space.specs.Factors.{row_at, col_at}
+use Rattle.row_space.specs.Factors.{FitAsFactors, col_at, row_at}
 use Rattle.row_space.proofs.Counting.{pigeonhole}
 use Rattle.sparse_rows.specs.Rows.{ResidueMatrix}
 use Rattle.dense_finish.specs.declared.pivots.Found.{Found}
@@ -108,10 +108,8 @@ module _ {p : ℕ} {A : Matrix} {row_names names : List ℕ} {block rows : List 
       fresh {n = length names} {e = named_entry f.u.matrix names} (steps_front (omega arith) found.steps) k a
       (names_apart named_columns (slice_index f.columns.items k) (slice_index f.columns.items t) (found.steps.inside k low) (found.steps.inside t high) (sym (at_column k low) ∙ same ∙ at_column t high))
 
-  pub factored : IsFactored p A (record { pivots = pivots; l = L; u = f.u })
-  factored = record {
-    left_modulus = left.modulus;
-    right_modulus = found.modulus;
+  fit : FitAsFactors p A pivots L.matrix f.u.matrix
+  fit = record {
     left = left.matrix;
     right = found.matrix;
     left_height = left.height;
@@ -122,17 +120,15 @@ module _ {p : ℕ} {A : Matrix} {row_names names : List ℕ} {block rows : List 
     columns_below = columns_below;
     rows_distinct = rows_distinct;
     columns_distinct = columns_distinct;
+  }
+
+  pub factored : IsFactored p A (record { pivots = pivots; l = L; u = f.u })
+  factored = record {
+    left_modulus = left.modulus;
+    right_modulus = found.modulus;
+    fit = fit;
     factors = λ prime. record {
-      left = left.matrix;
-      right = found.matrix;
-      left_height = left.height;
-      left_width = left.width ∙ sym count;
-      right_height = found.height ∙ sym count;
-      right_width = found.wide;
-      rows_below = rows_below;
-      columns_below = columns_below;
-      rows_distinct = rows_distinct;
-      columns_distinct = columns_distinct;
+      fit = fit;
       product = product prime;
       left_pivot = λ k l z.
           let low : k < r = omega (arith, count) in
