@@ -10,6 +10,7 @@ use Rattle.sparse_rows.proofs.Spread.{map_range_equal}
 use Rattle.row_space.specs.Echelon.{HasLeads, IsRref}
 use Rattle.row_space.specs.Solution.{IsReducedSolution, IsSolution, beside as with_side, refuting_system}
 use Rattle.row_space.proofs.ReadOff.{last_lead, solution_read}
+use Rattle.row_space.proofs.Refuting.{system_is}
 use Rattle.kernel_solve.specs.Columns.{AreColumns, arranged, column}
 use Rattle.kernel_solve.proofs.Matrices.{arranged_left, arranged_right, beside_left, beside_matrix, beside_right, selected_entry, selected_matrix, transposed_entry, transposed_matrix}
 use Rattle.kernel_solve.proofs.Splitting.{order_below}
@@ -111,6 +112,7 @@ system_put p A B side m narrow heights e =
     let size : w + B.width ≡ w + 1 = omega arith in
     ap (λ h. sized h (A.height + 1) (map g (range_with_len 0 h))) size
     ∙ ap (sized (w + 1) (A.height + 1)) (map-range_with_len_more g 0 w w (omega arith) ∙ ap₂ (λ u v. u ++ v ∷ []) (map_range_equal g f 0 w first) last)
+    ∙ system_is A (column B)
 
 -- the steps that build the column
 pub column_made : (E F by_column chosen side both : Matrix) (last : ℕ) (z order placed : List ℕ) → F ≡ E → by_column ≡ transposed F → chosen ≡ selected by_column (last ∷ []) → side ≡ one_of z →

@@ -9,7 +9,7 @@ use Rattle.residue_words.specs.Matrix.{Matrix, IsMatrix, IsVector, row, entry, l
 use Rattle.residue_words.proofs.Sums.{sum_equal}
 use Rattle.residue_words.proofs.Vectors.{at_list_of, at_zeros, entry_residue, length_list_of, list_of_equal, list_of_more, vector_of}
 use Rattle.row_space.specs.Kernel.{IsNull}
-use Rattle.row_space.specs.Solution.{Annuls, IsSolution, beside, refuting_rows, refuting_side, refuting_system}
+use Rattle.row_space.specs.Solution.{Annuls, IsSolution, refuting_rows, refuting_side, refuting_system}
 use Rattle.row_space.specs.Laws.{RefutingSystem}
 
 -- its rows: the columns of A, and b

@@ -7,7 +7,7 @@ use Rattle.residue_words.specs.Matrix.{Matrix, IsMatrix, IsVector, IsCombination
 use Rattle.row_space.specs.Echelon.{HasLeads, HasRank, IsIndependent, IsRref, SameSpan}
 use Rattle.row_space.specs.Inverse.{IsInverse}
 use Rattle.row_space.specs.Kernel.{IsKernel, IsNull}
-use Rattle.row_space.specs.Solution.{IsSolution, IsReducedSolution, IsRefutingCombination, Annuls, beside, refuting_rows, refuting_side, refuting_system}
+use Rattle.row_space.specs.Solution.{IsSolution, IsReducedSolution, IsRefutingCombination, Annuls, beside, refuting_rows, refuting_side}
 use Rattle.row_space.specs.Factors.{AreFactors, Certificate, IsValid, ShowsKernel, ShowsRref, TellsOf}
 
 -- a matrix has at most one reduced echelon form, rank, kernel basis

@@ -65,7 +65,7 @@ module _ (p : ℕ) (A B : Matrix) (ma : IsMatrix p A) (mb : IsMatrix p B) (heigh
       let b : List ℕ = column B in
       let law = system p A b y prime.two_or_more ma side_is in
       let at = subst (λ q. AnswersSystem q S found) modulus tells in
-      (law, at prime (refuting_rows A b) (refuting_side A.width) (refuting_matrix p A b ma side_is) (side_vector p A.width prime.two_or_more) (matrix ∙ law.system))
+      (law, at prime (refuting_rows A b) (refuting_side A.width) (refuting_matrix p A b ma side_is) (side_vector p A.width prime.two_or_more) matrix)
 
   -- where the system has no solution, the refuting system has one, the refuting combination
   pub refuted_by : (q : ℕ) (S : Matrix) (found : Found) (y : ResidueMatrix) → IsPrime p → RefutingSystem → q ≡ p → S ≡ refuting_system A (column B) → AnswersSystem q S found → found ≡ Solution y →
