@@ -21,6 +21,7 @@ P
 copy=$(mktemp -d)
 trap 'rm -rf "$copy"' EXIT
 cp -r crates crates.txt HANDLES "$copy"
+rm -rf "$copy"/crates/*/out
 mkdir -p "$copy/crates/dense_timed/src"
 echo "dense_timed: residue_words sparse_rows sms_text std_edge dense_finish" >> "$copy/crates.txt"
 cat > "$copy/crates/dense_timed/src/main.rt" <<'R'

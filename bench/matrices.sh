@@ -32,6 +32,7 @@ P
 copy=$(mktemp -d)
 trap 'rm -rf "$copy"' EXIT
 cp -r crates crates.txt HANDLES "$copy"
+rm -rf "$copy"/crates/*/out
 mkdir -p "$copy/crates/matrices_timed/src"
 echo "matrices_timed: residue_words sparse_rows sms_text std_edge" >> "$copy/crates.txt"
 cat > "$copy/crates/matrices_timed/src/main.rt" <<'R'
