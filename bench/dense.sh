@@ -140,34 +140,25 @@ use Rattle.dense_timed.proofs.fill.Given as goal
 abbrev pub invariant-loop-k : goal.invariant-loop-k
 invariant-loop-k l = (k : ℕ) → k < l.k → get_or l.out k 0 < l.p
 R
-cat > "$copy/crates/dense_timed/proofs/by_lanes/Invariants.antt" <<'R'
+# Both timed loops keep the same, each about the call that it times.
+keeps() {
+    cat > "$copy/crates/dense_timed/proofs/$1/Invariants.antt" <<R
 use Rattle.std.proofs.Common.{ℕ, ◌<◌, get_or, length, ◌≡◌}
-use Rattle.dense_timed.proofs.by_lanes.Given as goal
+use Rattle.dense_timed.proofs.$1.Given as goal
 
 abbrev pub invariant-loop-round : goal.invariant-loop-round
 invariant-loop-round l = (length l.y ≡ length l.out) × ((k : ℕ) → k < length l.out → get_or l.out k 0 < l.p) × ((k : ℕ) → k < length l.y → get_or l.y k 0 < l.p)
 R
-cat > "$copy/crates/dense_timed/proofs/by_lanes/Answers.antt" <<'R'
+    cat > "$copy/crates/dense_timed/proofs/$1/Answers.antt" <<R
 use Rattle.dense_timed.proofs.Keeps.{keeps}
-use Rattle.dense_timed.proofs.by_lanes.Goals as goal
+use Rattle.dense_timed.proofs.$1.Goals as goal
 
 pub loop-round-preserved : goal.loop-round-preserved
-loop-round-preserved c = keeps c.args.p.now c.args.a c.loop-round.out c.fill-2.new.out c.axpy.new.out c.requires.factor c.axpy.ensures c.loop-round.invariant.0 c.loop-round.invariant.2
+loop-round-preserved c = keeps c.args.p.now c.args.a c.loop-round.out c.fill-2.new.out c.$2.new.out c.requires.factor c.$2.ensures c.loop-round.invariant.0 c.loop-round.invariant.2
 R
-cat > "$copy/crates/dense_timed/proofs/plainly/Invariants.antt" <<'R'
-use Rattle.std.proofs.Common.{ℕ, ◌<◌, get_or, length, ◌≡◌}
-use Rattle.dense_timed.proofs.plainly.Given as goal
-
-abbrev pub invariant-loop-round : goal.invariant-loop-round
-invariant-loop-round l = (length l.y ≡ length l.out) × ((k : ℕ) → k < length l.out → get_or l.out k 0 < l.p) × ((k : ℕ) → k < length l.y → get_or l.y k 0 < l.p)
-R
-cat > "$copy/crates/dense_timed/proofs/plainly/Answers.antt" <<'R'
-use Rattle.dense_timed.proofs.Keeps.{keeps}
-use Rattle.dense_timed.proofs.plainly.Goals as goal
-
-pub loop-round-preserved : goal.loop-round-preserved
-loop-round-preserved c = keeps c.args.p.now c.args.a c.loop-round.out c.fill-2.new.out c.axpy_plainly.new.out c.requires.factor c.axpy_plainly.ensures c.loop-round.invariant.0 c.loop-round.invariant.2
-R
+}
+keeps by_lanes axpy
+keeps plainly axpy_plainly
 (cd "$copy/crates/dense_timed" && rt run <<< "" > "$copy/log" 2>&1 || true)
 program=$copy/crates/dense_timed/out/dense_timed
 test -x "$program" || { tail -n 30 "$copy/log"; exit 1; }
