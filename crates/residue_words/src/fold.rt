@@ -1,5 +1,6 @@
 // Decimal digits folded modulo p.
 ghost use Rattle.residue_words.specs.Fold.{IsFold};
+ghost use Rattle.residue_words.specs.declared.modulus.TheConstants.{MODULUS_BOUND};
 ghost use Rattle.std.specs.Prelude.{◌≡◌, ◌≢◌, ◌<◌, ◌≤◌, ◌+◌, ◌*◌, ◌%◌, ◌^◌, ◌↔◌, ℕ, IsTrue};
 
 use crate::modulus::Modulus;
@@ -11,7 +12,7 @@ const ROOM: u64 = 0x1000_0000_0000_0000;
 // A number below ROOM that is equal modulo p, and is 0 only where `kept` is.
 fn lowered(kept: u64, p: u64) -> u64
     requires nonzero { p ≢ 0 }
-    requires in_range { p < 2 ^ 48 }
+    requires in_range { p < MODULUS_BOUND }
     ensures same { result % p ≡ kept % p }
     ensures room { result < 2 ^ 60 }
     ensures zero { kept ≡ 0 → result ≡ 0 }
@@ -36,13 +37,14 @@ pub struct Fold {
 
 impl Model for Fold {
     ghost use Rattle.residue_words.specs.Fold.{Folded};
+    ghost use Rattle.residue_words.specs.declared.modulus.TheConstants.{MODULUS_BOUND};
     ghost use Rattle.std.specs.Prelude.{◌<◌, ◌≤◌, ◌^◌};
 
     ghost Value = { Folded };
 
     ghost view = { λ f. record { modulus = f.p; kept = f.kept } };
 
-    ghost invariant = { λ f. (2 ≤ f.p) × (f.p < 2 ^ 48) };
+    ghost invariant = { λ f. (2 ≤ f.p) × (f.p < MODULUS_BOUND) };
 
     ghost inverse = { λ v. record { p = v.modulus; kept = v.kept } };
 }

@@ -1,9 +1,13 @@
 // Residues modulo p.
+ghost use Rattle.residue_words.specs.declared.modulus.TheConstants.{MODULUS_BOUND};
 ghost use Rattle.residue_words.specs.Reciprocal.{reciprocal};
 ghost use Rattle.residue_words.specs.Residues.{IsPrime, inverse};
 ghost use Rattle.std.specs.Prelude.{◌≡◌, ◌≢◌, ◌<◌, ◌≤◌, ◌+◌, ◌-◌, ◌*◌, ◌/◌, ◌%◌, ◌^◌, ℕ};
 
 use std::marker::Model;
+
+/// The bound of a modulus, 2^48: each is below it.
+pub const MODULUS_BOUND: u64 = 0x1_0000_0000_0000;
 
 // The products of residues below this fit 64 bits.
 const NARROW: u64 = 0x1_0000_0000;
@@ -42,7 +46,7 @@ fn narrow_residue(product: u64, p: u64, reciprocal_of_p: u64) -> u64
 // The residue of a product below 2^96, for p above 2^32.
 fn wide_residue(product: u128, p: u64, reciprocal_of_p: u64) -> u64
     requires large { 2 ^ 32 < p }
-    requires in_range { p < 2 ^ 48 }
+    requires in_range { p < MODULUS_BOUND }
     requires product_in_range { product < 2 ^ 96 }
     requires quotient { reciprocal_of_p ≡ 2 ^ 96 / p }
     ensures { result ≡ product % p }
@@ -71,7 +75,7 @@ impl Model for Modulus {
 
     ghost view = { λ m. m.p };
 
-    ghost invariant = { λ m. (2 ≤ m.p) × (m.p < 2 ^ 48) × (m.reciprocal_of_p ≡ reciprocal m.p) };
+    ghost invariant = { λ m. (2 ≤ m.p) × (m.p < MODULUS_BOUND) × (m.reciprocal_of_p ≡ reciprocal m.p) };
 
     ghost inverse = { λ n. record { p = n; reciprocal_of_p = reciprocal n } };
 
@@ -82,7 +86,7 @@ impl Modulus {
     /// The modulus p, of which nothing but its range is asked.
     pub fn new(p: u64) -> Self
         requires two_or_more { 2 ≤ p }
-        requires in_range { p < 2 ^ 48 }
+        requires in_range { p < MODULUS_BOUND }
         ensures { result ≡ p }
     {
         Modulus {
@@ -95,7 +99,7 @@ impl Modulus {
     pub fn p(&self) -> u64
         ensures value { result ≡ self.now }
         ensures two_or_more { 2 ≤ result }
-        ensures in_range { result < 2 ^ 48 }
+        ensures in_range { result < MODULUS_BOUND }
     {
         self.p
     }
@@ -142,6 +146,18 @@ impl Modulus {
             narrow_residue(a * b, self.p, self.reciprocal_of_p)
         } else {
             wide_residue(u128::from(a) * u128::from(b), self.p, self.reciprocal_of_p)
+        }
+    }
+
+    /// The residue of a number: for a modulus up to 2^32 by two products and no division.
+    pub fn residue(&self, a: u64) -> u64
+        ensures value { result ≡ a % self.now }
+        ensures residue { result < self.now }
+    {
+        if self.p <= NARROW {
+            narrow_residue(a, self.p, self.reciprocal_of_p)
+        } else {
+            a % self.p
         }
     }
 

@@ -1,9 +1,13 @@
 // Products of one residue with many numbers.
+ghost use Rattle.residue_words.specs.declared.shoup.TheConstants.{LANE_BOUND};
 ghost use Rattle.residue_words.specs.Shoup.{Prepared, prepared};
 ghost use Rattle.std.specs.Prelude.{◌≡◌, ◌<◌, ◌*◌, ◌/◌, ◌%◌};
 
 use crate::modulus::Modulus;
 use std::marker::Model;
+
+/// The bound of what a lane of 32 bits takes with one bit to spare, 2^31: a modulus and a factor of prepared products are below it.
+pub const LANE_BOUND: u64 = 0x8000_0000;
 
 /// A residue a modulo p, prepared for products with many numbers, each by two products, a shift and no division.
 ///
@@ -18,6 +22,7 @@ pub struct Shoup {
 }
 
 impl Model for Shoup {
+    ghost use Rattle.residue_words.specs.declared.shoup.TheConstants.{LANE_BOUND};
     ghost use Rattle.residue_words.specs.Shoup.{Prepared};
     ghost use Rattle.std.specs.Prelude.{◌≡◌, ◌<◌, ◌*◌, ◌/◌};
 
@@ -25,7 +30,7 @@ impl Model for Shoup {
 
     ghost view = { λ s. record { factor = s.factor; modulus = s.p } };
 
-    ghost invariant = { λ s. (s.factor < s.p) × (s.p < 2147483648) × (s.quotient ≡ s.factor * 4294967296 / s.p) };
+    ghost invariant = { λ s. (s.factor < s.p) × (s.p < LANE_BOUND) × (s.quotient ≡ s.factor * 4294967296 / s.p) };
 
     ghost inverse = { λ v. record { factor = v.factor; quotient = v.factor * 4294967296 / v.modulus; p = v.modulus } };
 
@@ -36,7 +41,7 @@ impl Shoup {
     /// The residue a modulo p, prepared by one division.
     pub fn of(a: u64, p: &Modulus) -> Shoup
         requires residue { a < p.now }
-        requires in_range { p.now < 2147483648 }
+        requires in_range { p.now < LANE_BOUND }
         ensures { result ≡ prepared a p.now }
     {
         let p = p.p();
@@ -57,7 +62,7 @@ impl Shoup {
 
     /// The residue of the factor times y.
     pub fn times(&self, y: u64) -> u64
-        requires { y < 2147483648 }
+        requires { y < LANE_BOUND }
         ensures value { result ≡ (self.now.factor * y) % self.now.modulus }
         ensures residue { result < self.now.modulus }
     {

@@ -1,5 +1,7 @@
 -- Cells: values at places, where a matrix has 2^32 places a row.
 use Rattle.std.specs.Prelude.{◌≡◌, ◌<◌, ◌≤◌, ◌+◌, ◌*◌, ◌/◌, ◌%◌, ◌^◌, ◌==◌, if◌then◌else◌, ℕ, List, length, slice_index, slice_index_or, slice_range, All}
+use Rattle.residue_words.specs.declared.modulus.TheConstants.{MODULUS_BOUND}
+use Rattle.sparse_rows.specs.declared.rows.TheConstants.{LARGEST_SIZE}
 use Rattle.std.specs.List.{sum_by}
 use Rattle.sparse_rows.specs.declared.cells.Cell.{Cell}
 use Rattle.sparse_rows.specs.Rows.{Triple}
@@ -29,10 +31,10 @@ pub record IsWithin (m n : ℕ) (c : Cell) : Type 0 where
 
 -- cells pushed for a matrix of m x n modulo p
 pub record ArePushed (p m n : ℕ) (cells : List Cell) : Type 0 where
-  pub height_small : m ≤ 2147483648
-  pub width_small : n ≤ 2147483648
+  pub height_small : m ≤ LARGEST_SIZE
+  pub width_small : n ≤ LARGEST_SIZE
   pub two_or_more : 2 ≤ p
-  pub in_range : p < 2 ^ 48
+  pub in_range : p < MODULUS_BOUND
   pub within : All (IsWithin m n) cells
   pub residues : All (λ c. c.val < p) cells
 

@@ -1,4 +1,5 @@
 // What collects the entries of a matrix in any order.
+ghost use Rattle.sparse_rows.specs.declared.rows.TheConstants.{LARGEST_SIZE};
 ghost use Rattle.std.specs.Prelude.{◌≡◌, ◌<◌, ◌≤◌, ◌++◌, ◌∷◌, [], IfOk, OnOk, OnErr};
 ghost use Rattle.sparse_rows.specs.Rows.{built};
 
@@ -39,8 +40,8 @@ impl Model for RowsBuilder {
 impl RowsBuilder {
     /// A builder of a matrix of m rows and n columns, with room for a few entries.
     pub fn new(alloc: Global, m: u32, n: u32, p: Modulus) -> Result<RowsBuilder, AllocError>
-        requires height { m ≤ 2147483648 }
-        requires width { n ≤ 2147483648 }
+        requires height { m ≤ LARGEST_SIZE }
+        requires width { n ≤ LARGEST_SIZE }
         ensures { IfOk result (λ b. b ≡ record { modulus = p; height = m; width = n; pushed = [] }) }
     {
         let _ = p.p();

@@ -17,5 +17,5 @@ mod tests;
 
 pub use builder::RowsBuilder;
 pub use list::List;
-pub use rows::Rows;
+pub use rows::{LARGEST_SIZE, Rows};
 pub use sparse::Sparse;

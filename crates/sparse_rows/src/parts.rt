@@ -1,4 +1,5 @@
 // Parts of a list, one after another.
+ghost use Rattle.sparse_rows.specs.declared.rows.TheConstants.{LARGEST_SIZE};
 ghost use Rattle.std.specs.Prelude.{◌≡◌, ◌<◌, ◌≤◌, ◌+◌, ◌-◌, length, slice_index, slice_range, IfOk};
 ghost use Rattle.sparse_rows.specs.Stored.{AreStarts, part_numbers};
 
@@ -18,7 +19,7 @@ pub(crate) fn part<'a, T>(items: &'a [T], starts: &[usize], i: usize) -> &'a [T]
 
 // Of each item the number of its part.
 pub(crate) fn part_numbers(alloc: Global, starts: &[usize]) -> Result<Vec<u32>, AllocError>
-    requires few { length starts.now ≤ 2147483649 }
+    requires few { length starts.now ≤ LARGEST_SIZE + 1 }
     requires parts { AreStarts (length starts.now - 1) (slice_index starts.now (length starts.now - 1)) starts.now }
     ensures { IfOk result (λ numbers. numbers.items ≡ part_numbers (length starts.now - 1) starts.now) }
 {

@@ -1,4 +1,6 @@
 // A matrix as compressed rows.
+ghost use Rattle.residue_words.specs.declared.modulus.TheConstants.{MODULUS_BOUND};
+ghost use Rattle.sparse_rows.specs.declared.rows.TheConstants.{LARGEST_SIZE};
 ghost use Rattle.std.specs.Prelude.{◌≡◌, ◌<◌, ◌≤◌, ◌+◌, ◌*◌, ◌%◌, ◌^◌, ℕ, [], ◌∷◌, ◌++◌, length, slice_index, All, IfOk, OnErr, OnOk};
 ghost use Rattle.residue_words.specs.Matrix.{IsMatrix, IsVector, apply, entry, row};
 ghost use Rattle.residue_words.specs.Residues.{sum_below};
@@ -13,6 +15,9 @@ use crate::sparse::Sparse;
 use residue_words::Modulus;
 use std::alloc::{AllocError, Global};
 use std::marker::Model;
+
+/// The largest height and width of a matrix, 2^31.
+pub const LARGEST_SIZE: u32 = 0x8000_0000;
 
 /// A matrix of residues as compressed rows: of each row the columns with a nonzero entry, ascending, and the entries there.
 /// Contracts see the plain matrix with its modulus. It takes 12 bytes an entry and 8 bytes a row.
@@ -45,8 +50,8 @@ impl Rows {
         height: u32,
         entries: usize,
     ) -> Result<Rows, AllocError>
-        requires width_small { width ≤ 2147483648 }
-        requires height_small { height ≤ 2147483648 }
+        requires width_small { width ≤ LARGEST_SIZE }
+        requires height_small { height ≤ LARGEST_SIZE }
         ensures modulus { IfOk result (λ rows. rows.modulus ≡ modulus) }
         ensures matrix { IfOk result (λ rows. rows.matrix ≡ record { height = 0; width = width; rows = [] }) }
     {
@@ -64,7 +69,7 @@ impl Rows {
 
     // Appends the row that these columns and values stand for. After an `Err` the matrix is as before.
     pub(crate) fn append_slices(&mut self, cols: &[u32], vals: &[u64]) -> Result<(), AllocError>
-        requires height_small { self.old.matrix.height < 2147483648 }
+        requires height_small { self.old.matrix.height < LARGEST_SIZE }
         requires sparse { IsSparse self.old.modulus self.old.matrix.width cols.now vals.now }
         ensures modulus { self.new.modulus ≡ self.old.modulus }
         ensures matrix { OnOk result (self.new.matrix ≡ with_row self.old.matrix (spread self.old.matrix.width cols.now vals.now)) }
@@ -80,7 +85,7 @@ impl Rows {
 
     /// Appends a row. Where memory is wanted the matrix is as before.
     pub fn append(&mut self, row: &Sparse) -> Result<(), AllocError>
-        requires height_small { self.old.matrix.height < 2147483648 }
+        requires height_small { self.old.matrix.height < LARGEST_SIZE }
         requires modulus { row.now.modulus ≡ self.old.modulus }
         requires width { length row.now.row ≡ self.old.matrix.width }
         ensures modulus { self.new.modulus ≡ self.old.modulus }
@@ -98,8 +103,8 @@ impl Rows {
         width: u32,
         cells: &[Cell],
     ) -> Result<Rows, AllocError>
-        requires height_small { height ≤ 2147483648 }
-        requires width_small { width ≤ 2147483648 }
+        requires height_small { height ≤ LARGEST_SIZE }
+        requires width_small { width ≤ LARGEST_SIZE }
         requires within { All (IsWithin height width) cells.now }
         requires entries { AreEntries modulus cells.now }
         ensures modulus { IfOk result (λ rows. rows.modulus ≡ modulus) }
@@ -117,7 +122,7 @@ impl Rows {
 
     /// The identity matrix of n rows.
     pub fn identity(alloc: Global, n: u32, p: &Modulus) -> Result<Rows, AllocError>
-        requires { n ≤ 2147483648 }
+        requires { n ≤ LARGEST_SIZE }
         ensures modulus { IfOk result (λ rows. rows.modulus ≡ p.now) }
         ensures matrix { IfOk result (λ rows. rows.matrix ≡ identity n) }
     {
@@ -134,7 +139,7 @@ impl Rows {
     /// How many rows the matrix has.
     pub fn height(&self) -> u32
         ensures value { result ≡ self.now.matrix.height }
-        ensures bound { result ≤ 2147483648 }
+        ensures bound { result ≤ LARGEST_SIZE }
         ensures sound { IsMatrix self.now.modulus self.now.matrix }
     {
         (self.starts.len() - 1) as u32
@@ -143,7 +148,7 @@ impl Rows {
     /// How many columns the matrix has.
     pub fn width(&self) -> u32
         ensures value { result ≡ self.now.matrix.width }
-        ensures bound { result ≤ 2147483648 }
+        ensures bound { result ≤ LARGEST_SIZE }
     {
         self.width
     }
@@ -152,7 +157,7 @@ impl Rows {
     pub fn modulus(&self) -> Modulus
         ensures value { result ≡ self.now.modulus }
         ensures two_or_more { 2 ≤ result }
-        ensures in_range { result < 2 ^ 48 }
+        ensures in_range { result < MODULUS_BOUND }
         ensures sound { IsMatrix self.now.modulus self.now.matrix }
     {
         self.modulus
@@ -207,7 +212,7 @@ impl Rows {
     pub fn beside(&self, alloc: Global, right: &Rows) -> Result<Rows, AllocError>
         requires heights { self.now.matrix.height ≡ right.now.matrix.height }
         requires moduli { self.now.modulus ≡ right.now.modulus }
-        requires widths { self.now.matrix.width + right.now.matrix.width ≤ 2147483648 }
+        requires widths { self.now.matrix.width + right.now.matrix.width ≤ LARGEST_SIZE }
         ensures modulus { IfOk result (λ rows. rows.modulus ≡ self.now.modulus) }
         ensures matrix { IfOk result (λ rows. rows.matrix ≡ beside self.now.matrix right.now.matrix) }
     {
@@ -226,7 +231,7 @@ impl Rows {
 
     /// The rows that are named, in that order.
     pub fn select(&self, alloc: Global, rows: &[u32]) -> Result<Rows, AllocError>
-        requires many { length rows.now ≤ 2147483648 }
+        requires many { length rows.now ≤ LARGEST_SIZE }
         requires inside { All (λ i. i < self.now.matrix.height) rows.now }
         ensures modulus { IfOk result (λ made. made.modulus ≡ self.now.modulus) }
         ensures matrix { IfOk result (λ made. made.matrix ≡ selected self.now.matrix rows.now) }
@@ -280,7 +285,7 @@ impl Rows {
         requires row { i < self.now.matrix.height }
         requires modulus { to.old.modulus ≡ self.now.modulus }
         requires width { by + self.now.matrix.width ≤ length to.old.row }
-        requires narrow { by + self.now.matrix.width ≤ 2147483648 }
+        requires narrow { by + self.now.matrix.width ≤ LARGEST_SIZE }
         requires sound { IsMatrix self.now.modulus self.now.matrix }
         requires behind { (j : ℕ) → by ≤ j → j < length to.old.row → slice_index to.old.row j ≡ 0 }
         ensures modulus { to.new.modulus ≡ to.old.modulus }

@@ -1,4 +1,5 @@
 // One row by its nonzero entries.
+ghost use Rattle.residue_words.specs.declared.modulus.TheConstants.{MODULUS_BOUND};
 ghost use Rattle.std.specs.Prelude.{◌≡◌, ◌<◌, ◌≤◌, ◌^◌, ℕ, length, slice_index, slice_set, OnOk, OnErr};
 ghost use Rattle.residue_words.specs.Matrix.{IsVector, zeros};
 ghost use Rattle.sparse_rows.specs.Rows.{nonzeros, support};
@@ -19,6 +20,7 @@ pub struct Sparse {
 
 impl Model for Sparse {
     ghost use Rattle.std.specs.Prelude.{◌≤◌, ◌<◌, ◌^◌};
+    ghost use Rattle.residue_words.specs.declared.modulus.TheConstants.{MODULUS_BOUND};
     ghost use Rattle.sparse_rows.specs.Rows.{ResidueRow};
     ghost use Rattle.sparse_rows.specs.Stored.{IsSparse, spread};
 
@@ -26,7 +28,7 @@ impl Model for Sparse {
 
     ghost view = { λ r. record { modulus = r.modulus; row = spread r.width r.cols.items r.vals.items } };
 
-    ghost invariant = { λ r. (IsSparse r.modulus r.width r.cols.items r.vals.items) × (2 ≤ r.modulus) × (r.modulus < 2 ^ 48) };
+    ghost invariant = { λ r. (IsSparse r.modulus r.width r.cols.items r.vals.items) × (2 ≤ r.modulus) × (r.modulus < MODULUS_BOUND) };
 }
 
 impl Sparse {
@@ -81,7 +83,7 @@ impl Sparse {
     pub fn modulus(&self) -> Modulus
         ensures value { result ≡ self.now.modulus }
         ensures two_or_more { 2 ≤ result }
-        ensures in_range { result < 2 ^ 48 }
+        ensures in_range { result < MODULUS_BOUND }
     {
         self.modulus
     }

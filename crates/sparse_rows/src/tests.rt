@@ -1,4 +1,5 @@
 // Each call once, on small matrices modulo 7.
+ghost use Rattle.sparse_rows.specs.declared.rows.TheConstants.{LARGEST_SIZE};
 ghost use Rattle.std.specs.Prelude.{◌≡◌, ◌≤◌, IfOk};
 
 use crate::{List, Rows, RowsBuilder, Sparse};
@@ -8,8 +9,8 @@ use std::test::Fail;
 
 // The matrix of these places and values modulo 7.
 fn built(alloc: Global, m: u32, n: u32, triples: &[(u32, u32, u64)]) -> Result<Rows, AllocError>
-    requires height { m ≤ 2147483648 }
-    requires width { n ≤ 2147483648 }
+    requires height { m ≤ LARGEST_SIZE }
+    requires width { n ≤ LARGEST_SIZE }
     ensures modulus { IfOk result (λ rows. rows.modulus ≡ 7) }
     ensures height { IfOk result (λ rows. rows.matrix.height ≡ m) }
     ensures width { IfOk result (λ rows. rows.matrix.width ≡ n) }
