@@ -3,6 +3,7 @@ pub mod Cuts
 pub mod Filling
 pub mod Grouping
 pub mod Loops
+pub mod Marking
 pub mod Spread
 pub mod Stored
 pub mod Summing

@@ -7,6 +7,7 @@ mod builder;
 mod cells;
 mod group;
 mod list;
+mod marks;
 mod order;
 mod parts;
 mod rows;
@@ -17,5 +18,6 @@ mod tests;
 
 pub use builder::RowsBuilder;
 pub use list::List;
+pub use marks::Marks;
 pub use rows::{LARGEST_SIZE, Rows};
 pub use sparse::Sparse;
