@@ -1,9 +1,12 @@
 pub mod Building
 pub mod Cuts
+pub mod FilledRows
 pub mod Filling
 pub mod Grouping
 pub mod Loops
 pub mod Marking
+pub mod Occurring
+pub mod Renaming
 pub mod Spread
 pub mod Stored
 pub mod Summing
