@@ -4,6 +4,7 @@ pub mod FilledRows
 pub mod Filling
 pub mod Grouping
 pub mod Loops
+pub mod Marking
 pub mod Occurring
 pub mod Renaming
 pub mod Spread

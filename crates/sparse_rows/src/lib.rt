@@ -8,6 +8,7 @@ mod cells;
 mod column_lists;
 mod group;
 mod list;
+mod marks;
 mod order;
 mod parts;
 mod rows;
@@ -18,5 +19,6 @@ mod tests;
 
 pub use builder::RowsBuilder;
 pub use list::List;
+pub use marks::Marks;
 pub use rows::{LARGEST_SIZE, Rows};
 pub use sparse::Sparse;

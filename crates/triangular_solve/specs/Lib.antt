@@ -1,3 +1,3 @@
-pub mod Columns
-pub mod Kept
+pub mod Accumulator
 pub mod Leads
+pub mod Led
