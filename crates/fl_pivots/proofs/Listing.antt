@@ -1,6 +1,5 @@
 -- Where rows begin, listed row by row and sorted.
-use Rattle.std.proofs.Common.{ℕ, zero, suc, ◌≡◌, ◌≢◌, ◌+◌, ◌-◌, ◌<◌, ◌≤◌, ◌⊎◌, Ordering, Less, Equal, Greater, false, List, [], ◌∷◌, ◌++◌, length, slice_index, get_or, inl, inr, ⊎_elim, sym, refl, ap, subst, ◌∙◌, arith}
-use Rattle.std.specs.List.{Contains}
+use Rattle.std.proofs.Common.{ℕ, zero, suc, ◌≡◌, ◌+◌, ◌-◌, ◌<◌, ◌≤◌, Ordering, Less, Equal, Greater, false, List, [], ◌∷◌, ◌++◌, length, slice_index, get_or, inl, inr, ⊎_elim, sym, refl, ap, subst, arith}
 use Rattle.std.specs.List.Sorted.{IsPermutation, IsSorted}
 use Rattle.std.specs.Ordering.{MatchOrdering, is_lt, nat_cmp, ordering_then}
 use Rattle.std.proofs.lemmas.Cmp.{ranked}

@@ -1,16 +1,16 @@
 -- The pairs of the columns that are passed, and the next pair.
-use Rattle.std.proofs.Common.{ℕ, zero, suc, ◌≡◌, ◌≢◌, ◌+◌, ◌<◌, ◌≤◌, ◌⊎◌, List, [], ◌∷◌, ◌++◌, map, length, slice_index, get_or, inl, inr, ⊎_elim, sym, refl, ap, subst, ◌∙◌, arith}
+use Rattle.std.proofs.Common.{ℕ, zero, suc, ◌≡◌, ◌+◌, ◌<◌, ◌≤◌, List, [], ◌∷◌, ◌++◌, map, length, slice_index, get_or, inl, inr, ⊎_elim, sym, refl, ap, subst, ◌∙◌, arith}
 use Rattle.std.specs.List.{Contains}
-use Rattle.std.proofs.lemmas.Bool.{cases_eq, cases_lt}
+use Rattle.std.proofs.lemmas.Bool.{cases_lt}
 use Rattle.std.proofs.lemmas.List.{get_or_append_left, get_or_default, get_or_push, length-map, length_push, map_push}
 use Rattle.std.proofs.lemmas.List.Elements.{Contains-append_left, Contains-get_or, Contains-push, Contains-push_cases}
 use Rattle.residue_words.specs.Matrix.{Matrix}
 use Rattle.residue_words.specs.declared.plain.Pair.{Pair}
 use Rattle.residue_words.proofs.Lists.{not_in_nil}
 use Rattle.row_space.specs.Factors.{col_at}
-use Rattle.pivot_table.specs.History.{pair, HasCol, HasRow, Alive, row_weight}
+use Rattle.pivot_table.specs.History.{HasCol, Alive, row_weight}
 use Rattle.fl_pivots.specs.declared.beginning.Beginning.{Beginning}
-use Rattle.fl_pivots.specs.Beginnings.{AreBeginnings, AreSorted, IsBeginning, IsNoLater}
+use Rattle.fl_pivots.specs.Beginnings.{AreBeginnings, AreSorted, IsNoLater}
 use Rattle.fl_pivots.specs.Leftmost.{BeginsAt, IsSparsest, IsLeftmost}
 use Rattle.fl_pivots.proofs.Listing.{begins_one}
 
@@ -126,8 +126,7 @@ module _ {A : Matrix} {list : List Beginning} (are : AreBeginnings A A.height li
               | inl lt ↦ absurd (omega (arith, passed t.0 t.1 lt, ap (λ (b : Beginning). b.column) t.3, t.5))
               | inr ge ↦
                   let later = subst (IsNoLater (get_or list k none)) is (sorted k t.0 none ge t.2) in
-                  let fewest : (get_or list k none).weight ≤ t.1.weight = later.weight (sym t.5) in
-                  (
+                  let fewest : (get_or list k none).weight ≤ t.1.weight = later.weight (sym t.5) in (
                     omega (arith, t.6),
                     (λ le. let same : (get_or list k none).weight ≡ t.1.weight = omega (arith, t.6) in omega (arith, later.row (sym t.5) same, t.4)),
                   )

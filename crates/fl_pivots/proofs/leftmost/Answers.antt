@@ -1,4 +1,4 @@
-use Rattle.std.proofs.Common.{List, ◌∙◌, ap, sym, subst}
+use Rattle.std.proofs.Common.{List, sym, subst}
 use Rattle.sparse_rows.specs.Rows.{ResidueMatrix}
 use Rattle.fl_pivots.specs.declared.beginning.Beginning.{Beginning}
 use Rattle.fl_pivots.specs.Beginnings.{AreBeginnings, AreSorted}

@@ -1,4 +1,4 @@
-use Rattle.std.proofs.Common.{ℕ, List, ◌≡◌, ◌<◌, ◌≤◌, ◌+◌, ◌++◌, ◌∷◌, [], get_or, inl, inr, length, subst, sym, ap, refl, ◌∙◌, arith}
+use Rattle.std.proofs.Common.{ℕ, List, ◌≡◌, ◌<◌, ◌+◌, ◌++◌, ◌∷◌, [], get_or, inl, inr, subst, sym, ap, refl, ◌∙◌, arith}
 use Rattle.std.proofs.lemmas.Bool.{cases_lt}
 use Rattle.std.proofs.lemmas.List.{get_or_default}
 use Rattle.residue_words.specs.declared.plain.Pair.{Pair}
@@ -6,7 +6,7 @@ use Rattle.sparse_rows.specs.Rows.{ResidueMatrix}
 use Rattle.pivot_table.specs.History.{Alive}
 use Rattle.pivot_table.specs.Book.{BookState}
 use Rattle.fl_pivots.specs.declared.beginning.Beginning.{Beginning}
-use Rattle.fl_pivots.proofs.Taking.{IsTaking, here_begins, here_sparsest, passed_all, passed_before, taking_alive, taking_comes, taking_ends, taking_none, taking_passes}
+use Rattle.fl_pivots.proofs.Taking.{IsTaking, here_begins, here_sparsest, passed_all, passed_before, taking_alive, taking_comes, taking_ends, taking_passes}
 use Rattle.fl_pivots.proofs.take_first.Goals as goal
 use Rattle.fl_pivots.proofs.take_first.Goals.{then-beginning-next+in_ok-reserve, else-beginning-next}
 

@@ -1,6 +1,3 @@
-use Rattle.std.proofs.Common.{List, ◌+◌, ap, sym, subst}
-use Rattle.fl_pivots.specs.declared.beginning.Beginning.{Beginning}
-use Rattle.fl_pivots.specs.Beginnings.{AreBeginnings}
 use Rattle.fl_pivots.proofs.Listing.{listed_more, listed_none}
 use Rattle.fl_pivots.proofs.beginning.beginnings.Goals as goal
 use Rattle.fl_pivots.proofs.beginning.beginnings.Goals.{in-Some+in_ok-push, in_default}
