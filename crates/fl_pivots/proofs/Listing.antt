@@ -9,8 +9,8 @@ use Rattle.std.proofs.lemmas.List.Elements.{Contains-append_left, Contains-push,
 use Rattle.std.proofs.lemmas.List.Sorted.{Contains-permutation, IsPermutation-sym}
 use Rattle.residue_words.specs.Matrix.{Matrix, IsMatrix, row, entry}
 use Rattle.residue_words.proofs.Lists.{not_in_nil, place_in}
-use Rattle.row_space.proofs.Counting.{pigeonhole}
-use Rattle.sparse_rows.specs.Rows.{support}
+use Rattle.sparse_rows.specs.Rows.{IsZeroRow, support}
+use Rattle.sparse_rows.proofs.Renaming.{rising_short}
 use Rattle.sparse_rows.proofs.Supports.{at_support, in_support, row_sparse}
 use Rattle.pivot_table.specs.History.{row_weight}
 use Rattle.fl_pivots.specs.declared.beginning.Beginning.{Beginning}
@@ -34,14 +34,7 @@ module _ {p : ℕ} {A : Matrix} (m : IsMatrix p A) (r : ℕ) (l : r < A.height) 
   begins_nowhere none c b = let t = place_in (support (row A r)) c (in_support m r l c b.0.2) in absurd (omega (arith, t.1))
 
   pub weight_small : row_weight A r ≤ A.width
-  weight_small = pigeonhole (row_weight A r) A.width (slice_index (support (row A r))) (row_sparse m r l).below
-      (λ x y lx ly e. elim (cases_eq x y) [
-        | inl is ↦ is
-        | inr n ↦ elim (cases_lt x y) [
-          | inl less ↦ absurd (omega (arith, (row_sparse m r l).rising x y less ly))
-          | inr ge ↦ absurd (omega (arith, (row_sparse m r l).rising y x (omega arith) lx))
-        ]
-      ])
+  weight_small = rising_short (support (row A r)) A.width (row_sparse m r l).rising (row_sparse m r l).below
 
 -- a row begins at one column
 pub begins_one : (A : Matrix) (r c d : ℕ) → BeginsAt A r c → BeginsAt A r d → c ≡ d
@@ -63,12 +56,13 @@ listed_more {A} {n} {list} a b is = record {
   ];
 }
 
-pub listed_none : {A : Matrix} {n : ℕ} {list : List Beginning} → AreBeginnings A n list → ((c : ℕ) → ¬ BeginsAt A n c) → AreBeginnings A (n + 1) list
-listed_none {A} {n} {list} a none = record {
+-- rows without an entry are passed
+pub listed_passes : {p : ℕ} {A : Matrix} {n i : ℕ} {list : List Beginning} → IsMatrix p A → AreBeginnings A n list → ((k : ℕ) → n ≤ k → k < i → IsZeroRow A k) → AreBeginnings A i list
+listed_passes {p} {A} {n} {i} {list} m a zero' = record {
   each = a.each;
   every = λ r c l at. elim (cases_lt r n) [
     | inl less ↦ a.every r c less at
-    | inr ge ↦ absurd (let e : r ≡ n = omega arith in none c (subst (λ s. BeginsAt A s c) e at))
+    | inr ge ↦ absurd (begins_nowhere m r at.0.0 (ap length (zero' r ge l)) c at)
   ];
 }
 

@@ -12,7 +12,7 @@ pub record IsBeginning (A : Matrix) (r : ℕ) (b : Beginning) : Type 0 where
   pub begins : BeginsAt A r b.column
   pub weight : b.weight ≡ row_weight A r
 
--- the list says so of each of the first n rows that has an entry, and of no other row
+-- each item says where its row begins, and there is one for each of the first n rows that has an entry
 pub record AreBeginnings (A : Matrix) (n : ℕ) (list : List Beginning) : Type 0 where
   pub each : (b : Beginning) → Contains list b → IsBeginning A b.row b
   pub every : (r c : ℕ) → r < n → BeginsAt A r c → (b : Beginning) × Contains list b × (b.row ≡ r)

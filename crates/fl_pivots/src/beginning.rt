@@ -1,7 +1,7 @@
 // Where rows begin.
-ghost use Rattle.std.specs.Prelude.{◌≡◌, ◌<◌, ℕ, IfOk, IfSome, IfNone};
+ghost use Rattle.std.specs.Prelude.{◌<◌, IfOk};
+ghost use Rattle.sparse_rows.specs.Rows.{IsFilled};
 ghost use Rattle.fl_pivots.specs.Beginnings.{AreBeginnings, IsBeginning};
-ghost use Rattle.fl_pivots.specs.Leftmost.{BeginsAt};
 
 use sparse_rows::Rows;
 use std::alloc::{AllocError, Global};
@@ -16,23 +16,20 @@ pub(crate) struct Beginning {
 }
 
 impl Beginning {
-    // Where row i begins, if it has an entry.
-    fn of(rows: &Rows, i: u32) -> Option<Self>
-        requires { i < rows.now.matrix.height }
-        ensures some { IfSome result (IsBeginning rows.now.matrix i) }
-        ensures none { IfNone result ((c : ℕ) → ¬ BeginsAt rows.now.matrix i c) }
+    // Where row i begins.
+    fn of(rows: &Rows, i: u32) -> Self
+        requires row { i < rows.now.matrix.height }
+        requires filled { IsFilled rows.now.matrix i }
+        ensures { IsBeginning rows.now.matrix i result }
     {
         // The contracts of these calls tell that the rows are a matrix, and bound its width.
         let _ = (rows.height(), rows.width());
         let cols = rows.cols(i);
-        if cols.is_empty() {
-            return None;
-        }
-        Some(Beginning {
+        Beginning {
             column: cols[0],
             weight: cols.len() as u32,
             row: i,
-        })
+        }
     }
 }
 
@@ -40,11 +37,13 @@ impl Beginning {
 pub(crate) fn beginnings(alloc: Global, rows: &Rows) -> Result<Vec<Beginning>, AllocError>
     ensures { IfOk result (λ list. AreBeginnings rows.now.matrix rows.now.matrix.height list.items) }
 {
+    // The contract of this call tells that the rows are a matrix, and bounds its height.
+    let _ = rows.height();
     let mut list = Vec::new(alloc);
-    for i in 0..rows.height() {
-        if let Some(beginning) = Beginning::of(rows, i) {
-            list.push(beginning)?;
-        }
+    let mut from = 0;
+    while let Some(i) = rows.next_filled(from) {
+        list.push(Beginning::of(rows, i))?;
+        from = i + 1;
     }
     Ok(list)
 }
