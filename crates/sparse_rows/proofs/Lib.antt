@@ -10,4 +10,5 @@ pub mod Renaming
 pub mod Spread
 pub mod Stored
 pub mod Summing
+pub mod Supports
 pub mod Transposed
