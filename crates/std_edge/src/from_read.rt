@@ -28,8 +28,10 @@ impl<R: Read> Source for FromRead<R> {
 
     fn pull(&mut self, buffer: &mut [u8]) -> Pulled
         requires { 0 < length buffer.old }
-        ensures did { PullDid result buffer.new (untold_source self.old.faults) (untold_source self.new.faults) }
-        ensures bytes { ReaderDid result (R.remaining self.old.reader) (R.remaining self.new.reader) buffer.new }
+        ensures did { PullDid result buffer.new
+            (untold_source self.old.faults) (untold_source self.new.faults) }
+        ensures bytes { ReaderDid result
+            (R.remaining self.old.reader) (R.remaining self.new.reader) buffer.new }
     {
         match self.reader.read(buffer) {
             Ok(0) => Pulled::End,
