@@ -3,6 +3,7 @@ pub mod Building
 pub mod Elimination
 pub mod Exact
 pub mod Matching
+pub mod OneAnswer
 pub mod Program
 pub mod Reading
 pub mod Solving

@@ -19,10 +19,12 @@ use Rattle.kernel_solve.specs.Columns.{column}
 use Rattle.kernel_solve.specs.Found.{Answers, HasShape}
 use Rattle.kernel_solve.specs.Inverted.{HasInverseShape, Inverts}
 use Rattle.kernel_solve.proofs.Matrices.{beside_column, column_vector, one_item}
-use Rattle.spasm_run.specs.declared.answers.Answer.TheVariants as answer
+use Rattle.spasm_run.specs.declared.answer.Answer.TheVariants as answer
 use Rattle.spasm_run.specs.declared.words.Task.TheVariants as task
+use Rattle.sparse_rows.specs.declared.rows.TheConstants.{LARGEST_SIZE}
+use Rattle.spasm_run.specs.declared.commands.TheConstants.{LARGEST_INVERTED}
 use Rattle.spasm_run.specs.Answers.{column_of, misfit, row_of}
-use Rattle.spasm_run.specs.Found.{IsAnswerTo, AnswersSystem}
+use Rattle.spasm_run.specs.Computed.{IsAnswerTo, AnswersSystem}
 
 sized : ℕ → ℕ → List (List ℕ) → Matrix
 sized h w r = record { height = h; width = w; rows = r }
@@ -90,7 +92,7 @@ module _ (p : ℕ) (A B : Matrix) (ma : IsMatrix p A) (mb : IsMatrix p B) (heigh
   told_of q S found prime modulus matrix tells = subst (λ q. AnswersSystem q S found) modulus tells prime A (column B) ma side_is (matrix ∙ beside_column A mb heights narrow)
 
   -- the solution answers, or what refutes the system
-  pub solution_answers : (q : ℕ) (S : Matrix) (found : Found) (x : ResidueMatrix) → A.width ≤ 2147483647 → q ≡ p → S ≡ beside A B → HasShape q S.width found → AnswersSystem q S found → found ≡ Solution x →
+  pub solution_answers : (q : ℕ) (S : Matrix) (found : Found) (x : ResidueMatrix) → A.width < LARGEST_SIZE → q ≡ p → S ≡ beside A B → HasShape q S.width found → AnswersSystem q S found → found ≡ Solution x →
       IsAnswerTo task.Solve p (A ∷ B ∷ []) (answer.Solution x)
   solution_answers q S found x wide modulus matrix shape tells here =
       let sizes = subst (HasShape q S.width) here shape in record {
@@ -101,7 +103,7 @@ module _ (p : ℕ) (A B : Matrix) (ma : IsMatrix p A) (mb : IsMatrix p B) (heigh
             inl (column x.matrix, told.1, ap (λ X. codes "solution\n" ++ text_of X) (column_whole x.matrix sizes.1 sizes.3));
       }
 
-  pub refutation_answers : (q : ℕ) (S : Matrix) (found : Found) (y : ResidueMatrix) → A.height ≤ 2147483647 → q ≡ p → S ≡ beside A B → AnswersSystem q S found → found ≡ Inconsistent →
+  pub refutation_answers : (q : ℕ) (S : Matrix) (found : Found) (y : ResidueMatrix) → A.height < LARGEST_SIZE → q ≡ p → S ≡ beside A B → AnswersSystem q S found → found ≡ Inconsistent →
       y.matrix ≡ row_of (row y.matrix 0) → y.matrix.width ≡ A.height → (IsPrime p → ((x : List ℕ) → ¬ IsSolution p A (column B) x) → IsRefutingCombination p A (column B) (row y.matrix 0)) →
       IsAnswerTo task.Solve p (A ∷ B ∷ []) (answer.Refutation y)
   refutation_answers q S found y tall modulus matrix tells here one_row width refutes = record {
@@ -113,7 +115,7 @@ module _ (p : ℕ) (A B : Matrix) (ma : IsMatrix p A) (mb : IsMatrix p B) (heigh
   }
 
 -- where a square matrix has a null vector that is not zero, it has no inverse, and what is told is the first row of its kernel basis
-pub singular_answers : (p : ℕ) (A : Matrix) (found : Inverse) (v : ResidueMatrix) → InverseExcludesNull → A.height ≡ A.width → A.height ≤ 1073741824 →
+pub singular_answers : (p : ℕ) (A : Matrix) (found : Inverse) (v : ResidueMatrix) → InverseExcludesNull → A.height ≡ A.width → A.height ≤ LARGEST_INVERTED →
     HasInverseShape p A.width found → (IsPrime p → Inverts p A found) → found ≡ Singular v → IsAnswerTo task.Inverse p (A ∷ []) (answer.Singular v)
 singular_answers p A found v law square narrow shape inverts here =
     let sizes = subst (HasInverseShape p A.width) here shape in record {
@@ -130,7 +132,7 @@ singular_answers p A found v law square narrow shape inverts here =
           );
     }
   where
-    inverse_fits : (A : Matrix) → A.height ≡ A.width → A.height ≤ 1073741824 → misfit task.Inverse (A ∷ []) ≡ None
+    inverse_fits : (A : Matrix) → A.height ≡ A.width → A.height ≤ LARGEST_INVERTED → misfit task.Inverse (A ∷ []) ≡ None
     inverse_fits A square narrow = grind (arith, nat_tests)
 
 -- a zero row that is appended to no rows is the row of its row

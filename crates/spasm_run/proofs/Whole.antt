@@ -5,13 +5,13 @@ use Rattle.sms_text.specs.declared.kind.Kind.{Kind}
 use Rattle.sms_text.specs.Lines.{Line, lines}
 use Rattle.sms_text.specs.Outside.{before, IsSpent}
 use Rattle.sms_text.specs.Text.{Item, Got, Fault, FirstFault, Reads, matrices, read}
-use Rattle.spasm_run.specs.declared.answers.Answer.{Answer}
+use Rattle.spasm_run.specs.declared.answer.Answer.{Answer}
 use Rattle.spasm_run.specs.declared.status.Status.{Status}
 use Rattle.spasm_run.specs.declared.status.Status.TheVariants as status
 use Rattle.spasm_run.specs.declared.words.Command.{Command}
 use Rattle.spasm_run.specs.declared.words.Task.{Task}
 use Rattle.spasm_run.specs.Answers.{misfit, wanted}
-use Rattle.spasm_run.specs.Found.{Finds, Gives}
+use Rattle.spasm_run.specs.Computed.{Finds, Gives}
 use Rattle.spasm_run.specs.Ran.{Ran, HasCause, IsMisfit, Completes}
 use Rattle.spasm_run.specs.Taken.{Says, Taking}
 use Rattle.spasm_run.specs.Words.{Accepted, AreRefused}

@@ -1,6 +1,6 @@
 pub mod Answers
+pub mod Computed
 pub mod Faults
-pub mod Found
 pub mod Line
 pub mod Options
 pub mod Plain

@@ -1,5 +1,5 @@
 -- What was taken from a source, and the matrices that it is read as.
-use Rattle.std.specs.Prelude.{◌≡◌, ◌≤◌, ℕ, List, [], ◌∷◌, Bool, true, Option, Result, Ok, Err}
+use Rattle.std.specs.Prelude.{◌≡◌, ◌<◌, ℕ, List, [], ◌∷◌, Bool, true, Option, Result, Ok, Err}
 use Rattle.residue_words.specs.Matrix.{Matrix}
 use Rattle.sms_text.specs.declared.kind.TextError.{TextError}
 use Rattle.sms_text.specs.Lines.{Line, lines}
@@ -7,6 +7,7 @@ use Rattle.sms_text.specs.Outside.{before, IsSpent}
 use Rattle.sms_text.specs.Reading.{Says as SaysItems}
 use Rattle.sms_text.specs.Text.{Due, Item, Reads, matrices, read}
 use Rattle.sparse_rows.specs.Rows.{ResidueMatrix}
+use Rattle.sparse_rows.specs.declared.rows.TheConstants.{LARGEST_SIZE}
 
 -- these bytes were taken from a source, `ended` says whether it gave its end, and this holds of them
 pub record Taking (told told' : Option (List ℕ)) (P : List ℕ → Bool → Type 0) : Type 0 where
@@ -33,5 +34,5 @@ two_values (Err e) = Err e
 -- what holds of each matrix that was read
 pub record IsRead (p : ℕ) (A : ResidueMatrix) : Type 0 where
   pub modulus : A.modulus ≡ p
-  pub height : A.matrix.height ≤ 2147483647
-  pub width : A.matrix.width ≤ 2147483647
+  pub height : A.matrix.height < LARGEST_SIZE
+  pub width : A.matrix.width < LARGEST_SIZE

@@ -13,13 +13,12 @@ mod tests;
 
 use clap::ArgMatches;
 use clap::error::ErrorKind;
+use residue_words::MODULUS_BOUND;
 use sms_text::capped;
 use std::alloc::{AllocError, Global};
 
-// The largest modulus, and above it a number that is as good as any larger one.
-const LARGEST: u64 = 281_474_976_710_655;
-
-const CAP: u64 = 281_474_976_710_656;
+// The largest number of an option, a modulus. The bound above it is as good as any larger number.
+const LARGEST: u64 = MODULUS_BOUND - 1;
 
 /// What is asked for.
 #[derive(Clone, Copy, Debug, PartialEq, Eq)]
@@ -132,7 +131,7 @@ fn number_in(word: &[u8], low: u64, high: u64) -> Option<u64>
     requires { high ≤ LARGEST }
     ensures { MatchOption result ((n : ℕ) → ¬ IsInRange low high word.now n) (IsInRange low high word.now) }
 {
-    let number = capped(word, CAP)?;
+    let number = capped(word, MODULUS_BOUND)?;
     if number < low || high < number {
         return None;
     }
