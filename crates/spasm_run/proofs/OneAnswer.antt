@@ -10,18 +10,18 @@ use Rattle.sms_text.specs.Written.{text_of}
 use Rattle.sparse_rows.specs.Rows.{transposed}
 use Rattle.spasm_run.specs.declared.words.Task.{Task}
 use Rattle.spasm_run.specs.declared.words.Task.TheVariants as task
-use Rattle.spasm_run.specs.Answers.{InvertsTo, IsOneAnswer, SolvesTo, AnswerOf, column_of, misfit, rank_text, row_of}
+use Rattle.spasm_run.specs.Answers.{InvertsTo, IsOneAnswer, SolvesTo, AnswerOf, as_column, misfit, rank_text, as_row}
 
 -- a system's answer
 one_solution : (p : ℕ) (A : Matrix) (b x y : List ℕ) → 2 ≤ p → SolvesTo p A b x → SolvesTo p A b y → x ≡ y
 one_solution p A b x y two (inl s) (inl t) =
     let same : s.0 ≡ t.0 = solution_unique p A b s.0 t.0 two s.1 t.1 in
-    s.2 ∙ ap (λ v. codes "solution\n" ++ text_of (column_of v)) same ∙ sym t.2
+    s.2 ∙ ap (λ v. codes "solution\n" ++ text_of (as_column v)) same ∙ sym t.2
 one_solution p A b x y two (inl s) (inr t) = absurd (t.1 s.0 s.1.solves)
 one_solution p A b x y two (inr s) (inl t) = absurd (s.1 t.0 t.1.solves)
 one_solution p A b x y two (inr s) (inr t) =
     let same : s.0 ≡ t.0 = refutation_unique p A b s.0 t.0 two s.2 t.2 in
-    s.3 ∙ ap (λ v. codes "no solution\n" ++ text_of (row_of v)) same ∙ sym t.3
+    s.3 ∙ ap (λ v. codes "no solution\n" ++ text_of (as_row v)) same ∙ sym t.3
 
 -- the answer to an inverse
 one_inverse : (p : ℕ) (A : Matrix) (x y : List ℕ) → 2 ≤ p → A.height ≡ A.width → InvertsTo p A x → InvertsTo p A y → x ≡ y
@@ -31,7 +31,7 @@ one_inverse p A x y two square (inl s) (inr t) = absurd (t.1 s.0 s.1)
 one_inverse p A x y two square (inr s) (inl t) = absurd (s.1 t.0 t.1)
 one_inverse p A x y two square (inr s) (inr t) =
     let same : s.0 ≡ t.0 = kernel_unique p A s.0 t.0 two s.2 t.2 in
-    s.4 ∙ ap (λ K. codes "singular\n" ++ text_of (row_of (row K 0))) same ∙ sym t.4
+    s.4 ∙ ap (λ K. codes "singular\n" ++ text_of (as_row (row K 0))) same ∙ sym t.4
 
 one_kernel : (p : ℕ) (A K L : Matrix) (x y : List ℕ) → K ≡ L → x ≡ text_of K → y ≡ text_of L → x ≡ y
 one_kernel p A K L x y same a b = a ∙ ap text_of same ∙ sym b

@@ -34,23 +34,23 @@ abbrev pub rank_text : ℕ → List ℕ
 rank_text r = codes "rank " ++ decimal r ++ 10 ∷ []
 
 -- the matrix of one column, and of one row, with these entries
-abbrev pub column_of : List ℕ → Matrix
-column_of x = matrix_by (length x) 1 (λ i j. slice_index x i)
+abbrev pub as_column : List ℕ → Matrix
+as_column x = matrix_by (length x) 1 (λ i j. slice_index x i)
 
-abbrev pub row_of : List ℕ → Matrix
-row_of y = record { height = 1; width = length y; rows = y ∷ [] }
+abbrev pub as_row : List ℕ → Matrix
+as_row y = record { height = 1; width = length y; rows = y ∷ [] }
 
 -- the reduced solution of A x = b; or, where there is no solution, the refuting combination
 abbrev pub SolvesTo : ℕ → Matrix → List ℕ → List ℕ → Type 0
 SolvesTo p A b text =
-    ((x : List ℕ) × IsReducedSolution p A b x × (text ≡ codes "solution\n" ++ text_of (column_of x)))
-    ⊎ ((y : List ℕ) × ((x : List ℕ) → ¬ IsSolution p A b x) × IsRefutingCombination p A b y × (text ≡ codes "no solution\n" ++ text_of (row_of y)))
+    ((x : List ℕ) × IsReducedSolution p A b x × (text ≡ codes "solution\n" ++ text_of (as_column x)))
+    ⊎ ((y : List ℕ) × ((x : List ℕ) → ¬ IsSolution p A b x) × IsRefutingCombination p A b y × (text ≡ codes "no solution\n" ++ text_of (as_row y)))
 
 -- the inverse of A; or, where there is none, the first row of its kernel basis
 abbrev pub InvertsTo : ℕ → Matrix → List ℕ → Type 0
 InvertsTo p A text =
     ((B : Matrix) × IsInverse p A B × (text ≡ codes "inverse\n" ++ text_of B))
-    ⊎ ((K : Matrix) × ((B : Matrix) → ¬ IsInverse p A B) × IsKernel p A K × (0 < K.height) × (text ≡ codes "singular\n" ++ text_of (row_of (row K 0))))
+    ⊎ ((K : Matrix) × ((B : Matrix) → ¬ IsInverse p A B) × IsKernel p A K × (0 < K.height) × (text ≡ codes "singular\n" ++ text_of (as_row (row K 0))))
 
 -- the text is the answer to the command for these matrices
 abbrev pub AnswerOf : Task → ℕ → List Matrix → List ℕ → Type 0

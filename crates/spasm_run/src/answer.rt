@@ -1,5 +1,5 @@
 // What is answered to a command.
-ghost use Rattle.std.specs.Prelude.{◌≤◌};
+ghost use Rattle.sms_text.specs.Writing.{Writes};
 ghost use Rattle.spasm_run.specs.Answers.{rank_text};
 
 use crate::numbered_text::write_with_number;
@@ -24,14 +24,12 @@ pub(crate) enum Answer {
 }
 
 impl Answer {
-    ghost use Rattle.sms_text.specs.Writing.{Writes};
     ghost use Rattle.spasm_run.specs.Computed.{IsSmall, answer_text};
 
     // Writes the answer. It takes no memory.
     pub(crate) fn write<K: Sink>(&self, out: &mut K) -> Result<(), WriteFault>
         requires { IsSmall self.now }
-        ensures did { Writes result (answer_text self.now) (K.held out.old) (K.held out.new) (K.faults out.old) (K.faults out.new) }
-        ensures count { K.faults out.old ≤ K.faults out.new }
+        ensures { Writes result (answer_text self.now) (K.state out.old) (K.state out.new) }
     {
         match self {
             Answer::Rank(rank) => write_rank(out, *rank),
@@ -46,8 +44,7 @@ impl Answer {
 
 // Writes the answer to the rank of a matrix.
 fn write_rank<K: Sink>(out: &mut K, rank: u64) -> Result<(), WriteFault>
-    ensures did { Writes result (rank_text rank) (K.held out.old) (K.held out.new) (K.faults out.old) (K.faults out.new) }
-    ensures count { K.faults out.old ≤ K.faults out.new }
+    ensures { Writes result (rank_text rank) (K.state out.old) (K.state out.new) }
 {
     write_with_number(out, "rank ", rank)?;
     write_text(out, "\n")

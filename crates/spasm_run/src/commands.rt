@@ -6,8 +6,8 @@ ghost use Rattle.row_space.specs.Solution.{IsRefutingCombination, IsSolution};
 ghost use Rattle.kernel_solve.specs.Columns.{column};
 ghost use Rattle.kernel_solve.specs.Found.{HasShape};
 ghost use Rattle.sparse_rows.specs.declared.rows.TheConstants.{LARGEST_SIZE};
-ghost use Rattle.spasm_run.specs.Answers.{IsOneAnswer, row_of};
-ghost use Rattle.spasm_run.specs.Computed.{Gives, AnswersSystem};
+ghost use Rattle.spasm_run.specs.Answers.{IsOneAnswer, as_row};
+ghost use Rattle.spasm_run.specs.Computed.{AnswersSystem, ComesOf};
 ghost use Rattle.spasm_run.specs.declared.words.Task.TheVariants as task;
 
 #[cfg(test)]
@@ -40,7 +40,7 @@ pub(crate) fn find_rank<R: Threads + Sync>(
 ) -> Result<Answer, Status>
     requires some { 1 ≤ workers }
     requires few { workers ≤ 64 }
-    ensures { Gives task.Rank a.now.modulus (a.now.matrix ∷ []) result }
+    ensures { ComesOf task.Rank a.now.modulus (a.now.matrix ∷ []) result }
 {
     if rounds == 0 {
         return count_pivots(rt, alloc, a, workers);
@@ -58,7 +58,7 @@ fn count_pivots<R: Threads + Sync>(
 ) -> Result<Answer, Status>
     requires some { 1 ≤ workers }
     requires few { workers ≤ 64 }
-    ensures { Gives task.Rank a.now.modulus (a.now.matrix ∷ []) result }
+    ensures { ComesOf task.Rank a.now.modulus (a.now.matrix ∷ []) result }
 {
     row_space::factors_give_rank();
     let _ = a.height();
@@ -76,7 +76,7 @@ pub(crate) fn find_form<R: Threads + Sync>(
     requires some { 1 ≤ workers }
     requires few { workers ≤ 64 }
     requires width { a.now.matrix.width < LARGEST_SIZE }
-    ensures { Gives task.Rref a.now.modulus (a.now.matrix ∷ []) result }
+    ensures { ComesOf task.Rref a.now.modulus (a.now.matrix ∷ []) result }
 {
     let form = Echelon::of(rt, alloc, a, workers)?;
     Ok(Answer::Matrix(form.into_rows()))
@@ -92,7 +92,7 @@ pub(crate) fn find_kernel<R: Threads + Sync>(
     requires some { 1 ≤ workers }
     requires few { workers ≤ 64 }
     requires width { a.now.matrix.width < LARGEST_SIZE }
-    ensures { Gives task.Kernel a.now.modulus (a.now.matrix ∷ []) result }
+    ensures { ComesOf task.Kernel a.now.modulus (a.now.matrix ∷ []) result }
 {
     let form = Echelon::of(rt, alloc, a, workers)?;
     let basis = kernel_solve::kernel(alloc, &form)?;
@@ -109,7 +109,7 @@ pub(crate) fn find_left_kernel<R: Threads + Sync>(
     requires some { 1 ≤ workers }
     requires few { workers ≤ 64 }
     requires height { a.now.matrix.height < LARGEST_SIZE }
-    ensures { Gives task.LeftKernel a.now.modulus (a.now.matrix ∷ []) result }
+    ensures { ComesOf task.LeftKernel a.now.modulus (a.now.matrix ∷ []) result }
 {
     let basis = kernel_solve::left_kernel(rt, alloc, a, workers)?;
     Ok(Answer::Matrix(basis))
@@ -124,7 +124,7 @@ pub(crate) fn find_inverse<R: Threads + Sync>(
 ) -> Result<Answer, Status>
     requires some { 1 ≤ workers }
     requires few { workers ≤ 64 }
-    ensures { Gives task.Inverse a.now.modulus (a.now.matrix ∷ []) result }
+    ensures { ComesOf task.Inverse a.now.modulus (a.now.matrix ∷ []) result }
 {
     row_space::inverse_excludes_null();
     let height = a.height();
@@ -154,7 +154,7 @@ pub(crate) fn find_solution<R: Threads + Sync>(
     requires moduli { a.now.modulus ≡ b.now.modulus }
     requires height { a.now.matrix.height < LARGEST_SIZE }
     requires width { a.now.matrix.width < LARGEST_SIZE }
-    ensures { Gives task.Solve a.now.modulus (a.now.matrix ∷ b.now.matrix ∷ []) result }
+    ensures { ComesOf task.Solve a.now.modulus (a.now.matrix ∷ b.now.matrix ∷ []) result }
 {
     let height = b.height();
     let width = b.width();
@@ -207,7 +207,7 @@ fn refutation<R: Threads + Sync>(
     requires column { b.now.matrix.width ≡ 1 }
     requires height { a.now.matrix.height < LARGEST_SIZE }
     requires width { a.now.matrix.width < LARGEST_SIZE }
-    ensures row { IfOk result (λ y. y.matrix ≡ row_of (row y.matrix 0)) }
+    ensures row { IfOk result (λ y. y.matrix ≡ as_row (row y.matrix 0)) }
     ensures width { IfOk result (λ y. y.matrix.width ≡ a.now.matrix.height) }
     ensures refutes { IfOk result (λ y. IsPrime a.now.modulus → ((x : List ℕ) → ¬ IsSolution a.now.modulus a.now.matrix (column b.now.matrix) x)
         → IsRefutingCombination a.now.modulus a.now.matrix (column b.now.matrix) (row y.matrix 0)) }
@@ -229,7 +229,7 @@ fn refutation<R: Threads + Sync>(
 // A zero row as long as the matrix is high.
 fn zero_row(alloc: Global, a: &Rows) -> Result<Rows, AllocError>
     requires { a.now.matrix.height < LARGEST_SIZE }
-    ensures row { IfOk result (λ y. y.matrix ≡ row_of (row y.matrix 0)) }
+    ensures row { IfOk result (λ y. y.matrix ≡ as_row (row y.matrix 0)) }
     ensures width { IfOk result (λ y. y.matrix.width ≡ a.now.matrix.height) }
 {
     let mut rows = Rows::with_room(alloc, a.modulus(), a.height(), 1, 0)?;

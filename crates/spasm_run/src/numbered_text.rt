@@ -1,5 +1,5 @@
 // Texts with numbers behind them.
-ghost use Rattle.std.specs.Prelude.{◌≤◌, ◌++◌, [], ◌∷◌};
+ghost use Rattle.std.specs.Prelude.{◌++◌, [], ◌∷◌};
 ghost use Rattle.std.specs.Fmt.{decimal};
 ghost use Rattle.sms_text.specs.Writing.{Writes};
 
@@ -13,8 +13,8 @@ pub(crate) fn write_two_numbers<K: Sink>(
     second: &str,
     b: u64,
 ) -> Result<(), WriteFault>
-    ensures did { Writes result (((first.now ++ decimal a) ++ (second.now ++ decimal b)) ++ 10 ∷ []) (K.held out.old) (K.held out.new) (K.faults out.old) (K.faults out.new) }
-    ensures count { K.faults out.old ≤ K.faults out.new }
+    ensures { Writes result (((first.now ++ decimal a) ++ (second.now ++ decimal b)) ++ 10 ∷ [])
+        (K.state out.old) (K.state out.new) }
 {
     write_with_number(out, first, a)?;
     write_with_number(out, second, b)?;
@@ -23,8 +23,7 @@ pub(crate) fn write_two_numbers<K: Sink>(
 
 // Writes a text, and a number behind it.
 pub(crate) fn write_with_number<K: Sink>(out: &mut K, text: &str, n: u64) -> Result<(), WriteFault>
-    ensures did { Writes result (text.now ++ decimal n) (K.held out.old) (K.held out.new) (K.faults out.old) (K.faults out.new) }
-    ensures count { K.faults out.old ≤ K.faults out.new }
+    ensures { Writes result (text.now ++ decimal n) (K.state out.old) (K.state out.new) }
 {
     write_text(out, text)?;
     write_number(out, n)

@@ -4,7 +4,7 @@ ghost use Rattle.residue_words.specs.Matrix.{IsMatrix, IsVector, entry, row};
 ghost use Rattle.residue_words.specs.Residues.{IsPrime};
 ghost use Rattle.row_space.specs.Echelon.{HasRank};
 ghost use Rattle.row_space.specs.Rows.{DiffersBy, HasSteps};
-ghost use Rattle.spasm_run.specs.Plain.{AreKept, Reduces, StartsAt, lists, plain_matrix};
+ghost use Rattle.spasm_run.specs.Plain.{AreKept, PassesRow, StartsAt, lists, plain_matrix, steps};
 
 #[cfg(test)]
 mod tests;
@@ -108,9 +108,10 @@ fn reduce_and_scale(
     requires kept { AreKept p.now (length row.old) (lists kept.now) leads.now }
     ensures vector { IsVector p.now (length row.old) row.new }
     ensures lead { IfSome result (λ j. j < length row.old) }
-    ensures reduced { let n = length row.old in let K = lists kept.now in MatchOption result
-        (Reduces p.now n row.old K leads.now K leads.now)
-        (λ j. Reduces p.now n row.old K leads.now (K ++ row.new ∷ []) (leads.now ++ j ∷ [])) }
+    ensures reduced { MatchOption result
+        (PassesRow p.now (length row.old) row.old (steps kept.now leads.now) (steps kept.now leads.now))
+        (λ j. PassesRow p.now (length row.old) row.old (steps kept.now leads.now)
+        (record { kept = lists kept.now ++ row.new ∷ []; leads = leads.now ++ j ∷ [] })) }
 {
     reduce(p, row, kept, leads);
     let lead = first_nonzero(row)?;
@@ -129,8 +130,8 @@ fn keep(
     requires row { IsVector p.now (length row.items) row.items }
     requires kept { AreKept p.now (length row.items) (lists kept.old.items) leads.old.items }
     ensures kept { IfOk result (λ _. AreKept p.now (length row.items) (lists kept.new.items) leads.new.items) }
-    ensures reduced { IfOk result (λ _. Reduces p.now (length row.items) row.items
-        (lists kept.old.items) leads.old.items (lists kept.new.items) leads.new.items) }
+    ensures reduced { IfOk result (λ _. PassesRow p.now (length row.items) row.items
+        (steps kept.old.items leads.old.items) (steps kept.new.items leads.new.items)) }
 {
     if let Some(lead) = reduce_and_scale(p, &mut row, kept, leads) {
         kept.push(row)?;

@@ -1,7 +1,8 @@
 // The matrices of an input.
-ghost use Rattle.std.specs.Prelude.{◌≡◌, ◌≤◌, [], ◌∷◌, IfOk};
+ghost use Rattle.std.specs.Prelude.{◌≤◌, [], ◌∷◌, IfOk};
 ghost use Rattle.sms_text.specs.Text.{Header};
-ghost use Rattle.spasm_run.specs.Taken.{IsRead, Says, Taking, one_value, two_values};
+ghost use Rattle.sms_text.specs.declared.reader.TheConstants.{LARGEST_INPUT};
+ghost use Rattle.spasm_run.specs.Input.{IsOfText, WasRead, one_value, two_values};
 
 use residue_words::Modulus;
 use sms_text::{Reader, Source, TextError, read_rows};
@@ -15,10 +16,10 @@ pub(crate) fn read_one<S: Source>(
     source: &mut S,
     limit: u64,
 ) -> Result<Rows, TextError>
-    requires { limit ≤ 1099511627776 }
-    ensures did { Taking (S.told source.old) (S.told source.new) (Says p.now limit (Header ∷ []) (S.faults source.old) (S.faults source.new) (one_value result)) }
-    ensures matrix { IfOk result (IsRead p.now) }
-    ensures count { S.faults source.old ≤ S.faults source.new }
+    requires { limit ≤ LARGEST_INPUT }
+    ensures did { WasRead (record { modulus = p.now; limit = limit; due = Header ∷ [] }) (one_value result)
+        (S.state source.old) (S.state source.new) }
+    ensures matrix { IfOk result (IsOfText p.now) }
 {
     let Ok(mut reader) = Reader::new(alloc, limit) else {
         return Err(TextError::Memory);
@@ -33,11 +34,11 @@ pub(crate) fn read_two<S: Source>(
     source: &mut S,
     limit: u64,
 ) -> Result<(Rows, Rows), TextError>
-    requires { limit ≤ 1099511627776 }
-    ensures did { Taking (S.told source.old) (S.told source.new) (Says p.now limit (Header ∷ Header ∷ []) (S.faults source.old) (S.faults source.new) (two_values result)) }
-    ensures first { IfOk result (λ both. IsRead p.now both.0) }
-    ensures second { IfOk result (λ both. IsRead p.now both.1) }
-    ensures count { S.faults source.old ≤ S.faults source.new }
+    requires { limit ≤ LARGEST_INPUT }
+    ensures did { WasRead (record { modulus = p.now; limit = limit; due = Header ∷ Header ∷ [] }) (two_values result)
+        (S.state source.old) (S.state source.new) }
+    ensures first { IfOk result (λ both. IsOfText p.now both.0) }
+    ensures second { IfOk result (λ both. IsOfText p.now both.1) }
 {
     let Ok(mut reader) = Reader::new(alloc, limit) else {
         return Err(TextError::Memory);

@@ -1,12 +1,12 @@
 // A run, from words and bytes to an answer.
-ghost use Rattle.std.specs.Prelude.{◌≡◌, ◌<◌, ◌≤◌, ℕ, List, IfOk};
+ghost use Rattle.std.specs.Prelude.{◌≡◌, ◌<◌, ◌≤◌, ℕ, List, true, false, IfOk};
 ghost use Rattle.residue_words.specs.declared.modulus.TheConstants.{MODULUS_BOUND};
-ghost use Rattle.spasm_run.specs.Words.{Accepted, AreRefused};
-ghost use Rattle.spasm_run.specs.Faults.{SaysWhy};
-ghost use Rattle.spasm_run.specs.Computed.{Finds, IsSmall};
+ghost use Rattle.sms_text.specs.declared.reader.TheConstants.{LARGEST_INPUT};
+ghost use Rattle.spasm_run.specs.Computed.{IsSmall, WasFound};
 ghost use Rattle.spasm_run.specs.Options.{bytes_of};
-ghost use Rattle.spasm_run.specs.Ran.{Completes, Ran};
-ghost use Rattle.spasm_run.specs.Taken.{Taking};
+ghost use Rattle.spasm_run.specs.Ran.{Ran};
+ghost use Rattle.spasm_run.specs.Status.{SaysWhy, is_answered, is_written};
+ghost use Rattle.spasm_run.specs.Words.{Accepted, AreRefused};
 
 #[cfg(test)]
 mod tests;
@@ -20,18 +20,15 @@ use crate::search_gate::Gate;
 use crate::status::Status;
 use crate::words::{Command, Task, read_words};
 use residue_words::Modulus;
-use sms_text::{Sink, Source};
+use sms_text::{LARGEST_INPUT, Sink, Source};
 use std::alloc::Global;
 use std::thread::Threads;
-
-// The most bytes of an input, 2^40.
-const LIMIT: u64 = 1_099_511_627_776;
 
 /// Runs the command that the words ask for: reads its matrices from the source, and writes its answer to `out`, all at once and only if all
 /// went well. Where it did not, one line that says why goes to `err`.
 ///
-/// Words that aren't accepted are refused before anything is read. A source is read up to the last line that is wanted, in at most 2^40
-/// bytes, and the first faulty line is named. Memory is wanted for the entries, at most 40 bytes each while they are read, for the rows, and
+/// Words that aren't accepted are refused before anything is read. A source is read up to the last line that is wanted, in at most
+/// `LARGEST_INPUT` bytes, and the first faulty line is named. Memory is wanted for the entries, at most 40 bytes each while they are read, for the rows, and
 /// for the echelon forms and what is made of them; none for writing.
 /// `rt` starts the threads of a command's workers, and `gate` serves commands that search.
 pub fn run<'a, R: Threads + Sync, S: Source, K: Sink, E: Sink, G: Gate>(
@@ -43,18 +40,23 @@ pub fn run<'a, R: Threads + Sync, S: Source, K: Sink, E: Sink, G: Gate>(
     err: &mut E,
     gate: &G,
 ) -> Status
-    ensures ran { Ran (bytes_of words.now) 1099511627776 (S.told source.old) (S.told source.new) (S.faults source.old) (S.faults source.new) (K.held out.old) (K.held out.new) (K.faults out.old) (K.faults out.new) result }
-    ensures err { SaysWhy result (E.held err.old) (E.held err.new) (E.faults err.old) (E.faults err.new) }
-    ensures complete { Completes (bytes_of words.now) 1099511627776 (S.told source.old) (S.faults source.old) (S.faults source.new) (K.faults out.old) (K.faults out.new) result }
+    ensures ran { Ran (record {
+      words = bytes_of words.now;
+      limit = LARGEST_INPUT;
+      source = S.state source.old;
+      source_after = S.state source.new;
+      out = K.state out.old;
+      out_after = K.state out.new;
+    }) result }
+    ensures err { SaysWhy result (E.state err.old) (E.state err.new) }
     ensures unread { AreRefused (bytes_of words.now) → source.new ≡ source.old }
-    ensures source_count { S.faults source.old ≤ S.faults source.new }
-    ensures out_count { K.faults out.old ≤ K.faults out.new }
-    ensures err_count { E.faults err.old ≤ E.faults err.new }
+    ensures unwritten { is_written result ≡ false → out.new ≡ out.old }
+    ensures silent { is_answered result ≡ true → err.new ≡ err.old }
 {
-    run_within(rt, alloc, words, source, out, err, gate, LIMIT)
+    run_within(rt, alloc, words, source, out, err, gate, LARGEST_INPUT)
 }
 
-/// The same for an input of at most `limit` bytes, a limit of at most 2^40.
+/// The same for an input of at most `limit` bytes, a limit of at most `LARGEST_INPUT`.
 pub fn run_within<'a, R: Threads + Sync, S: Source, K: Sink, E: Sink, G: Gate>(
     rt: &R,
     alloc: Global,
@@ -65,14 +67,19 @@ pub fn run_within<'a, R: Threads + Sync, S: Source, K: Sink, E: Sink, G: Gate>(
     _gate: &G,
     limit: u64,
 ) -> Status
-    requires { limit ≤ 1099511627776 }
-    ensures ran { Ran (bytes_of words.now) limit (S.told source.old) (S.told source.new) (S.faults source.old) (S.faults source.new) (K.held out.old) (K.held out.new) (K.faults out.old) (K.faults out.new) result }
-    ensures err { SaysWhy result (E.held err.old) (E.held err.new) (E.faults err.old) (E.faults err.new) }
-    ensures complete { Completes (bytes_of words.now) limit (S.told source.old) (S.faults source.old) (S.faults source.new) (K.faults out.old) (K.faults out.new) result }
+    requires { limit ≤ LARGEST_INPUT }
+    ensures ran { Ran (record {
+      words = bytes_of words.now;
+      limit = limit;
+      source = S.state source.old;
+      source_after = S.state source.new;
+      out = K.state out.old;
+      out_after = K.state out.new;
+    }) result }
+    ensures err { SaysWhy result (E.state err.old) (E.state err.new) }
     ensures unread { AreRefused (bytes_of words.now) → source.new ≡ source.old }
-    ensures source_count { S.faults source.old ≤ S.faults source.new }
-    ensures out_count { K.faults out.old ≤ K.faults out.new }
-    ensures err_count { E.faults err.old ≤ E.faults err.new }
+    ensures unwritten { is_written result ≡ false → out.new ≡ out.old }
+    ensures silent { is_answered result ≡ true → err.new ≡ err.old }
 {
     let status = answer(rt, alloc, words, source, out, limit);
     status.tell(err);
@@ -88,11 +95,17 @@ fn answer<'a, R: Threads + Sync, S: Source, K: Sink>(
     out: &mut K,
     limit: u64,
 ) -> Status
-    requires { limit ≤ 1099511627776 }
-    ensures ran { Ran (bytes_of words.now) limit (S.told source.old) (S.told source.new) (S.faults source.old) (S.faults source.new) (K.held out.old) (K.held out.new) (K.faults out.old) (K.faults out.new) result }
+    requires { limit ≤ LARGEST_INPUT }
+    ensures ran { Ran (record {
+      words = bytes_of words.now;
+      limit = limit;
+      source = S.state source.old;
+      source_after = S.state source.new;
+      out = K.state out.old;
+      out_after = K.state out.new;
+    }) result }
     ensures unread { AreRefused (bytes_of words.now) → source.new ≡ source.old }
-    ensures source_count { S.faults source.old ≤ S.faults source.new }
-    ensures out_count { K.faults out.old ≤ K.faults out.new }
+    ensures unwritten { is_written result ≡ false → out.new ≡ out.old }
 {
     match find(rt, alloc, words, source, limit) {
         Ok(answer) => match answer.write(out) {
@@ -111,11 +124,10 @@ fn find<'a, R: Threads + Sync, S: Source>(
     source: &mut S,
     limit: u64,
 ) -> Result<Answer, Status>
-    requires { limit ≤ 1099511627776 }
-    ensures found { Taking (S.told source.old) (S.told source.new) (Finds (bytes_of words.now) limit (S.faults source.old) (S.faults source.new) result) }
+    requires { limit ≤ LARGEST_INPUT }
+    ensures found { WasFound (bytes_of words.now) limit result (S.state source.old) (S.state source.new) }
     ensures unread { AreRefused (bytes_of words.now) → source.new ≡ source.old }
     ensures small { IfOk result IsSmall }
-    ensures count { S.faults source.old ≤ S.faults source.new }
 {
     match read_words(alloc, words) {
         Ok(Some(command)) => find_for(rt, alloc, command, source, limit),
@@ -132,14 +144,14 @@ fn find_for<R: Threads + Sync, S: Source>(
     source: &mut S,
     limit: u64,
 ) -> Result<Answer, Status>
-    requires limit { limit ≤ 1099511627776 }
+    requires limit { limit ≤ LARGEST_INPUT }
     requires two_or_more { 2 ≤ command.modulus }
     requires in_range { command.modulus < MODULUS_BOUND }
     requires some { 1 ≤ command.workers }
     requires few { command.workers ≤ 64 }
-    ensures found { (words : List (List ℕ)) → Accepted words command → Taking (S.told source.old) (S.told source.new) (Finds words limit (S.faults source.old) (S.faults source.new) result) }
+    ensures found { (words : List (List ℕ)) → Accepted words command
+        → WasFound words limit result (S.state source.old) (S.state source.new) }
     ensures small { IfOk result IsSmall }
-    ensures count { S.faults source.old ≤ S.faults source.new }
 {
     let p = Modulus::new(command.modulus);
     let workers = command.workers;

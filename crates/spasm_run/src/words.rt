@@ -5,7 +5,7 @@ ghost use Rattle.std.specs.Str.{bytes_eq};
 ghost use Rattle.clap.specs.Words.{first_value, found_of, subcommand_rows_of};
 ghost use Rattle.sms_text.specs.Numbers.{is_number, value};
 ghost use Rattle.spasm_run.specs.Words.{IsInRange};
-ghost use Rattle.spasm_run.specs.Options.{AcceptedIsPlain, IsCommandOf, IsNumberOf, IsOneCommand, AreTaken, Says, bytes_of};
+ghost use Rattle.spasm_run.specs.Options.{AcceptedIsPlain, IsCommandOf, IsNumberOf, IsOneCommand, AreTaken, AsksFor, bytes_of};
 
 pub mod line;
 #[cfg(test)]
@@ -100,7 +100,7 @@ fn matches_of<'a>(alloc: Global, words: &'a [&'a str]) -> Result<Option<ArgMatch
 
 // The command that the matches give, where each number is in its range.
 fn command_of(matches: &ArgMatches<'_>) -> Option<Command>
-    ensures { MatchOption result ((c : Command) → ¬ Says (subcommand_rows_of matches.now) c) (Says (subcommand_rows_of matches.now)) }
+    ensures { MatchOption result ((c : Command) → ¬ AsksFor (subcommand_rows_of matches.now) c) (AsksFor (subcommand_rows_of matches.now)) }
 {
     let (name, options) = matches.subcommand()?;
     let task = line::task_of(name)?;

@@ -1,15 +1,17 @@
 // Runs on inputs whose answers are known from outside.
 ghost use Rattle.std.specs.Prelude.{◌<◌, ◌≤◌};
+ghost use Rattle.sms_text.specs.declared.reader.TheConstants.{LARGEST_INPUT};
 
-use crate::search_gate::Open;
 use crate::plain_elimination::{plain_rows, rank_of};
-use crate::status::Status;
 use crate::running::{run, run_within};
+use crate::search_gate::Open;
+use crate::status::Status;
 use dense_finish::finish;
 use echelon_form::Echelon;
-use residue_words::Modulus;
+use residue_words::{MODULUS_BOUND, Modulus};
 use sms_text::{
-    Kind, MemorySink, MemorySource, Pulled, Reader, Source, SteadySink, SteadySource, read_rows,
+    Kind, LARGEST_INPUT, MemorySink, MemorySource, Pulled, Reader, Source, SteadySink,
+    SteadySource, read_rows,
 };
 use sparse_rows::Rows;
 use std::alloc::{AllocError, Global};
@@ -19,8 +21,6 @@ use std::thread::Threads;
 
 // The third row is the sum of the first two.
 pub const X: &str = "3 3 M\n1 1 2\n1 2 4\n1 3 1\n2 1 1\n2 2 2\n3 1 3\n3 2 6\n3 3 1\n0 0 0\n";
-
-pub const LIMIT: u64 = 1_099_511_627_776;
 
 // A matrix that has an inverse modulo 7.
 const Y: &str = "3 3 M\n1 1 1\n2 1 1\n2 2 1\n2 3 1\n3 1 1\n3 2 1\n3 3 2\n0 0 0\n";
@@ -62,7 +62,7 @@ pub struct Streams {
 
 // Streams that never fail.
 pub const CALM: Streams = Streams {
-    limit: LIMIT,
+    limit: LARGEST_INPUT,
     piece: 64,
     pull: 0,
     room: 256,
@@ -89,7 +89,7 @@ pub fn run_on<'a, R: Threads + Sync>(
     text: &[u8],
     streams: &Streams,
 ) -> Result<Outcome, AllocError>
-    requires limit { streams.now.limit ≤ 1099511627776 }
+    requires limit { streams.now.limit ≤ LARGEST_INPUT }
     requires piece { 0 < streams.now.piece }
     requires put_piece { 0 < streams.now.put_piece }
 {
@@ -123,32 +123,44 @@ pub fn run_on<'a, R: Threads + Sync>(
 // The matrix that a text stands for.
 pub fn rows_of(alloc: Global, modulus: &Modulus, text: &[u8]) -> Result<Rows, Fail> {
     let mut source = SteadySource::new(Vec::from_slice(alloc, text)?, 64);
-    let mut reader = Reader::new(alloc, LIMIT)?;
+    let mut reader = Reader::new(alloc, LARGEST_INPUT)?;
     match read_rows(&mut reader, alloc, &mut source, modulus) {
         Ok(rows) => Ok(rows),
         Err(_) => Err(Fail::new("not read")),
     }
 }
 
-// A run by these words on this text ends so, holds this output and tells this.
+// A run that is known: its words, its input and its streams; how it ends, what its output holds then, and what its error stream tells.
+struct Trial<'a> {
+    words: &'a [&'a str],
+    text: &'a [u8],
+    streams: Streams,
+    status: Status,
+    out: &'a [u8],
+    told: &'a [u8],
+}
+
+// Whether a run came to what is known of it.
+fn ends_so(ran: &Outcome, trial: &Trial<'_>) -> bool {
+    ran.status == trial.status && ran.out.content() == trial.out && ran.err.content() == trial.told
+}
+
 fn check<'a, R: Threads + Sync + Abort>(
     rt: &R,
     alloc: Global,
-    words: &'a [&'a str],
-    text: &[u8],
-    streams: &Streams,
-    status: Status,
-    out: &[u8],
-    told: &[u8],
+    trial: &'a Trial<'a>,
 ) -> Result<(), Fail>
-    requires limit { streams.now.limit ≤ 1099511627776 }
-    requires piece { 0 < streams.now.piece }
-    requires put_piece { 0 < streams.now.put_piece }
+    requires limit { trial.now.streams.limit ≤ LARGEST_INPUT }
+    requires piece { 0 < trial.now.streams.piece }
+    requires put_piece { 0 < trial.now.streams.put_piece }
 {
-    let ran = run_on(rt, alloc, words, text, streams)?;
-    assert_eq!(rt; ran.status, status, "{words:?} at {text:?}");
-    assert_eq!(rt; ran.out.content(), out, "{words:?} at {text:?}");
-    assert_eq!(rt; ran.err.content(), told, "{words:?} at {text:?}");
+    let ran = run_on(rt, alloc, trial.words, trial.text, &trial.streams)?;
+    assert!(rt;
+        ends_so(&ran, trial),
+        "{:?} at {:?}",
+        trial.words,
+        trial.text
+    );
     Ok(())
 }
 
@@ -161,97 +173,89 @@ const WAYS: [&[&str]; 5] = [
     &["--rounds", "0", "--workers", "64"],
 ];
 
-// A run of this command modulo p answers so to this text, in each way.
-fn check_answer<'a, R: Threads + Sync + Abort>(
+// Runs of these commands, modulo these numbers and on these texts, answer so in each way.
+fn check_answers<R: Threads + Sync + Abort>(
     rt: &R,
     alloc: Global,
-    command: &'a str,
-    p: &'a str,
-    text: &str,
-    want: &str,
+    table: &[(&str, &str, &str, &str)],
 ) -> Result<(), Fail> {
-    for way in WAYS {
-        let mut words = Vec::from_slice(alloc, &[command, "--modulus", p])?;
-        words.extend_from_slice(way)?;
-        check(
-            rt,
-            alloc,
-            &words,
-            text.as_bytes(),
-            &CALM,
-            Status::Done,
-            want.as_bytes(),
-            b"",
-        )?;
-    }
-    Ok(())
-}
-
-// Moduli and texts, with what is answered.
-const RANKS: &[(&str, &str, &str)] = &[
-    ("7", X, "rank 2\n"),
-    ("7", Y, "rank 3\n"),
-    ("4294967311", X, "rank 2\n"),
-    ("7", "2 2 M\n1 1 14\n0 0 0\n", "rank 0\n"),
-    ("7", "1 1 M\n1 1 3\n1 1 4\n0 0 0\n", "rank 0\n"),
-    (
-        "2",
-        "2 2 M\n1 1 1\n1 2 1\n2 1 1\n2 2 1\n0 0 0\n",
-        "rank 1\n",
-    ),
-    ("7", "1 1 M\n1 1 1\n0 0 0\nanything\n\x00", "rank 1\n"),
-    ("7", "1 1 M\n1 1 0/5\n0 0 0\n", "rank 0\n"),
-    ("7", "1 1 M\n0 0 -00\n0 0 0\n", "rank 0\n"),
-];
-
-#[test]
-fn ranks_are_as_known(rt: HostRuntime) -> Result<(), Fail> {
-    for (p, text, want) in RANKS {
-        check_answer(&rt, rt.alloc(), "rank", p, text, want)?;
-    }
-    Ok(())
-}
-
-const FORMS: &[(&str, &str, &str)] = &[
-    ("7", X, "2 3 M\n1 1 1\n1 2 2\n2 3 1\n0 0 0\n"),
-    ("7", "0 5 M\n0 0 0\n", "0 5 M\n0 0 0\n"),
-    (
-        "2147483647",
-        "1 1 M\n1 1 -1\n0 0 0\n",
-        "1 1 M\n1 1 1\n0 0 0\n",
-    ),
-    (
-        "7",
-        "1 2 M\n1 1 100000000000000000000000000000000000000000000000000000000000\n1 2 1\n0 0 0\n",
-        "1 2 M\n1 1 1\n1 2 3\n0 0 0\n",
-    ),
-    (
-        "7",
-        "% made by hand\r\n\r\n2 2 R\r\n2 2 5\r\n# middle\r\n1 1 3\r\n0 0 0\r\n",
-        "2 2 M\n1 1 1\n2 2 1\n0 0 0\n",
-    ),
-    (
-        "4294967311",
-        "1 2 M\n1 1 2\n1 2 1\n0 0 0\n",
-        "1 2 M\n1 1 1\n1 2 2147483656\n0 0 0\n",
-    ),
-    (
-        "7",
-        "1 2 M\n1 1 1/2\n1 2 -3/4\n0 0 0\n",
-        "1 2 M\n1 1 1\n1 2 2\n0 0 0\n",
-    ),
-    ("7", "5 0 M\n0 0 0\n", "0 0 M\n0 0 0\n"),
-];
-
-#[test]
-fn forms_are_as_known(rt: HostRuntime) -> Result<(), Fail> {
-    for (p, text, want) in FORMS {
-        check_answer(&rt, rt.alloc(), "rref", p, text, want)?;
+    for (command, p, text, want) in table {
+        for way in WAYS {
+            let mut words = Vec::from_slice(alloc, &[*command, "--modulus", *p])?;
+            words.extend_from_slice(way)?;
+            let trial = Trial {
+                words: &words,
+                text: text.as_bytes(),
+                streams: CALM,
+                status: Status::Done,
+                out: want.as_bytes(),
+                told: b"",
+            };
+            check(rt, alloc, &trial)?;
+        }
     }
     Ok(())
 }
 
 // Commands with moduli and texts, and what is answered.
+const RANKS: &[(&str, &str, &str, &str)] = &[
+    ("rank", "7", X, "rank 2\n"),
+    ("rank", "7", Y, "rank 3\n"),
+    ("rank", "4294967311", X, "rank 2\n"),
+    ("rank", "7", "2 2 M\n1 1 14\n0 0 0\n", "rank 0\n"),
+    ("rank", "7", "1 1 M\n1 1 3\n1 1 4\n0 0 0\n", "rank 0\n"),
+    (
+        "rank",
+        "2",
+        "2 2 M\n1 1 1\n1 2 1\n2 1 1\n2 2 1\n0 0 0\n",
+        "rank 1\n",
+    ),
+    (
+        "rank",
+        "7",
+        "1 1 M\n1 1 1\n0 0 0\nanything\n\x00",
+        "rank 1\n",
+    ),
+    ("rank", "7", "1 1 M\n1 1 0/5\n0 0 0\n", "rank 0\n"),
+    ("rank", "7", "1 1 M\n0 0 -00\n0 0 0\n", "rank 0\n"),
+];
+
+const FORMS: &[(&str, &str, &str, &str)] = &[
+    ("rref", "7", X, "2 3 M\n1 1 1\n1 2 2\n2 3 1\n0 0 0\n"),
+    ("rref", "7", "0 5 M\n0 0 0\n", "0 5 M\n0 0 0\n"),
+    (
+        "rref",
+        "2147483647",
+        "1 1 M\n1 1 -1\n0 0 0\n",
+        "1 1 M\n1 1 1\n0 0 0\n",
+    ),
+    (
+        "rref",
+        "7",
+        "1 2 M\n1 1 100000000000000000000000000000000000000000000000000000000000\n1 2 1\n0 0 0\n",
+        "1 2 M\n1 1 1\n1 2 3\n0 0 0\n",
+    ),
+    (
+        "rref",
+        "7",
+        "% made by hand\r\n\r\n2 2 R\r\n2 2 5\r\n# middle\r\n1 1 3\r\n0 0 0\r\n",
+        "2 2 M\n1 1 1\n2 2 1\n0 0 0\n",
+    ),
+    (
+        "rref",
+        "4294967311",
+        "1 2 M\n1 1 2\n1 2 1\n0 0 0\n",
+        "1 2 M\n1 1 1\n1 2 2147483656\n0 0 0\n",
+    ),
+    (
+        "rref",
+        "7",
+        "1 2 M\n1 1 1/2\n1 2 -3/4\n0 0 0\n",
+        "1 2 M\n1 1 1\n1 2 2\n0 0 0\n",
+    ),
+    ("rref", "7", "5 0 M\n0 0 0\n", "0 0 M\n0 0 0\n"),
+];
+
 const ANSWERS: &[(&str, &str, &str, &str)] = &[
     ("kernel", "7", X, "1 3 M\n1 1 5\n1 2 1\n0 0 0\n"),
     ("kernel", "7", Y, "0 3 M\n0 0 0\n"),
@@ -307,9 +311,9 @@ const ANSWERS: &[(&str, &str, &str, &str)] = &[
 ];
 
 #[test]
-fn kernels_solutions_and_inverses_are_as_known(rt: HostRuntime) -> Result<(), Fail> {
-    for (command, p, text, want) in ANSWERS {
-        check_answer(&rt, rt.alloc(), command, p, text, want)?;
+fn answers_are_as_known(rt: HostRuntime) -> Result<(), Fail> {
+    for table in [RANKS, FORMS, ANSWERS] {
+        check_answers(&rt, rt.alloc(), table)?;
     }
     Ok(())
 }
@@ -332,10 +336,7 @@ const LARGE: &[(&str, &str, &str, &str)] = &[
 
 #[test]
 fn large_matrices_are_as_known(rt: HostRuntime) -> Result<(), Fail> {
-    for (command, p, text, want) in LARGE {
-        check_answer(&rt, rt.alloc(), command, p, text, want)?;
-    }
-    Ok(())
+    check_answers(&rt, rt.alloc(), LARGE)
 }
 
 // Commands with texts that they refuse modulo 7, and how.
@@ -378,158 +379,470 @@ const MISFITS: &[(&str, &str, Status, &str)] = &[
     ),
 ];
 
+// Texts with the first fault that a rank of them meets, and what is told of it.
+const FAULTS: &[(&str, &str, Status, &str)] = &[
+    (
+        "rank",
+        "2 2 M\n1 1 1\n1 2 1\n2 2 1\n",
+        Status::BadText {
+            line: 5,
+            kind: Kind::NoEnd,
+        },
+        "error 3 line 5 kind 7\n",
+    ),
+    (
+        "rank",
+        "1 1 M\n0 0 7\n0 0 0\n",
+        Status::BadText {
+            line: 2,
+            kind: Kind::Row,
+        },
+        "error 3 line 2 kind 4\n",
+    ),
+    (
+        "rank",
+        "",
+        Status::BadText {
+            line: 1,
+            kind: Kind::NoHeader,
+        },
+        "error 3 line 1 kind 6\n",
+    ),
+    (
+        "rank",
+        "% only\n",
+        Status::BadText {
+            line: 2,
+            kind: Kind::NoHeader,
+        },
+        "error 3 line 2 kind 6\n",
+    ),
+    (
+        "rank",
+        "1 1\n",
+        Status::BadText {
+            line: 1,
+            kind: Kind::Words,
+        },
+        "error 3 line 1 kind 1\n",
+    ),
+    (
+        "rank",
+        "1 1 MM\n",
+        Status::BadText {
+            line: 1,
+            kind: Kind::Words,
+        },
+        "error 3 line 1 kind 1\n",
+    ),
+    (
+        "rank",
+        "+1 1 M\n",
+        Status::BadText {
+            line: 1,
+            kind: Kind::Number,
+        },
+        "error 3 line 1 kind 2\n",
+    ),
+    (
+        "rank",
+        "2147483648 1 M\n",
+        Status::BadText {
+            line: 1,
+            kind: Kind::Size,
+        },
+        "error 3 line 1 kind 3\n",
+    ),
+    (
+        "rank",
+        "2 2 M\n3 1 1\n",
+        Status::BadText {
+            line: 2,
+            kind: Kind::Row,
+        },
+        "error 3 line 2 kind 4\n",
+    ),
+    (
+        "rank",
+        "2 2 M\n1 3 1\n",
+        Status::BadText {
+            line: 2,
+            kind: Kind::Column,
+        },
+        "error 3 line 2 kind 5\n",
+    ),
+    (
+        "rank",
+        "2 2 M\n99999999999999999999 1 1\n",
+        Status::BadText {
+            line: 2,
+            kind: Kind::Row,
+        },
+        "error 3 line 2 kind 4\n",
+    ),
+    (
+        "rank",
+        "1 1 M\n1 1 3/7\n",
+        Status::BadText {
+            line: 2,
+            kind: Kind::Divisor,
+        },
+        "error 3 line 2 kind 10\n",
+    ),
+    (
+        "rank",
+        "1 1 M\n1 1 0/0\n",
+        Status::BadText {
+            line: 2,
+            kind: Kind::Divisor,
+        },
+        "error 3 line 2 kind 10\n",
+    ),
+    (
+        "rank",
+        "1 1 M\n1 1 1/\n",
+        Status::BadText {
+            line: 2,
+            kind: Kind::Number,
+        },
+        "error 3 line 2 kind 2\n",
+    ),
+    (
+        "rank",
+        "1 1 M\n1 1 /2\n",
+        Status::BadText {
+            line: 2,
+            kind: Kind::Number,
+        },
+        "error 3 line 2 kind 2\n",
+    ),
+    (
+        "rank",
+        "1 1 M\n1 1 1/-2\n",
+        Status::BadText {
+            line: 2,
+            kind: Kind::Number,
+        },
+        "error 3 line 2 kind 2\n",
+    ),
+    (
+        "rank",
+        "1 1 M\n0 0 0/1\n",
+        Status::BadText {
+            line: 2,
+            kind: Kind::Row,
+        },
+        "error 3 line 2 kind 4\n",
+    ),
+    (
+        "rank",
+        "1 1 M\n2 1 1/7\n",
+        Status::BadText {
+            line: 2,
+            kind: Kind::Row,
+        },
+        "error 3 line 2 kind 4\n",
+    ),
+    (
+        "rank",
+        "3 3 M\n1 1 2\n0 0",
+        Status::BadText {
+            line: 3,
+            kind: Kind::Words,
+        },
+        "error 3 line 3 kind 1\n",
+    ),
+];
+
 // Nothing is put to the output, not even where its first put would fail.
 #[test]
-fn second_texts_and_shapes_that_are_not_wanted_are_refused(rt: HostRuntime) -> Result<(), Fail> {
-    for (command, text, status, told) in MISFITS {
-        let words = [command, "--modulus", "7"];
-        for put in 0..2 {
-            let streams = Streams { put, ..CALM };
-            check(
-                &rt,
-                rt.alloc(),
-                &words,
-                text.as_bytes(),
-                &streams,
-                *status,
-                b"",
-                told.as_bytes(),
-            )?;
+fn faults_and_shapes_that_are_not_wanted_are_refused(rt: HostRuntime) -> Result<(), Fail> {
+    for table in [MISFITS, FAULTS] {
+        for (command, text, status, told) in table {
+            for put in 0..2 {
+                let trial = Trial {
+                    words: &[*command, "--modulus", "7"],
+                    text: text.as_bytes(),
+                    streams: Streams { put, ..CALM },
+                    status: *status,
+                    out: b"",
+                    told: told.as_bytes(),
+                };
+                check(&rt, rt.alloc(), &trial)?;
+            }
         }
     }
     Ok(())
 }
 
-// Texts with the line of their first fault, its kind, and what is told of it.
-const FAULTS: &[(&str, u64, Kind, &str)] = &[
+// A text with a number that isn't one.
+const MISSPELLED: &str = "1 1 M\n1 1 x\n0 0 0\n";
+
+const NUMBER: Status = Status::BadText {
+    line: 2,
+    kind: Kind::Number,
+};
+
+const LONG: &str = "1 1 M\n1 1 1\n0 0 0\n";
+
+// A text of which only so many bytes may be read.
+const OVERLONG: &[(&str, usize, u64, usize, u64, Status)] = &[
     (
-        "2 2 M\n1 1 1\n1 2 1\n2 2 1\n",
+        LONG,
+        18,
+        17,
+        64,
+        0,
+        Status::BadText {
+            line: 3,
+            kind: Kind::Long,
+        },
+    ),
+    (
+        LONG,
+        18,
+        12,
+        64,
+        0,
+        Status::BadText {
+            line: 3,
+            kind: Kind::Long,
+        },
+    ),
+    (
+        LONG,
+        18,
+        11,
+        64,
+        0,
+        Status::BadText {
+            line: 2,
+            kind: Kind::Long,
+        },
+    ),
+    (
+        LONG,
+        18,
+        6,
+        64,
+        0,
+        Status::BadText {
+            line: 2,
+            kind: Kind::Long,
+        },
+    ),
+    (
+        LONG,
+        18,
         5,
-        Kind::NoEnd,
-        "error 3 line 5 kind 7\n",
+        64,
+        0,
+        Status::BadText {
+            line: 1,
+            kind: Kind::Long,
+        },
     ),
     (
-        "1 1 M\n0 0 7\n0 0 0\n",
-        2,
-        Kind::Row,
-        "error 3 line 2 kind 4\n",
+        LONG,
+        18,
+        0,
+        64,
+        0,
+        Status::BadText {
+            line: 1,
+            kind: Kind::Long,
+        },
     ),
-    ("", 1, Kind::NoHeader, "error 3 line 1 kind 6\n"),
-    ("% only\n", 2, Kind::NoHeader, "error 3 line 2 kind 6\n"),
-    ("1 1\n", 1, Kind::Words, "error 3 line 1 kind 1\n"),
-    ("1 1 MM\n", 1, Kind::Words, "error 3 line 1 kind 1\n"),
-    ("+1 1 M\n", 1, Kind::Number, "error 3 line 1 kind 2\n"),
-    ("2147483648 1 M\n", 1, Kind::Size, "error 3 line 1 kind 3\n"),
-    ("2 2 M\n3 1 1\n", 2, Kind::Row, "error 3 line 2 kind 4\n"),
-    ("2 2 M\n1 3 1\n", 2, Kind::Column, "error 3 line 2 kind 5\n"),
-    (
-        "2 2 M\n99999999999999999999 1 1\n",
-        2,
-        Kind::Row,
-        "error 3 line 2 kind 4\n",
-    ),
-    (
-        "1 1 M\n1 1 3/7\n",
-        2,
-        Kind::Divisor,
-        "error 3 line 2 kind 10\n",
-    ),
-    (
-        "1 1 M\n1 1 0/0\n",
-        2,
-        Kind::Divisor,
-        "error 3 line 2 kind 10\n",
-    ),
-    (
-        "1 1 M\n1 1 1/\n",
-        2,
-        Kind::Number,
-        "error 3 line 2 kind 2\n",
-    ),
-    (
-        "1 1 M\n1 1 /2\n",
-        2,
-        Kind::Number,
-        "error 3 line 2 kind 2\n",
-    ),
-    (
-        "1 1 M\n1 1 1/-2\n",
-        2,
-        Kind::Number,
-        "error 3 line 2 kind 2\n",
-    ),
-    ("1 1 M\n0 0 0/1\n", 2, Kind::Row, "error 3 line 2 kind 4\n"),
-    ("1 1 M\n2 1 1/7\n", 2, Kind::Row, "error 3 line 2 kind 4\n"),
-    (
-        "3 3 M\n1 1 2\n0 0",
-        3,
-        Kind::Words,
-        "error 3 line 3 kind 1\n",
-    ),
+    (LONG, 18, 18, 64, 0, Status::Done),
 ];
 
-#[test]
-fn the_first_fault_is_named(rt: HostRuntime) -> Result<(), Fail> {
-    for (text, line, kind, told) in FAULTS {
-        let status = Status::BadText {
-            line: *line,
-            kind: *kind,
-        };
-        check(
-            &rt,
-            rt.alloc(),
-            &RANK,
-            text.as_bytes(),
-            &CALM,
-            status,
-            b"",
-            told.as_bytes(),
-        )?;
-    }
-    Ok(())
-}
+// A text of which these first bytes are given.
+const CUT: &[(&str, usize, u64, usize, u64, Status)] = &[
+    (
+        X,
+        0,
+        LARGEST_INPUT,
+        64,
+        0,
+        Status::BadText {
+            line: 1,
+            kind: Kind::NoHeader,
+        },
+    ),
+    (
+        X,
+        6,
+        LARGEST_INPUT,
+        64,
+        0,
+        Status::BadText {
+            line: 2,
+            kind: Kind::NoEnd,
+        },
+    ),
+    (
+        X,
+        12,
+        LARGEST_INPUT,
+        64,
+        0,
+        Status::BadText {
+            line: 3,
+            kind: Kind::NoEnd,
+        },
+    ),
+    (
+        X,
+        18,
+        LARGEST_INPUT,
+        64,
+        0,
+        Status::BadText {
+            line: 4,
+            kind: Kind::NoEnd,
+        },
+    ),
+    (
+        X,
+        24,
+        LARGEST_INPUT,
+        64,
+        0,
+        Status::BadText {
+            line: 5,
+            kind: Kind::NoEnd,
+        },
+    ),
+    (
+        X,
+        30,
+        LARGEST_INPUT,
+        64,
+        0,
+        Status::BadText {
+            line: 6,
+            kind: Kind::NoEnd,
+        },
+    ),
+    (
+        X,
+        36,
+        LARGEST_INPUT,
+        64,
+        0,
+        Status::BadText {
+            line: 7,
+            kind: Kind::NoEnd,
+        },
+    ),
+    (
+        X,
+        42,
+        LARGEST_INPUT,
+        64,
+        0,
+        Status::BadText {
+            line: 8,
+            kind: Kind::NoEnd,
+        },
+    ),
+    (
+        X,
+        48,
+        LARGEST_INPUT,
+        64,
+        0,
+        Status::BadText {
+            line: 9,
+            kind: Kind::NoEnd,
+        },
+    ),
+    (
+        X,
+        54,
+        LARGEST_INPUT,
+        64,
+        0,
+        Status::BadText {
+            line: 10,
+            kind: Kind::NoEnd,
+        },
+    ),
+    (
+        X,
+        57,
+        LARGEST_INPUT,
+        64,
+        0,
+        Status::BadText {
+            line: 10,
+            kind: Kind::Words,
+        },
+    ),
+    (X, 59, LARGEST_INPUT, 64, 0, Status::Done),
+    (X, 60, LARGEST_INPUT, 64, 0, Status::Done),
+];
 
-// A run of `rank` on this text, of which at most so many bytes are read, ends so.
-fn check_status<R: Threads + Sync + Abort>(
+// Texts that are given in such pieces, by a source of which one pull fails.
+const PULLS: &[(&str, usize, u64, usize, u64, Status)] = &[
+    (X, 60, LARGEST_INPUT, 6, 11, Status::Done),
+    (MISSPELLED, 18, LARGEST_INPUT, 12, 2, NUMBER),
+    (MISSPELLED, 18, LARGEST_INPUT, 8, 2, Status::ReadFault),
+    (MISSPELLED, 18, LARGEST_INPUT, 6, 1, Status::ReadFault),
+    (MISSPELLED, 18, LARGEST_INPUT, 6, 2, Status::ReadFault),
+    (MISSPELLED, 18, LARGEST_INPUT, 6, 3, NUMBER),
+    (
+        "1 1 M\n0 0 05\n0 0 0\n",
+        19,
+        LARGEST_INPUT,
+        11,
+        0,
+        Status::BadText {
+            line: 2,
+            kind: Kind::Row,
+        },
+    ),
+    (X, 60, LARGEST_INPUT, 6, 1, Status::ReadFault),
+    (X, 60, LARGEST_INPUT, 6, 2, Status::ReadFault),
+    (X, 60, LARGEST_INPUT, 6, 3, Status::ReadFault),
+    (X, 60, LARGEST_INPUT, 6, 4, Status::ReadFault),
+    (X, 60, LARGEST_INPUT, 6, 5, Status::ReadFault),
+    (X, 60, LARGEST_INPUT, 6, 6, Status::ReadFault),
+    (X, 60, LARGEST_INPUT, 6, 7, Status::ReadFault),
+    (X, 60, LARGEST_INPUT, 6, 8, Status::ReadFault),
+    (X, 60, LARGEST_INPUT, 6, 9, Status::ReadFault),
+    (X, 60, LARGEST_INPUT, 6, 10, Status::ReadFault),
+];
+
+// Runs of `rank` on the first bytes of these texts, with such a limit, piece and failing pull, end so, and write only where they are done.
+fn check_statuses<R: Threads + Sync + Abort>(
     rt: &R,
     alloc: Global,
-    text: &[u8],
-    limit: u64,
-    want: Status,
-) -> Result<(), Fail>
-    requires { limit ≤ 1099511627776 }
-{
-    let ran = run_on(rt, alloc, &RANK, text, &Streams { limit, ..CALM })?;
-    assert_eq!(rt; ran.status, want, "at {text:?} {limit}");
+    table: &[(&str, usize, u64, usize, u64, Status)],
+) -> Result<(), Fail> {
+    for (text, length, limit, piece, pull, status) in table {
+        assert!(rt; *limit <= LARGEST_INPUT && 0 < *piece);
+        let (text, _) = text.as_bytes().split_at(text.len().min(*length));
+        let streams = Streams {
+            limit: *limit,
+            piece: *piece,
+            pull: *pull,
+            ..CALM
+        };
+        let ran = run_on(rt, alloc, &RANK, text, &streams)?;
+        let is_silent = ran.out.content().is_empty() != (*status == Status::Done);
+        assert!(rt;
+            ran.status == *status && is_silent,
+            "at {text:?} {limit} {piece} {pull}"
+        );
+    }
     Ok(())
 }
 
 #[test]
-fn a_text_that_is_too_long_is_refused(rt: HostRuntime) -> Result<(), Fail> {
-    let text = b"1 1 M\n1 1 1\n0 0 0\n".as_slice();
-    for (limit, line) in [(17, 3), (12, 3), (11, 2), (6, 2), (5, 1), (0, 1)] {
-        assert!(rt; limit <= LIMIT);
-        let kind = Kind::Long;
-        check_status(&rt, rt.alloc(), text, limit, Status::BadText { line, kind })?;
-    }
-    check_status(&rt, rt.alloc(), text, 18, Status::Done)
-}
-
-#[test]
-fn a_text_that_is_cut_is_refused(rt: HostRuntime) -> Result<(), Fail> {
-    for k in 0..10u64 {
-        let (front, _) = X.as_bytes().split_at((6 * k as usize).min(X.len()));
-        let kind = if k == 0 { Kind::NoHeader } else { Kind::NoEnd };
-        let want = Status::BadText { line: k + 1, kind };
-        check_status(&rt, rt.alloc(), front, LIMIT, want)?;
-    }
-    let words = Status::BadText {
-        line: 10,
-        kind: Kind::Words,
-    };
-    for (length, want) in [(57, words), (59, Status::Done), (60, Status::Done)] {
-        let (front, _) = X.as_bytes().split_at(X.len().min(length));
-        check_status(&rt, rt.alloc(), front, LIMIT, want)?;
+fn texts_are_read_up_to_their_end_or_their_fault(rt: HostRuntime) -> Result<(), Fail> {
+    for table in [OVERLONG, CUT, PULLS] {
+        check_statuses(&rt, rt.alloc(), table)?;
     }
     Ok(())
 }
@@ -552,147 +865,63 @@ fn words_that_are_not_accepted_are_refused_unread(rt: HostRuntime) -> Result<(),
         let streams = Streams { pull: 1, ..CALM };
         let mut ran = run_on(&rt, rt.alloc(), words, X.as_bytes(), &streams)?;
         let pulled = ran.source.pull(&mut [0; 8]);
-        assert_eq!(rt; pulled, Pulled::Failed, "at {words:?}");
-        assert_eq!(rt; ran.status, Status::Usage, "at {words:?}");
-        assert_eq!(rt;
-            ran.err.content(),
-            b"error 2 usage\n".as_slice(),
+        let told = ran.err.content() == b"error 2 usage\n".as_slice();
+        assert!(rt;
+            pulled == Pulled::Failed && ran.status == Status::Usage && told,
             "at {words:?}"
         );
     }
     Ok(())
 }
 
-// A text with a number that isn't one.
-const MISSPELLED: &str = "1 1 M\n1 1 x\n0 0 0\n";
-
-const NUMBER: Status = Status::BadText {
-    line: 2,
-    kind: Kind::Number,
-};
-
-// Texts that are given in such pieces, with the pull that fails.
-const PULLS: &[(&str, usize, u64, Status)] = &[
-    (X, 6, 11, Status::Done),
-    (MISSPELLED, 12, 2, NUMBER),
-    (MISSPELLED, 8, 2, Status::ReadFault),
-    (MISSPELLED, 6, 1, Status::ReadFault),
-    (MISSPELLED, 6, 2, Status::ReadFault),
-    (MISSPELLED, 6, 3, NUMBER),
+// Commands with texts, and answers of which an output takes first bytes alone.
+const CUT_SHORT: &[(&str, &str, &[u8])] = &[
+    ("rank", X, b"rank 2\n"),
     (
-        "1 1 M\n0 0 05\n0 0 0\n",
-        11,
-        0,
-        Status::BadText {
-            line: 2,
-            kind: Kind::Row,
-        },
+        "solve",
+        X_UNSOLVED,
+        b"no solution\n1 3 M\n1 1 6\n1 2 6\n1 3 1\n0 0 0\n",
     ),
 ];
 
-#[test]
-fn a_source_that_fails_stops_the_run(rt: HostRuntime) -> Result<(), Fail> {
-    for (text, piece, pull, want) in PULLS {
-        assert!(rt; 0 < *piece);
-        let streams = Streams {
-            piece: *piece,
-            pull: *pull,
-            ..CALM
-        };
-        let ran = run_on(&rt, rt.alloc(), &RANK, text.as_bytes(), &streams)?;
-        assert_eq!(rt; ran.status, *want, "at {text} {piece} {pull}");
-    }
-    Ok(())
-}
-
-#[test]
-fn each_pull_that_fails_stops_the_run(rt: HostRuntime) -> Result<(), Fail> {
-    let (status, told) = (Status::ReadFault, b"error 6 read\n".as_slice());
-    for pull in 1..11 {
-        let streams = Streams {
-            piece: 6,
-            pull,
-            ..CALM
-        };
-        check(
-            &rt,
-            rt.alloc(),
-            &RANK,
-            X.as_bytes(),
-            &streams,
-            status,
-            b"",
-            told,
-        )?;
-    }
-    Ok(())
-}
-
-// After each number of bytes the output takes no more.
-fn check_failing_output<R: Threads + Sync + Abort>(
-    rt: &R,
-    alloc: Global,
-    command: &str,
-    text: &str,
-    answer: &[u8],
-) -> Result<(), Fail> {
-    let (status, told) = (Status::WriteFault, b"error 7 write\n".as_slice());
-    let words = [command, "--modulus", "7"];
-    for taken in 0..answer.len() {
-        let streams = Streams {
-            put_piece: 1,
-            put: taken as u64 + 1,
-            ..CALM
-        };
-        let (held, _) = answer.split_at(taken);
-        check(
-            rt,
-            alloc,
-            &words,
-            text.as_bytes(),
-            &streams,
-            status,
-            held,
-            told,
-        )?;
-    }
-    Ok(())
-}
-
+// After each number of bytes the output takes no more, for want of room or since its put fails.
 #[test]
 fn an_output_that_fails_holds_what_it_took(rt: HostRuntime) -> Result<(), Fail> {
-    let alloc = rt.alloc();
-    check_failing_output(&rt, alloc, "rank", X, b"rank 2\n")?;
-    let answer = b"no solution\n1 3 M\n1 1 6\n1 2 6\n1 3 1\n0 0 0\n";
-    check_failing_output(&rt, alloc, "solve", X_UNSOLVED, answer)?;
-    let small = Streams { room: 3, ..CALM };
-    let (status, told) = (Status::WriteFault, b"error 7 write\n".as_slice());
-    check(
-        &rt,
-        alloc,
-        &RANK,
-        X.as_bytes(),
-        &small,
-        status,
-        b"ran",
-        told,
-    )
+    for (command, text, answer) in CUT_SHORT {
+        for taken in 0..answer.len() {
+            for (room, put) in [(256, taken as u64 + 1), (taken, 0)] {
+                let (held, _) = answer.split_at(taken);
+                let trial = Trial {
+                    words: &[*command, "--modulus", "7"],
+                    text: text.as_bytes(),
+                    streams: Streams {
+                        room,
+                        put_piece: 1,
+                        put,
+                        ..CALM
+                    },
+                    status: Status::WriteFault,
+                    out: held,
+                    told: b"error 7 write\n",
+                };
+                check(&rt, rt.alloc(), &trial)?;
+            }
+        }
+    }
+    Ok(())
 }
 
 #[test]
 fn a_failing_error_stream_changes_no_status(rt: HostRuntime) -> Result<(), Fail> {
-    let streams = Streams { err_put: 1, ..CALM };
-    let words = ["rank", "--workers", "0"];
-    check(
-        &rt,
-        rt.alloc(),
-        &words,
-        X.as_bytes(),
-        &streams,
-        Status::Usage,
-        b"",
-        b"",
-    )
+    let trial = Trial {
+        words: &["rank", "--workers", "0"],
+        text: X.as_bytes(),
+        streams: Streams { err_put: 1, ..CALM },
+        status: Status::Usage,
+        out: b"",
+        told: b"",
+    };
+    check(&rt, rt.alloc(), &trial)
 }
 
 #[test]
@@ -762,7 +991,7 @@ const MATRICES: &[(u64, &str)] = &[
 fn forms_and_factors_have_the_rank_of_plain_elimination(rt: HostRuntime) -> Result<(), Fail> {
     let alloc = rt.alloc();
     for (p, text) in MATRICES {
-        assert!(rt; 2 <= *p && *p < 0x1_0000_0000_0000);
+        assert!(rt; 2 <= *p && *p < MODULUS_BOUND);
         let rows = rows_of(alloc, &Modulus::new(*p), text.as_bytes())?;
         let rank = plain_rank(alloc, &rows)?;
         let form = Echelon::of(&rt, alloc, &rows, 1)?;
