@@ -1,20 +1,12 @@
 -- What a pull and a put do to a reader and a writer of std, where these tell what they have left or hold.
-use Rattle.std.specs.Prelude.{◌≤◌, ℕ, List, Option, None, length, take}
+use Rattle.std.specs.Prelude.{◌≤◌, ℕ, List, Option, length, take}
 use Rattle.std.specs.Io.KnownBytes.{Keeps, Appends, Consumes, IsAtEnd}
-use Rattle.sms_text.specs.declared.stream.Pulled.{Pulled}
-use Rattle.sms_text.specs.declared.stream.Pulled.TheVariants as pulled
-use Rattle.sms_text.specs.declared.stream.Put.{Put}
-use Rattle.sms_text.specs.declared.stream.Put.TheVariants as put
-use Rattle.sms_text.specs.Stream.{SinkState, SourceState}
+use Rattle.sms_text.specs.declared.outside.Pulled.{Pulled}
+use Rattle.sms_text.specs.declared.outside.Pulled.TheVariants as pulled
+use Rattle.sms_text.specs.declared.outside.Put.{Put}
+use Rattle.sms_text.specs.declared.outside.Put.TheVariants as put
 use Rattle.std_edge.specs.declared.words.NoWords.{NoWords}
 use Rattle.std_edge.specs.declared.words.NoWords.TheVariants as none
-
--- a source and a sink that tell nothing, and have failed so often
-abbrev pub untold_source : ℕ → SourceState
-untold_source faults = record { left = None; faults = faults }
-
-abbrev pub untold_sink : ℕ → SinkState
-untold_sink faults = record { held = None; faults = faults }
 
 -- the bytes given are those that the reader lost; at the end it has none
 abbrev pub Read : Pulled → Option (List ℕ) → Option (List ℕ) → List ℕ → Type 0

@@ -1,9 +1,9 @@
 //! Readers and writers of std as sources and sinks of texts.
 #![tactic(auto)]
 
-ghost use Rattle.std.specs.Prelude.{◌≡◌, ◌<◌, ◌≤◌, length};
-ghost use Rattle.sms_text.specs.Stream.{PullDid, PutDid};
-ghost use Rattle.std_edge.specs.Edge.{Read as GaveBytes, Written as GainedBytes, untold_sink, untold_source};
+ghost use Rattle.std.specs.Prelude.{◌≡◌, ◌<◌, ◌≤◌, None, length};
+ghost use Rattle.sms_text.specs.Outside.{PullDid, PutDid};
+ghost use Rattle.std_edge.specs.Edge.{Read as GaveBytes, Written as GainedBytes};
 
 #[cfg(test)]
 mod tests;
@@ -31,11 +31,14 @@ impl<R: Read> FromRead<R> {
 }
 
 impl<R: Read> Source for FromRead<R> {
-    ghost state = { λ s. untold_source s.faults };
+    ghost told = { λ s. None };
+
+    ghost faults = { λ s. s.faults };
 
     fn pull(&mut self, buffer: &mut [u8]) -> Pulled
         requires { 0 < length buffer.old }
-        ensures did { PullDid result buffer.new (untold_source self.old.faults) (untold_source self.new.faults) }
+        ensures did { PullDid result buffer.new None None self.old.faults self.new.faults }
+        ensures count { self.old.faults ≤ self.new.faults }
         ensures bytes { GaveBytes result (R.remaining self.old.reader) (R.remaining self.new.reader) buffer.new }
     {
         match self.reader.read(buffer) {
@@ -85,11 +88,14 @@ impl<W: Write> ToWrite<W> {
 }
 
 impl<W: Write> Sink for ToWrite<W> {
-    ghost state = { λ s. untold_sink s.faults };
+    ghost held = { λ s. None };
+
+    ghost faults = { λ s. s.faults };
 
     fn put(&mut self, piece: &[u8]) -> Put
         requires { 0 < length piece.now }
-        ensures did { PutDid result piece.now (untold_sink self.old.faults) (untold_sink self.new.faults) }
+        ensures did { PutDid result piece.now None None self.old.faults self.new.faults }
+        ensures count { self.old.faults ≤ self.new.faults }
         ensures bytes { GainedBytes result (W.contents self.old.writer) (W.contents self.new.writer) piece.now }
     {
         let taken = self.write_through(piece);
