@@ -1,9 +1,9 @@
 -- What a whole input says, and what stays when more bytes come.
-use Rattle.std.proofs.Common.{ℕ, ◌≡◌, ◌≢◌, ◌⊎◌, true, false, List, ◌++◌, refl, sym, ap, subst, ◌∙◌, inl, inr}
+use Rattle.std.proofs.Common.{ℕ, ◌≡◌, ◌≢◌, ◌⊎◌, true, List, ◌++◌, refl, sym, subst, ◌∙◌, inl, inr}
 use Rattle.sms_text.specs.declared.kind.Kind.{Kind}
-use Rattle.sms_text.specs.Lines.{Line, lines, lines_then}
-use Rattle.sms_text.specs.Text.{Item, Reading, Got, Fault, Short, Request, reading}
-use Rattle.sms_text.specs.Laws.{AreRead, AreAtFault, WholeInputIsTold, ReadingStays}
+use Rattle.sms_text.specs.Lines.{Line, lines}
+use Rattle.sms_text.specs.Text.{Item, Reading, Got, Fault, Short, reading}
+use Rattle.sms_text.specs.Laws.{WholeInputIsTold, ReadingStays}
 use Rattle.sms_text.proofs.Following.{Stays, bytes_stay}
 use Rattle.sms_text.proofs.Runs.{read_whole}
 

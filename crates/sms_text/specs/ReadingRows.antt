@@ -24,7 +24,8 @@ pub record IsBetween (p : ℕ) (old new : ReaderState) (part : TextPart) : Type 
   pub sound : new.error ≡ None
   pub opened : new.open_text ≡ open_at part.due
   pub reads : (ended : Bool) (more : List ℕ) (dues : List Due) → MayFollow new.ended ended more →
-      read_on p ended (Header ∷ dues) old (part.taken ++ more) ≡ with_items part.items (read_on p ended (part.due ++ dues) new more)
+      read_on p ended (Header ∷ dues) old (part.taken ++ more)
+      ≡ with_items part.items (read_on p ended (part.due ++ dues) new more)
 
 -- Why no matrix is answered: the line is the first at fault, whichever lines are due behind the text; the source failed before the text
 -- was complete; or memory was wanted. The reader keeps the error, but where the matrix wanted memory it stands between two lines.
@@ -34,7 +35,8 @@ IsNoMatrix p old new taken (error.Bad line k) = (new.error ≡ Some (error.Bad l
 IsNoMatrix p old new taken error.Read = (new.error ≡ Some error.Read)
     × ((dues : List Due) → read_on p new.ended (Header ∷ dues) old taken ≡ Short)
 IsNoMatrix p old new taken error.Memory = (new.error ≡ Some error.Memory)
-    ⊎ ((items : List Item) × (due : List Due) × IsBetween p old new (record { taken = taken; items = items; due = due }))
+    ⊎ ((items : List Item) × (due : List Due)
+    × IsBetween p old new (record { taken = taken; items = items; due = due }))
 
 -- a whole text was read, of which this is the one matrix, whatever items follow
 pub record IsWhole (p : ℕ) (old new : ReaderState) (taken : List ℕ) (A : ResidueMatrix) : Type 0 where

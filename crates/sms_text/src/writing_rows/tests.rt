@@ -1,5 +1,6 @@
 // Matrices read and written.
 ghost use Rattle.std.specs.Prelude.{◌≤◌, IfOk};
+ghost use Rattle.sms_text.specs.declared.reader.TheConstants.{LARGEST_TEXT_SIZE};
 
 use crate::{Kind, MemorySink, Put, Reader, Sink, SteadySource, TextError, read_rows, write_rows};
 use residue_words::Modulus;

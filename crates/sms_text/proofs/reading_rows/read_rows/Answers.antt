@@ -12,12 +12,12 @@ returns-in-Err-clause-did g c =
 pub returns-in_default-clause-did : goal.returns-in_default-clause-did
 returns-in_default-clause-did g c =
     let e = c.in-Ok.ensures in
-    header_pauses c.args.p.now c.in-Ok.head (input c.args.reader.now (g.S.Source.state c.args.source.now)) (input c.header.new.self (g.S.Source.state c.header.new.source)) (e.did c.args.p.now) e.opens.0
+    header_pauses c.args.p.now c.in-Ok.head (input c.args.reader.now (g.S.Source.state c.args.source.now)) (input c.header.new.self (g.S.Source.state c.header.new.source)) (e.did c.args.p.now) e.opens
 
 pub loop-entry-init : goal.loop-entry-init
 loop-entry-init g c =
     let e = c.in-Ok.ensures in
-    reading_begins c.args.p.now c.in-Ok.head c.in-Ok-new.builder (input c.args.reader.now (g.S.Source.state c.args.source.now)) (input c.header.new.self (g.S.Source.state c.header.new.source)) c.in-Ok-new.ensures (e.did c.args.p.now) e.opens.0
+    reading_begins c.args.p.now c.in-Ok.head c.in-Ok-new.builder (input c.args.reader.now (g.S.Source.state c.args.source.now)) (input c.header.new.self (g.S.Source.state c.header.new.source)) c.in-Ok-new.ensures (e.did c.args.p.now) e.opens
 
 pub returns-then-is_err-clause-did : goal.returns-then-is_err-clause-did
 returns-then-is_err-clause-did g c =
