@@ -5,8 +5,8 @@ use Rattle.residue_words.specs.declared.plain.Pair.{Pair}
 use Rattle.residue_words.specs.Residues.{IsPrime}
 use Rattle.residue_words.specs.Matrix.{Matrix, IsMatrix, IsVector, IsCombination, entry, row, zeros}
 use Rattle.row_space.specs.Echelon.{HasLeads, HasRank, IsIndependent, IsRref, SameSpan}
-use Rattle.row_space.specs.Inverse.{IsInverse}
-use Rattle.row_space.specs.Kernel.{IsKernel, IsNull}
+use Rattle.row_space.specs.Inverse.{HasInverse, IsInverse}
+use Rattle.row_space.specs.Kernel.{HasNull, IsKernel, IsNull}
 use Rattle.row_space.specs.Solution.{IsSolution, IsReducedSolution, IsRefutingCombination, Annuls, beside, refuting_rows, refuting_side}
 use Rattle.row_space.specs.Factors.{AreFactors, Certificate, IsValid, ShowsKernel, ShowsRref, TellsOf}
 
@@ -96,6 +96,11 @@ InverseIsUnique = (p : ℕ) (A B C : Matrix) → 2 ≤ p → A.height ≡ A.widt
 
 abbrev pub InverseExcludesNull : Type 0
 InverseExcludesNull = (p : ℕ) (A B : Matrix) (v : List ℕ) → A.height ≡ A.width → IsInverse p A B → IsNull p A v → v ≡ zeros A.width
+
+-- a square matrix has an inverse, or a null vector other than zero, and not both
+abbrev pub InverseOrNull : Type 0
+InverseOrNull = (p : ℕ) (A : Matrix) → IsPrime p → IsMatrix p A → A.height ≡ A.width →
+    (HasInverse p A ⊎ HasNull p A) × ¬ (HasInverse p A × HasNull p A)
 
 -- where A x = b has no solution, some y solves the refuting system
 abbrev pub RefutingIsSolvable : Type 0

@@ -19,37 +19,39 @@ use Rattle.kernel_solve.specs.Columns.{column}
 use Rattle.kernel_solve.specs.Found.{Answers, HasShape}
 use Rattle.kernel_solve.specs.Inverted.{HasInverseShape, Inverts}
 use Rattle.kernel_solve.proofs.Matrices.{beside_column, column_vector, one_item}
-use Rattle.spasm_run.specs.declared.answers.Answer.TheVariants as answer
+use Rattle.spasm_run.specs.declared.answer.Answer.TheVariants as answer
 use Rattle.spasm_run.specs.declared.words.Task.TheVariants as task
-use Rattle.spasm_run.specs.Answers.{column_of, misfit, row_of}
-use Rattle.spasm_run.specs.Found.{IsAnswerTo, AnswersSystem}
+use Rattle.sparse_rows.specs.declared.rows.TheConstants.{LARGEST_SIZE}
+use Rattle.spasm_run.specs.declared.commands.TheConstants.{LARGEST_INVERTED}
+use Rattle.spasm_run.specs.Answers.{as_column, misfit, as_row}
+use Rattle.spasm_run.specs.Computed.{IsAnswerTo, AnswersSystem}
 
 sized : ℕ → ℕ → List (List ℕ) → Matrix
 sized h w r = record { height = h; width = w; rows = r }
 
 -- a matrix of one column is the column of its entries
-column_whole : {p : ℕ} (X : Matrix) → IsMatrix p X → X.width ≡ 1 → X ≡ column_of (column X)
+column_whole : {p : ℕ} (X : Matrix) → IsMatrix p X → X.width ≡ 1 → X ≡ as_column (column X)
 column_whole {p} X m narrow =
     let x : List ℕ = column X in
     let long : length x ≡ X.height = length_list_of X.height (λ i. entry X i 0) in
     let at : (i : ℕ) → i < X.height → slice_index x i ≡ entry X i 0 = λ i l. at_list_of X.height (λ i. entry X i 0) i l in
-    matrix_equal p X (column_of x) m
+    matrix_equal p X (as_column x) m
     (is_matrix_of p (length x) 1 (λ i j. slice_index x i) (λ i j a b. subst (λ t. t < p) (sym (at i (omega arith))) (entry_residue p X m i 0 (omega arith) (omega arith))))
     (sym long) narrow
     (λ i j a b. let first : j ≡ 0 = omega arith in ap (entry X i) first ∙ sym (at i a) ∙ sym (entry_matrix_of (length x) 1 (λ i j. slice_index x i) i j (omega arith) (omega arith)))
 
 -- a matrix of one row is its row
-row_whole : {p : ℕ} (V : Matrix) → IsMatrix p V → V.height ≡ 1 → V ≡ row_of (row V 0)
+row_whole : {p : ℕ} (V : Matrix) → IsMatrix p V → V.height ≡ 1 → V ≡ as_row (row V 0)
 unfolding sized
 row_whole {p} V m low =
     ap (λ h. sized h V.width V.rows) low ∙ ap (λ w. sized 1 w V.rows) (sym (m.each 0 (omega arith)).len) ∙ ap (sized 1 (length (row V 0))) (one_item [] V.rows (m.len ∙ low))
 
 -- what is a row is the row of its row
-row_again : (M : Matrix) (v : List ℕ) → M ≡ row_of v → M ≡ row_of (row M 0)
-row_again M v e = e ∙ ap row_of (ap (λ m. row m 0) (sym e))
+row_again : (M : Matrix) (v : List ℕ) → M ≡ as_row v → M ≡ as_row (row M 0)
+row_again M v e = e ∙ ap as_row (ap (λ m. row m 0) (sym e))
 
 -- a column transposed is a row
-pub transposed_row : (Y : Matrix) → Y.width ≡ 1 → transposed Y ≡ row_of (column Y)
+pub transposed_row : (Y : Matrix) → Y.width ≡ 1 → transposed Y ≡ as_row (column Y)
 unfolding sized
 transposed_row Y narrow = ap (λ w. matrix_by w Y.height (λ i j. entry Y j i)) narrow ∙ ap (λ n. sized 1 n (column Y ∷ [])) (sym (length_list_of Y.height (λ i. entry Y i 0)))
 
@@ -90,7 +92,7 @@ module _ (p : ℕ) (A B : Matrix) (ma : IsMatrix p A) (mb : IsMatrix p B) (heigh
   told_of q S found prime modulus matrix tells = subst (λ q. AnswersSystem q S found) modulus tells prime A (column B) ma side_is (matrix ∙ beside_column A mb heights narrow)
 
   -- the solution answers, or what refutes the system
-  pub solution_answers : (q : ℕ) (S : Matrix) (found : Found) (x : ResidueMatrix) → A.width ≤ 2147483647 → q ≡ p → S ≡ beside A B → HasShape q S.width found → AnswersSystem q S found → found ≡ Solution x →
+  pub solution_answers : (q : ℕ) (S : Matrix) (found : Found) (x : ResidueMatrix) → A.width < LARGEST_SIZE → q ≡ p → S ≡ beside A B → HasShape q S.width found → AnswersSystem q S found → found ≡ Solution x →
       IsAnswerTo task.Solve p (A ∷ B ∷ []) (answer.Solution x)
   solution_answers q S found x wide modulus matrix shape tells here =
       let sizes = subst (HasShape q S.width) here shape in record {
@@ -101,8 +103,8 @@ module _ (p : ℕ) (A B : Matrix) (ma : IsMatrix p A) (mb : IsMatrix p B) (heigh
             inl (column x.matrix, told.1, ap (λ X. codes "solution\n" ++ text_of X) (column_whole x.matrix sizes.1 sizes.3));
       }
 
-  pub refutation_answers : (q : ℕ) (S : Matrix) (found : Found) (y : ResidueMatrix) → A.height ≤ 2147483647 → q ≡ p → S ≡ beside A B → AnswersSystem q S found → found ≡ Inconsistent →
-      y.matrix ≡ row_of (row y.matrix 0) → y.matrix.width ≡ A.height → (IsPrime p → ((x : List ℕ) → ¬ IsSolution p A (column B) x) → IsRefutingCombination p A (column B) (row y.matrix 0)) →
+  pub refutation_answers : (q : ℕ) (S : Matrix) (found : Found) (y : ResidueMatrix) → A.height < LARGEST_SIZE → q ≡ p → S ≡ beside A B → AnswersSystem q S found → found ≡ Inconsistent →
+      y.matrix ≡ as_row (row y.matrix 0) → y.matrix.width ≡ A.height → (IsPrime p → ((x : List ℕ) → ¬ IsSolution p A (column B) x) → IsRefutingCombination p A (column B) (row y.matrix 0)) →
       IsAnswerTo task.Solve p (A ∷ B ∷ []) (answer.Refutation y)
   refutation_answers q S found y tall modulus matrix tells here one_row width refutes = record {
     small = (omega (arith, ap (λ m. m.height) one_row), omega (arith, width));
@@ -113,7 +115,7 @@ module _ (p : ℕ) (A B : Matrix) (ma : IsMatrix p A) (mb : IsMatrix p B) (heigh
   }
 
 -- where a square matrix has a null vector that is not zero, it has no inverse, and what is told is the first row of its kernel basis
-pub singular_answers : (p : ℕ) (A : Matrix) (found : Inverse) (v : ResidueMatrix) → InverseExcludesNull → A.height ≡ A.width → A.height ≤ 1073741824 →
+pub singular_answers : (p : ℕ) (A : Matrix) (found : Inverse) (v : ResidueMatrix) → InverseExcludesNull → A.height ≡ A.width → A.height ≤ LARGEST_INVERTED →
     HasInverseShape p A.width found → (IsPrime p → Inverts p A found) → found ≡ Singular v → IsAnswerTo task.Inverse p (A ∷ []) (answer.Singular v)
 singular_answers p A found v law square narrow shape inverts here =
     let sizes = subst (HasInverseShape p A.width) here shape in record {
@@ -126,14 +128,14 @@ singular_answers p A found v law square narrow shape inverts here =
             (λ B inverse. nonzero (law p A B (row v.matrix 0) square inverse null)),
             kernel,
             some,
-            ap (λ V. codes "singular\n" ++ text_of V) (row_whole v.matrix sizes.1 sizes.2 ∙ ap row_of same),
+            ap (λ V. codes "singular\n" ++ text_of V) (row_whole v.matrix sizes.1 sizes.2 ∙ ap as_row same),
           );
     }
   where
-    inverse_fits : (A : Matrix) → A.height ≡ A.width → A.height ≤ 1073741824 → misfit task.Inverse (A ∷ []) ≡ None
+    inverse_fits : (A : Matrix) → A.height ≡ A.width → A.height ≤ LARGEST_INVERTED → misfit task.Inverse (A ∷ []) ≡ None
     inverse_fits A square narrow = grind (arith, nat_tests)
 
 -- a zero row that is appended to no rows is the row of its row
-pub first_row : (M R : Matrix) (v : List ℕ) (w : ℕ) → M ≡ with_row R v → R ≡ record { height = 0; width = w; rows = [] } → length v ≡ w → M ≡ row_of (row M 0)
+pub first_row : (M R : Matrix) (v : List ℕ) (w : ℕ) → M ≡ with_row R v → R ≡ record { height = 0; width = w; rows = [] } → length v ≡ w → M ≡ as_row (row M 0)
 unfolding sized
 first_row M R v w made none long = row_again M v (made ∙ ap (λ R. with_row R v) none ∙ ap (λ w. sized 1 w (v ∷ [])) (sym long))

@@ -1,5 +1,5 @@
 -- What each command reads, and what it answers.
-use Rattle.std.specs.Prelude.{◌≡◌, ◌<◌, ◌⊎◌, ◌==◌, ◌&&◌, nat_lt, not, if◌then◌else◌, ℕ, List, [], ◌∷◌, ◌++◌, Option, None, Some, codes, length, slice_index}
+use Rattle.std.specs.Prelude.{◌≡◌, ◌<◌, ◌≤◌, ◌⊎◌, ◌==◌, ◌&&◌, nat_lt, not, if◌then◌else◌, ℕ, List, [], ◌∷◌, ◌++◌, Option, None, Some, codes, length, slice_index}
 use Rattle.std.specs.Fmt.{decimal}
 use Rattle.residue_words.specs.Matrix.{Matrix, row}
 use Rattle.row_space.specs.Echelon.{HasRank, IsRref}
@@ -10,6 +10,7 @@ use Rattle.kernel_solve.specs.Columns.{column}
 use Rattle.sms_text.specs.Text.{Due, Header}
 use Rattle.sms_text.specs.Written.{text_of}
 use Rattle.sparse_rows.specs.Rows.{matrix_by, transposed}
+use Rattle.spasm_run.specs.declared.commands.TheConstants.{LARGEST_INVERTED}
 use Rattle.spasm_run.specs.declared.status.Status.{Status}
 use Rattle.spasm_run.specs.declared.status.Status.TheVariants.{Shape, Wide}
 use Rattle.spasm_run.specs.declared.words.Task.{Task}
@@ -21,35 +22,35 @@ wanted Solve = Header ∷ Header ∷ []
 wanted task = Header ∷ []
 
 -- the status by which matrices of a wrong shape are refused: a right-hand side has to be a column as long as the matrix is high, and what is
--- inverted square, of at most 2^30 rows
+-- inverted square, of at most LARGEST_INVERTED rows
 abbrev pub misfit : Task → List Matrix → Option Status
 misfit Solve (A ∷ B ∷ []) = if (B.height == A.height) && (B.width == 1) then None else Some (Shape B.height B.width)
 misfit Inverse (A ∷ []) =
     if not (A.height == A.width) then Some (Shape A.height A.width) else
-    if nat_lt 1073741824 A.height then Some (Wide A.height A.width) else None
+    if nat_lt LARGEST_INVERTED A.height then Some (Wide A.height A.width) else None
 misfit task values = None
 
 abbrev pub rank_text : ℕ → List ℕ
 rank_text r = codes "rank " ++ decimal r ++ 10 ∷ []
 
 -- the matrix of one column, and of one row, with these entries
-abbrev pub column_of : List ℕ → Matrix
-column_of x = matrix_by (length x) 1 (λ i j. slice_index x i)
+abbrev pub as_column : List ℕ → Matrix
+as_column x = matrix_by (length x) 1 (λ i j. slice_index x i)
 
-abbrev pub row_of : List ℕ → Matrix
-row_of y = record { height = 1; width = length y; rows = y ∷ [] }
+abbrev pub as_row : List ℕ → Matrix
+as_row y = record { height = 1; width = length y; rows = y ∷ [] }
 
 -- the reduced solution of A x = b; or, where there is no solution, the refuting combination
 abbrev pub SolvesTo : ℕ → Matrix → List ℕ → List ℕ → Type 0
 SolvesTo p A b text =
-    ((x : List ℕ) × IsReducedSolution p A b x × (text ≡ codes "solution\n" ++ text_of (column_of x)))
-    ⊎ ((y : List ℕ) × ((x : List ℕ) → ¬ IsSolution p A b x) × IsRefutingCombination p A b y × (text ≡ codes "no solution\n" ++ text_of (row_of y)))
+    ((x : List ℕ) × IsReducedSolution p A b x × (text ≡ codes "solution\n" ++ text_of (as_column x)))
+    ⊎ ((y : List ℕ) × ((x : List ℕ) → ¬ IsSolution p A b x) × IsRefutingCombination p A b y × (text ≡ codes "no solution\n" ++ text_of (as_row y)))
 
 -- the inverse of A; or, where there is none, the first row of its kernel basis
 abbrev pub InvertsTo : ℕ → Matrix → List ℕ → Type 0
 InvertsTo p A text =
     ((B : Matrix) × IsInverse p A B × (text ≡ codes "inverse\n" ++ text_of B))
-    ⊎ ((K : Matrix) × ((B : Matrix) → ¬ IsInverse p A B) × IsKernel p A K × (0 < K.height) × (text ≡ codes "singular\n" ++ text_of (row_of (row K 0))))
+    ⊎ ((K : Matrix) × ((B : Matrix) → ¬ IsInverse p A B) × IsKernel p A K × (0 < K.height) × (text ≡ codes "singular\n" ++ text_of (as_row (row K 0))))
 
 -- the text is the answer to the command for these matrices
 abbrev pub AnswerOf : Task → ℕ → List Matrix → List ℕ → Type 0
@@ -60,3 +61,8 @@ AnswerOf Solve p (A ∷ B ∷ []) text = SolvesTo p A (column B) text
 AnswerOf LeftKernel p (A ∷ []) text = (K : Matrix) × IsKernel p (transposed A) K × (text ≡ text_of K)
 AnswerOf Inverse p (A ∷ []) text = InvertsTo p A text
 AnswerOf task p values text = ⊥
+
+-- the answer to a command for matrices of the shapes that are wanted is one text
+abbrev pub IsOneAnswer : Type 0
+IsOneAnswer = (task : Task) (p : ℕ) (values : List Matrix) (text other : List ℕ) → 2 ≤ p → misfit task values ≡ None →
+    AnswerOf task p values text → AnswerOf task p values other → text ≡ other

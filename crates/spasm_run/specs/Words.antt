@@ -1,6 +1,7 @@
 -- The words of the command line that are accepted.
-use Rattle.std.specs.Prelude.{◌≡◌, ◌≢◌, ◌≤◌, ℕ, Bool, true, false, List, [], ◌∷◌, ◌++◌, codes, IsTrue, map}
+use Rattle.std.specs.Prelude.{◌≡◌, ◌≢◌, ◌≤◌, ◌-◌, ℕ, Bool, true, false, List, [], ◌∷◌, ◌++◌, codes, IsTrue, map}
 use Rattle.std.specs.List.{Contains, flat_map}
+use Rattle.residue_words.specs.declared.modulus.TheConstants.{MODULUS_BOUND}
 use Rattle.sms_text.specs.Numbers.{is_number, value}
 use Rattle.spasm_run.specs.declared.words.Command.{Command}
 use Rattle.spasm_run.specs.declared.words.Task.{Task}
@@ -23,7 +24,7 @@ pub record Rule : Type 0 where
   pub absent : ℕ
 
 abbrev pub modulus_rule : Rule
-modulus_rule = record { name = codes "modulus"; low = 2; high = 281474976710655; absent = 42013 }
+modulus_rule = record { name = codes "modulus"; low = 2; high = MODULUS_BOUND - 1; absent = 42013 }
 
 abbrev pub workers_rule : Rule
 workers_rule = record { name = codes "workers"; low = 1; high = 64; absent = 1 }
