@@ -51,16 +51,16 @@ zero_combination p K two = combination_of p K (zeros K.width) (λ k. 0) (omega a
     ap (λ x. x % p) (at_zeros K.width j l ∙ sym (sum_zero K.height (λ k. 0 * entry K k j) (λ k b. zero-mul (entry K k j)))))
 
 -- the row space of the kept rows with v, after v was inserted
-inserted_span : {old new : KeptRows} {v : List ℕ} → IsSound old → IsVector old.modulus old.matrix.width v → (lead : Option ℕ) → Inserts old new v lead → IsPrime old.modulus →
+inserted_span : {old : KeptRows} (new : KeptRows) {v : List ℕ} → IsSound old → IsVector old.modulus old.matrix.width v → (lead : Option ℕ) → Inserts old new v lead → IsPrime old.modulus →
     SameSpan old.modulus (with_row old.matrix v) new.matrix
-inserted_span {old} {new} {v} sound vector (Some c) h prime = same_span_turned old.modulus new.matrix (with_row old.matrix v) (h.span prime)
-inserted_span {old} {new} {v} sound vector None h prime = subst (λ (k : KeptRows). SameSpan old.modulus (with_row old.matrix v) k.matrix) (sym h.0)
+inserted_span {old} new {v} sound vector (Some c) h prime = same_span_turned old.modulus new.matrix (with_row old.matrix v) (h.span prime)
+inserted_span {old} new {v} sound vector None h prime = subst (λ (k : KeptRows). SameSpan old.modulus (with_row old.matrix v) k.matrix) (sym h.0)
     (λ w. (space_within old.modulus old.matrix old.matrix v w sound.two_or_more sound.matrix refl (λ x c. c) h.1, space_more old.modulus old.matrix v w sound.two_or_more sound.matrix vector))
 
 -- there is at most one row more
-inserted_few : {old : KeptRows} (new : KeptRows) (v : List ℕ) (lead : Option ℕ) → Inserts old new v lead → new.matrix.height ≤ old.matrix.height + 1
-inserted_few new v (Some c) h = omega (arith, ap (λ (A : Matrix). A.height) h.matrix)
-inserted_few new v None h = omega (arith, ap (λ (k : KeptRows). k.matrix.height) h.0)
+inserted_few : (old new : KeptRows) (v : List ℕ) (lead : Option ℕ) → Inserts old new v lead → new.matrix.height ≤ old.matrix.height + 1
+inserted_few old new v (Some c) h = omega (arith, ap (λ (A : Matrix). A.height) h.matrix)
+inserted_few old new v None h = omega (arith, ap (λ (k : KeptRows). k.matrix.height) h.0)
 
 -- the kept rows have the row space of the first i rows of A, and are not more
 pub record IsKeeping (p : ℕ) (A : Matrix) (i : ℕ) (kept : KeptRows) : Type 0 where
@@ -105,7 +105,7 @@ keeping_more {p} {A} {from} {i} {old} {new} {cols} {vals} m sound before next ce
   modulus = same.0 ∙ h.modulus;
   width = same.1 ∙ h.width;
   inside = omega (arith, next.below);
-  few = omega (arith, h.few, inserted_few {old} new v lead joined);
+  few = omega (arith, h.few, inserted_few old new v lead joined);
   each = λ prime t lt. elim (cases_eq t i) [
     | inl e ↦ subst (λ x. IsCombination p new.matrix (row A x)) (sym e) ((span prime v).0 (space_last p old.matrix v prime.two_or_more own vector))
     | inr d ↦ (span prime (row A t)).0 (space_more p old.matrix v (row A t) prime.two_or_more own vector (h.each prime t (omega arith)))
@@ -133,7 +133,7 @@ keeping_more {p} {A} {from} {i} {old} {new} {cols} {vals} m sound before next ce
     same = inserts_same old new v lead joined
 
     span : IsPrime p → SameSpan p (with_row old.matrix v) new.matrix
-    span = subst (λ q. IsPrime q → SameSpan q (with_row old.matrix v) new.matrix) h.modulus (inserted_span {old} {new} sound (subst (λ q. IsVector q old.matrix.width v) (sym h.modulus) vector) lead joined)
+    span = subst (λ q. IsPrime q → SameSpan q (with_row old.matrix v) new.matrix) h.modulus (inserted_span new sound (subst (λ q. IsVector q old.matrix.width v) (sym h.modulus) vector) lead joined)
 
 -- all are there
 pub keeping_all : {p : ℕ} {A : Matrix} {from : ℕ} {kept : KeptRows} → IsMatrix p A → IsKeeping p A from kept → AreZeroFrom A from →

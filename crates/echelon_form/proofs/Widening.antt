@@ -87,7 +87,7 @@ module _ (n : ℕ) (columns : List ℕ) (up : AreRising columns) (low : (k : ℕ
   lead_widened : (leads : List ℕ) (k : ℕ) → k < length leads → slice_index (map (slice_index columns) leads) k ≡ slice_index columns (slice_index leads k)
   lead_widened leads k l = get_or-map (slice_index columns) leads k 0 0 l
 
-  pub leads_widened : (p : ℕ) (E : Matrix) (leads : List ℕ) → IsMatrix p E → E.width ≡ length columns → HasLeads E leads → HasLeads (widened E n columns) (map (slice_index columns) leads)
+  leads_widened : (p : ℕ) (E : Matrix) (leads : List ℕ) → IsMatrix p E → E.width ≡ length columns → HasLeads E leads → HasLeads (widened E n columns) (map (slice_index columns) leads)
   leads_widened p E leads m long h = (
     length-map leads (slice_index columns) ∙ h.0,
     record {
@@ -111,7 +111,7 @@ module _ (n : ℕ) (columns : List ℕ) (up : AreRising columns) (low : (k : ℕ
       within k l = omega (arith, h.1.inside k l, long)
 
   -- the echelon form is that of the wide matrix
-  pub rref_widened : (p : ℕ) (A E : Matrix) → 2 ≤ p → IsMatrix p A → A.width ≡ length columns → IsRref p A E → IsRref p (widened A n columns) (widened E n columns)
+  rref_widened : (p : ℕ) (A E : Matrix) → 2 ≤ p → IsMatrix p A → A.width ≡ length columns → IsRref p A E → IsRref p (widened A n columns) (widened E n columns)
   rref_widened p A E two m long r = record {
     matrix = matrix_widened p E (omega arith) r.matrix (r.width ∙ long);
     width = refl;
@@ -133,7 +133,7 @@ narrowed_matrix p A columns m enough =
     is_matrix_of p A.height (length columns) (λ i k. entry A i (slice_index columns k)) (λ i k l b. entry_residue p A m i (slice_index columns k) l (enough.below k b))
 
 -- so the form of the narrowed matrix, widened, is that of the matrix
-pub form_widened : {p : ℕ} {A : Matrix} {columns : List ℕ} (f : Form) → 2 ≤ p → IsMatrix p A → AreEnough A columns → IsFormOf p (narrowed A columns) f → IsFormOf p A (widened_form f A.width columns)
+form_widened : {p : ℕ} {A : Matrix} {columns : List ℕ} (f : Form) → 2 ≤ p → IsMatrix p A → AreEnough A columns → IsFormOf p (narrowed A columns) f → IsFormOf p A (widened_form f A.width columns)
 form_widened {p} {A} {columns} f two m enough h = record {
   modulus = h.modulus;
   matrix = matrix_widened A.width columns enough.rising enough.below p f.matrix (omega arith) h.matrix h.width;
@@ -146,7 +146,7 @@ form_widened {p} {A} {columns} f two m enough h = record {
 }
 
 -- and the rank stays
-pub rank_widened : {p r : ℕ} {A : Matrix} {columns : List ℕ} → 2 ≤ p → IsMatrix p A → AreEnough A columns → HasRank p (narrowed A columns) r → HasRank p A r
+rank_widened : {p r : ℕ} {A : Matrix} {columns : List ℕ} → 2 ≤ p → IsMatrix p A → AreEnough A columns → HasRank p (narrowed A columns) r → HasRank p A r
 rank_widened {p} {r} {A} {columns} two m enough h = (
   widened h.0 A.width columns,
   subst (λ B. IsRref p B (widened h.0 A.width columns)) (widened_narrowed p A columns m enough)
@@ -154,5 +154,15 @@ rank_widened {p} {r} {A} {columns} two m enough h = (
   h.2,
 )
 
-pub narrow_enough : {A : Matrix} {columns : List ℕ} → AreEnough A columns → length columns ≤ A.width
-narrow_enough {A} {columns} enough = rising_short columns A.width enough.rising enough.below
+-- the same of a matrix that is the narrowed one
+pub narrow_rank : {p q r : ℕ} {A N : Matrix} {columns : List ℕ} → IsMatrix p A → AreEnough A columns → N ≡ narrowed A columns → q ≡ p → (IsPrime q → HasRank q N r) → IsPrime p → HasRank p A r
+narrow_rank {p} {q} {r} {A} {N} {columns} m enough e f rank prime =
+    rank_widened prime.two_or_more m enough (subst (λ M. HasRank p M r) e (subst (λ q. IsPrime q → HasRank q N r) f rank prime))
+
+pub narrow_width : {r : ℕ} {A N : Matrix} {columns : List ℕ} → AreEnough A columns → N ≡ narrowed A columns → r ≤ N.width → r ≤ A.width
+narrow_width {r} {A} {N} {columns} enough e l = omega (arith, ap (λ (M : Matrix). M.width) e, rising_short columns A.width enough.rising enough.below)
+
+pub narrow_form : {p q n : ℕ} {A N : Matrix} {columns : List ℕ} {f e : Form} → 2 ≤ p → IsMatrix p A → AreEnough A columns → N ≡ narrowed A columns → q ≡ p → n ≡ A.width → IsFormOf q N f →
+    e ≡ widened_form f n columns → IsFormOf p A e
+narrow_form {p} {q} {n} {A} {N} {columns} {f} {e} two m enough is same width h made =
+    subst (IsFormOf p A) (sym (made ∙ ap (λ n. widened_form f n columns) width)) (form_widened f two m enough (subst (λ M. IsFormOf p M f) is (subst (λ q. IsFormOf q N f) same h)))

@@ -47,6 +47,8 @@ impl Echelon {
         requires few { workers ≤ 64 }
         ensures { IfOk result (λ e. IsFormOf rows.now.modulus rows.now.matrix e) }
     {
+        // The call's contract tells that the entries are residues.
+        let _ = rows.modulus();
         if is_wide(rows) {
             let columns = rows.occupied(alloc)?;
             let narrow = rows.narrowed(alloc, &columns)?;
@@ -84,6 +86,8 @@ impl Echelon {
         requires below { (k : ℕ) → k < length columns.now → slice_index columns.now k < width }
         ensures { IfOk result (λ e. e ≡ widened_form self width columns.now) }
     {
+        // The call's contract tells that a modulus is not 0.
+        let _ = self.rows.modulus();
         Ok(Echelon {
             rows: self.rows.widened(alloc, width, columns)?,
             leads: named(alloc, columns, &self.leads)?,

@@ -15,6 +15,8 @@ pub fn rank(alloc: Global, rows: &Rows) -> Result<u32, AllocError>
     ensures at_most_height { IfOk result (λ r. r ≤ rows.now.matrix.height) }
     ensures at_most_width { IfOk result (λ r. r ≤ rows.now.matrix.width) }
 {
+    // The call's contract tells that the entries are residues.
+    let _ = rows.modulus();
     if is_wide(rows) {
         let columns = rows.occupied(alloc)?;
         let narrow = rows.narrowed(alloc, &columns)?;
