@@ -1,21 +1,8 @@
-use Rattle.std.proofs.Common.{ℕ, ◌∙◌, List, ap, length, map, subst}
-use Rattle.echelon_form.specs.Settling.{AreSettled}
-use Rattle.echelon_form.proofs.Settled.{echelon_of_form, form_of_settled}
+use Rattle.std.proofs.Common.{◌∙◌, IfOk, arith, subst, sym}
+use Rattle.std.proofs.lemmas.Result.{IfOk-weaker}
+use Rattle.sparse_rows.specs.Rows.{AreEnough}
+use Rattle.echelon_form.proofs.Widening.{narrow_form}
 use Rattle.echelon_form.proofs.echelon.Echelon.of.Goals as goal
 
-pub invariant_of-result : goal.invariant_of-result
-invariant_of-result g c =
-    let order : List (ℕ × ℕ) = c.in_ok-order.order.items in
-    let settled : AreSettled c.in_ok-kept.kept order (length order) c.in_ok-merged.field-0.matrix =
-    subst (λ o. AreSettled c.in_ok-kept.kept o (length o) c.in_ok-merged.field-0.matrix) c.deref-2.ensures.value c.in_ok-merged.ensures.settled in
-    echelon_of_form {p = c.args.rows.now.modulus} {A = c.args.rows.now.matrix} _
-    (form_of_settled c.order_of.ensures.sound c.in_ok-order.ensures.order settled (c.in_ok-leads_of.ensures ∙ ap (map (λ (x : ℕ × ℕ). x.0)) c.deref-4.ensures.value)
-    (c.in_ok-merged.ensures.modulus ∙ c.modulus.ensures.value) c.in_ok-kept.ensures.modulus c.in_ok-kept.ensures.width c.in_ok-kept.ensures.span)
-
-pub returns : goal.returns
-returns g c =
-    let order : List (ℕ × ℕ) = c.in_ok-order.order.items in
-    let settled : AreSettled c.in_ok-kept.kept order (length order) c.in_ok-merged.field-0.matrix =
-    subst (λ o. AreSettled c.in_ok-kept.kept o (length o) c.in_ok-merged.field-0.matrix) c.deref-2.ensures.value c.in_ok-merged.ensures.settled in
-    form_of_settled c.order_of.ensures.sound c.in_ok-order.ensures.order settled (c.in_ok-leads_of.ensures ∙ ap (map (λ (x : ℕ × ℕ). x.0)) c.deref-4.ensures.value)
-    (c.in_ok-merged.ensures.modulus ∙ c.modulus.ensures.value) c.in_ok-kept.ensures.modulus c.in_ok-kept.ensures.width c.in_ok-kept.ensures.span
+pub returns-in_ok-settled : goal.returns-in_ok-settled
+returns-in_ok-settled g c = ?
