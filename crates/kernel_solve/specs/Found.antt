@@ -4,7 +4,7 @@ use Rattle.residue_words.specs.Matrix.{Matrix, IsMatrix}
 use Rattle.row_space.specs.Solution.{IsReducedSolution, IsSolution}
 use Rattle.kernel_solve.specs.declared.systems.Found.{Found}
 use Rattle.kernel_solve.specs.declared.systems.Found.TheVariants.{Solution, Inconsistent}
-use Rattle.kernel_solve.specs.Columns.{column}
+use Rattle.kernel_solve.specs.Column.{column}
 
 -- the reduced solution of A x = b as a column, or that there is no solution
 abbrev pub Answers : ℕ → Matrix → List ℕ → Found → Type 0

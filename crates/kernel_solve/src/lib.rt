@@ -4,9 +4,9 @@
 #![tactic(auto)]
 
 mod bases;
+mod columns;
 mod inverses;
 mod outcome;
-mod places;
 mod systems;
 #[cfg(test)]
 mod tests;
