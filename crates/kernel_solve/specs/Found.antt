@@ -13,5 +13,6 @@ Answers p A b Inconsistent = (x : List ℕ) → ¬ IsSolution p A b x
 
 -- a column of residues modulo p, one row fewer than n, or nothing
 abbrev pub HasShape : ℕ → ℕ → Found → Type 0
-HasShape p n (Solution x) = (x.modulus ≡ p) × IsMatrix p x.matrix × (x.matrix.height + 1 ≡ n) × (x.matrix.width ≡ 1)
+HasShape p n (Solution x) =
+    (x.modulus ≡ p) × IsMatrix p x.matrix × (x.matrix.height + 1 ≡ n) × (x.matrix.width ≡ 1)
 HasShape p n Inconsistent = Unit {0}

@@ -1,12 +1,12 @@
 // Kernel bases.
-ghost use Rattle.std.specs.Prelude.{◌≡◌, ◌≢◌, ◌<◌, ◌≤◌, ◌+◌, ℕ, length, slice_index, IfOk, OnOk};
+ghost use Rattle.std.specs.Prelude.{◌≡◌, ◌<◌, ◌≤◌, ◌+◌, ℕ, length, slice_index, IfOk, OnOk};
 ghost use Rattle.residue_words.specs.Residues.{IsPrime};
 ghost use Rattle.residue_words.specs.Matrix.{Matrix, IsMatrix};
 ghost use Rattle.sparse_rows.specs.Rows.{transposed};
 ghost use Rattle.sparse_rows.specs.Stored.{IsSparse, spread};
 ghost use Rattle.row_space.specs.Kernel.{IsKernel};
 ghost use Rattle.echelon_form.specs.Form.{IsFormOf};
-ghost use Rattle.kernel_solve.specs.ReadOff.{IsBasisRow};
+ghost use Rattle.kernel_solve.specs.ReadOff.{IsBasisRow, IsFree};
 
 use crate::columns::stands_at;
 use echelon_form::Echelon;
@@ -14,14 +14,16 @@ use sparse_rows::{Rows, Sparse};
 use std::alloc::{AllocError, Global};
 use std::thread::Threads;
 
-/// The kernel basis in its reduced form of the matrix that this is the form of: a row for each column that is no lead, in
-/// ascending order (textbook). Beyond the form it takes time proportional to the entries of the form and the basis, and to
-/// the width.
+/// The kernel basis in its reduced form of the matrix that this is the form of: a row for each free column, which is a
+/// column where no row leads, in ascending order (textbook). The row for f has a 1 at f and, at the lead of each row, the
+/// negative of that row's entry in column f. Beyond the form it takes time proportional to the entries of the form and
+/// the basis, and to the width.
 pub fn kernel(alloc: Global, form: &Echelon) -> Result<Rows, AllocError>
     ensures modulus { IfOk result (λ rows. rows.modulus ≡ form.now.modulus) }
     ensures sound { IfOk result (λ rows. IsMatrix rows.modulus rows.matrix) }
     ensures width { IfOk result (λ rows. rows.matrix.width ≡ form.now.matrix.width) }
-    ensures height { IfOk result (λ rows. rows.matrix.height + form.now.matrix.height ≡ form.now.matrix.width) }
+    ensures height { IfOk result (λ rows.
+        rows.matrix.height + form.now.matrix.height ≡ form.now.matrix.width) }
     ensures kernel { IfOk result (λ rows. (p : ℕ) (A : Matrix) → IsPrime p → IsFormOf p A form.now
         → IsKernel p A rows.matrix) }
 {
@@ -47,7 +49,7 @@ pub fn kernel(alloc: Global, form: &Echelon) -> Result<Rows, AllocError>
     Ok(basis)
 }
 
-// Sets a zero row to the basis row of a free column f of a form, which has these values in these rows.
+// Sets a zero row to the basis row of a free column f of a form, where these rows, led before f, have these values.
 pub(crate) fn write_basis_row(
     rows: &[u32],
     values: &[u64],
@@ -56,10 +58,11 @@ pub(crate) fn write_basis_row(
     to: &mut Sparse,
 ) -> Result<(), AllocError>
     requires column { IsSparse to.old.modulus (length leads.now) rows.now values.now }
-    requires rising { (k t : ℕ) → k < t → t < length leads.now → slice_index leads.now k < slice_index leads.now t }
+    requires rising { (k t : ℕ) → k < t → t < length leads.now
+        → slice_index leads.now k < slice_index leads.now t }
     requires leads { (k : ℕ) → k < length leads.now → slice_index leads.now k < length to.old.row }
     requires before { (k : ℕ) → k < length rows.now → slice_index leads.now (slice_index rows.now k) < f }
-    requires free { (k : ℕ) → k < length leads.now → slice_index leads.now k ≢ f }
+    requires free { IsFree leads.now f }
     requires inside { f < length to.old.row }
     requires zero { (j : ℕ) → j < length to.old.row → slice_index to.old.row j ≡ 0 }
     ensures modulus { to.new.modulus ≡ to.old.modulus }

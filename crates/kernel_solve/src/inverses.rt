@@ -1,5 +1,5 @@
 // Inverses.
-ghost use Rattle.std.specs.Prelude.{◌≡◌, ◌≢◌, ◌<◌, ◌≤◌, ◌+◌, ◌*◌, ◌-◌, ◌↔◌, ℕ, length, slice_index, IfOk, OnOk, IsTrue};
+ghost use Rattle.std.specs.Prelude.{◌≡◌, ◌<◌, ◌≤◌, ◌+◌, ◌*◌, ◌-◌, ◌↔◌, ℕ, length, slice_index, IfOk, OnOk, IsTrue};
 ghost use Rattle.residue_words.specs.Residues.{IsPrime};
 ghost use Rattle.residue_words.specs.Matrix.{Matrix, IsMatrix, entry, list_of, row};
 ghost use Rattle.sparse_rows.specs.declared.rows.TheConstants.{LARGEST_SIZE};
@@ -7,6 +7,7 @@ ghost use Rattle.sparse_rows.specs.Rows.{beside, identity, matrix_by};
 ghost use Rattle.row_space.specs.Kernel.{IsKernel};
 ghost use Rattle.echelon_form.specs.Form.{IsFormOf};
 ghost use Rattle.kernel_solve.specs.Inverted.{HasInverseShape, Inverts};
+ghost use Rattle.kernel_solve.specs.ReadOff.{IsFree};
 
 use crate::bases::write_basis_row;
 use crate::columns::column_at;
@@ -16,8 +17,8 @@ use sparse_rows::{Rows, Sparse};
 use std::alloc::{AllocError, Global};
 use std::thread::Threads;
 
-/// The inverse of a square matrix A, or the first row of its kernel basis. It reads off the echelon form of [A | I] (the
-/// method of Gauss and Jordan), and where A has no inverse that of A too.
+/// The inverse of a square matrix A of at most 2^30 rows, or the first row of its kernel basis. It is read off the
+/// echelon form of [A | I] (the method of Gauss and Jordan), and where A has no inverse off that of A.
 pub fn inverse<R: Threads + Sync>(
     rt: &R,
     alloc: Global,
@@ -29,7 +30,8 @@ pub fn inverse<R: Threads + Sync>(
     requires some { 1 ≤ workers }
     requires few { workers ≤ 64 }
     ensures shape { IfOk result (λ found. HasInverseShape a.now.modulus a.now.matrix.width found) }
-    ensures inverse { IfOk result (λ found. IsPrime a.now.modulus → Inverts a.now.modulus a.now.matrix found) }
+    ensures inverse { IfOk result (λ found.
+        IsPrime a.now.modulus → Inverts a.now.modulus a.now.matrix found) }
 {
     let n = a.width();
     let form = form_beside_identity(rt, alloc, a, workers)?;
@@ -74,7 +76,8 @@ fn right_half(alloc: Global, rows: &Rows, n: u32) -> Result<Rows, AllocError>
     requires height { rows.now.matrix.height ≡ n }
     requires width { rows.now.matrix.width ≡ n + n }
     ensures modulus { IfOk result (λ half. half.modulus ≡ rows.now.modulus) }
-    ensures matrix { IfOk result (λ half. half.matrix ≡ matrix_by n n (λ i j. entry rows.now.matrix i (n + j))) }
+    ensures matrix { IfOk result (λ half.
+        half.matrix ≡ matrix_by n n (λ i j. entry rows.now.matrix i (n + j))) }
 {
     let mut half = Rows::with_room(alloc, rows.modulus(), n, n, rows.entries() as usize)?;
     let mut row = Sparse::new(alloc, n, rows.modulus());
@@ -148,13 +151,14 @@ fn first_basis_row(alloc: Global, form: &Echelon) -> Result<Sparse, AllocError>
     Ok(first)
 }
 
-// The first column that is no lead: all before it are.
+// The first free column: all before it are leads.
 fn first_free(leads: &[u32]) -> u32
     requires small { length leads.now ≤ LARGEST_SIZE }
-    requires rising { (k t : ℕ) → k < t → t < length leads.now → slice_index leads.now k < slice_index leads.now t }
+    requires rising { (k t : ℕ) → k < t → t < length leads.now
+        → slice_index leads.now k < slice_index leads.now t }
     ensures few { result ≤ length leads.now }
     ensures before { (k : ℕ) → k < result → slice_index leads.now k ≡ k }
-    ensures free { (k : ℕ) → k < length leads.now → slice_index leads.now k ≢ result }
+    ensures free { IsFree leads.now result }
 {
     for k in 0..leads.len() {
         if leads[k] != k as u32 {

@@ -24,13 +24,14 @@ pub enum Found {
     Inconsistent,
 }
 
-/// The reduced solution of A x = b by the form of [A | b], or that there is no solution. It reads the last column alone, in
-/// the time of a search in each row of the form.
+/// The reduced solution of A x = b by the form of [A | b], or that there is no solution. It reads the last column alone,
+/// in the time of a search in each row of the form.
 pub fn solution(alloc: Global, form: &Echelon) -> Result<Found, AllocError>
     requires { 1 ≤ form.now.matrix.width }
     ensures shape { IfOk result (λ found. HasShape form.now.modulus form.now.matrix.width found) }
     ensures answers { IfOk result (λ found. (p : ℕ) (A B : Matrix) → IsPrime p → IsMatrix p A → IsMatrix p B
-        → A.height ≡ B.height → B.width ≡ 1 → IsFormOf p (beside A B) form.now → Answers p A (column B) found) }
+        → A.height ≡ B.height → B.width ≡ 1 → IsFormOf p (beside A B) form.now
+        → Answers p A (column B) found) }
 {
     let leads = form.leads();
     let last = form.rows().width() - 1;
@@ -47,7 +48,8 @@ fn at_leads(alloc: Global, side: &Sparse, leads: &[u32], n: u32) -> Result<Rows,
     requires small { n ≤ LARGEST_SIZE }
     requires long { length side.now.row ≡ length leads.now }
     requires inside { (k : ℕ) → k < length leads.now → slice_index leads.now k < n }
-    requires rising { (k t : ℕ) → k < t → t < length leads.now → slice_index leads.now k < slice_index leads.now t }
+    requires rising { (k t : ℕ) → k < t → t < length leads.now
+        → slice_index leads.now k < slice_index leads.now t }
     ensures modulus { IfOk result (λ x. x.modulus ≡ side.now.modulus) }
     ensures sound { IfOk result (λ x. IsMatrix x.modulus x.matrix) }
     ensures height { IfOk result (λ x. x.matrix.height ≡ n) }
@@ -64,9 +66,9 @@ fn at_leads(alloc: Global, side: &Sparse, leads: &[u32], n: u32) -> Result<Rows,
     Ok(x)
 }
 
-/// The system of equations for a row combination that refutes A x = b, right-hand sides in the last column: where A x = b
-/// has no solution, its reduced solution y has y A = 0 and y b = 1. It is [A | b] with the row (0, .., 0, 1) below,
-/// transposed, in time proportional to the entries and the sizes.
+/// The system of equations for a row combination that refutes A x = b, right-hand sides in the last column: where
+/// A x = b has no solution, its reduced solution y has y A = 0 and y b = 1. It is [A | b] with the row (0, .., 0, 1)
+/// below, transposed, in time proportional to the entries and the sizes.
 pub fn refuting_system(alloc: Global, a: &Rows, b: &Rows) -> Result<Rows, AllocError>
     requires column { b.now.matrix.width ≡ 1 }
     requires heights { a.now.matrix.height ≡ b.now.matrix.height }
@@ -74,8 +76,8 @@ pub fn refuting_system(alloc: Global, a: &Rows, b: &Rows) -> Result<Rows, AllocE
     requires height { a.now.matrix.height < LARGEST_SIZE }
     requires width { a.now.matrix.width < LARGEST_SIZE }
     ensures modulus { IfOk result (λ rows. rows.modulus ≡ a.now.modulus) }
-    ensures matrix { IfOk result (λ rows. rows.matrix ≡
-        beside (refuting_rows a.now.matrix (column b.now.matrix)) (column_of (refuting_side a.now.matrix.width))) }
+    ensures matrix { IfOk result (λ rows. rows.matrix ≡ beside
+        (refuting_rows a.now.matrix (column b.now.matrix)) (column_of (refuting_side a.now.matrix.width))) }
 {
     let mut system = a.beside(alloc, b)?;
     let mut last = Sparse::new(alloc, system.width(), a.modulus());
@@ -87,7 +89,8 @@ pub fn refuting_system(alloc: Global, a: &Rows, b: &Rows) -> Result<Rows, AllocE
 
 // Whether this is the last of the leads.
 fn ends_at(leads: &[u32], column: u32) -> bool
-    ensures { IsTrue result ↔ ((0 < length leads.now) × (slice_index leads.now (length leads.now - 1) ≡ column)) }
+    ensures { IsTrue result
+        ↔ ((0 < length leads.now) × (slice_index leads.now (length leads.now - 1) ≡ column)) }
 {
     !leads.is_empty() && leads[leads.len() - 1] == column
 }
