@@ -7,7 +7,7 @@ use Rattle.residue_words.specs.Matrix.{Matrix, IsMatrix, IsVector, IsCombination
 use Rattle.row_space.specs.Echelon.{HasLeads, HasRank, IsIndependent, IsRref, SameSpan}
 use Rattle.row_space.specs.Inverse.{HasInverse, IsInverse}
 use Rattle.row_space.specs.Kernel.{HasNull, IsKernel, IsNull}
-use Rattle.row_space.specs.Solution.{IsSolution, IsReducedSolution, IsRefutingCombination, Annuls, beside, refuting_rows, refuting_side}
+use Rattle.row_space.specs.Solution.{IsSolution, IsReducedSolution, IsRefutingCombination, Annuls, augmented, refuting_rows, refuting_side}
 use Rattle.row_space.specs.Factors.{AreFactors, Certificate, IsValid, ShowsKernel, ShowsRref, TellsOf}
 
 -- a matrix has at most one reduced echelon form, rank, kernel basis
@@ -73,11 +73,11 @@ RankGivesRref = (p : ℕ) (A : Matrix) (r : ℕ) (E : Matrix) (leads : List ℕ)
 -- and 0 elsewhere, is the reduced solution
 abbrev pub LastLeadRefutes : Type 0
 LastLeadRefutes = (p : ℕ) (A : Matrix) (b : List ℕ) (E : Matrix) (leads : List ℕ) (k : ℕ) → 2 ≤ p → IsMatrix p A → IsVector p A.height b →
-    IsRref p (beside A b) E → HasLeads E leads → k < E.height → slice_index leads k ≡ A.width → (x : List ℕ) → ¬ IsSolution p A b x
+    IsRref p (augmented A b) E → HasLeads E leads → k < E.height → slice_index leads k ≡ A.width → (x : List ℕ) → ¬ IsSolution p A b x
 
 abbrev pub RrefSolves : Type 0
 RrefSolves = (p : ℕ) (A : Matrix) (b : List ℕ) (E : Matrix) (leads : List ℕ) (x : List ℕ) → 2 ≤ p → IsMatrix p A → IsVector p A.height b →
-    IsRref p (beside A b) E → HasLeads E leads → ((k : ℕ) → k < E.height → slice_index leads k < A.width) →
+    IsRref p (augmented A b) E → HasLeads E leads → ((k : ℕ) → k < E.height → slice_index leads k < A.width) →
     IsVector p A.width x → ((k : ℕ) → k < E.height → slice_index x (slice_index leads k) ≡ entry E k A.width) →
     ((j : ℕ) → j < A.width → slice_index x j ≡ 0 ⊎ ((k : ℕ) × (k < E.height) × (slice_index leads k ≡ j))) →
     IsReducedSolution p A b x
