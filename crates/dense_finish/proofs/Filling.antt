@@ -7,8 +7,8 @@ use Rattle.residue_words.proofs.Vectors.{at_zeros}
 use Rattle.sparse_rows.specs.Rows.{nonzeros, support}
 use Rattle.sparse_rows.specs.Stored.{entry_at}
 use Rattle.sparse_rows.proofs.Spread.{entry_here, entry_push_other, entry_push_same, entry_support}
-use Rattle.dense_finish.specs.Elimination.{AreColumnNames}
-use Rattle.dense_finish.proofs.Naming.{named_or_not}
+use Rattle.dense_finish.specs.Indices.{AreFilledColumns}
+use Rattle.dense_finish.proofs.Indexing.{index_or_not}
 use Rattle.dense_finish.proofs.TakingOut.{vector_set}
 
 -- the first k entries stand in the row
@@ -59,10 +59,10 @@ filling_all {p} {names} {cols} {vals} {k} {v} same le h j l =
     h.entries j l ∙ ap₂ (λ cs vs. entry_at cs vs (slice_index names j)) (take_all k cols le) (take_all k vals (omega arith))
 
 -- each column of a row has a name
-pub column_named : (A : Matrix) (names : List ℕ) (i : ℕ) → AreColumnNames A names → i < A.height → (cols vals : List ℕ) → cols ≡ support (row A i) → vals ≡ nonzeros (row A i) →
+pub column_known : (A : Matrix) (names : List ℕ) (i : ℕ) → AreFilledColumns A names → i < A.height → (cols vals : List ℕ) → cols ≡ support (row A i) → vals ≡ nonzeros (row A i) →
     length cols ≡ length vals → ((s t : ℕ) → s < t → t < length cols → slice_index cols s < slice_index cols t) → ((k : ℕ) → k < length vals → 0 < slice_index vals k) →
     ((k : ℕ) → k < length cols → slice_index cols k < A.width) → (k : ℕ) → k < length cols → (j : ℕ) × (j < length names) × (slice_index names j ≡ slice_index cols k)
-column_named A names i h li cols vals cols-is vals-is even ascending positive below k l = elim (named_or_not (length names) (slice_index names) (slice_index cols k)) [
+column_known A names i h li cols vals cols-is vals-is even ascending positive below k l = elim (index_or_not (length names) (slice_index names) (slice_index cols k)) [
   | inl w ↦ w
   | inr none ↦
       let value : entry A i (slice_index cols k) ≡ slice_index vals k =

@@ -1,0 +1,10 @@
+use Rattle.std.proofs.Common.{◌≡◌, length}
+use Rattle.dense_finish.proofs.Gathering.{IsLeftSoFar}
+use Rattle.dense_finish.proofs.factors.left_factor.Given as goal
+
+abbrev pub invariant-loop-i : goal.invariant-loop-i
+invariant-loop-i g l = record {
+  left : IsLeftSoFar l.p l.filled_rows l.columns l.block l.i l.next l.left;
+  modulus : l.row.modulus ≡ l.p;
+  long : length l.row.row ≡ length l.columns;
+}
