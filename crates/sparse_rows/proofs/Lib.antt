@@ -1,8 +1,11 @@
 pub mod Building
 pub mod Cuts
+pub mod FilledRows
 pub mod Filling
 pub mod Grouping
 pub mod Loops
+pub mod Occurring
+pub mod Renaming
 pub mod Spread
 pub mod Stored
 pub mod Summing

@@ -26,7 +26,7 @@ map_range_equal f g k zero h = refl
 map_range_equal f g k (suc m) h = ap₂ ◌∷◌ (h k (omega arith) (omega arith)) (map_range_equal f g (k + 1) m (λ j l b. h j (omega arith) (omega arith)))
 
 -- at a stored column stands its value
-entry_head : (c : ℕ) (cs : List ℕ) (v : ℕ) (vs : List ℕ) → entry_at (c ∷ cs) (v ∷ vs) c ≡ v
+pub entry_head : (c : ℕ) (cs : List ℕ) (v : ℕ) (vs : List ℕ) → entry_at (c ∷ cs) (v ∷ vs) c ≡ v
 entry_head c cs v vs = cond-true (eqb c c) v (entry_at cs vs c) (eq-eqb c c refl)
 
 -- at another column the first does not count

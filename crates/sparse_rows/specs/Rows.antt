@@ -1,8 +1,9 @@
 -- What compressed rows stand for: a plain matrix with its modulus, a plain row, a list.
-use Rattle.std.specs.Prelude.{◌+◌, ◌%◌, ◌==◌, ◌&&◌, if◌then◌else◌, ℕ, List, [], ◌∷◌, ◌++◌, length, map}
-use Rattle.std.specs.List.{range_with_len}
-use Rattle.residue_words.specs.Matrix.{Matrix, entry, list_of, row}
+use Rattle.std.specs.Prelude.{◌≡◌, ◌≢◌, ◌<◌, ◌≤◌, ◌+◌, ◌%◌, ◌==◌, ◌&&◌, if◌then◌else◌, ℕ, List, [], ◌∷◌, ◌++◌, length, map, replicate, slice_index, Contains}
+use Rattle.std.specs.List.{flat_map, range_with_len}
+use Rattle.residue_words.specs.Matrix.{Matrix, entry, list_of, row, zeros}
 use Rattle.residue_words.specs.Residues.{sum_below}
+use Rattle.sparse_rows.specs.Stored.{entry_at}
 
 -- a matrix of residues, and the modulus
 pub record ResidueMatrix : Type 0 where
@@ -30,6 +31,47 @@ nonzeros (x ∷ xs) = if x == 0 then nonzeros xs else x ∷ nonzeros xs
 abbrev pub entry_count : Matrix → ℕ
 entry_count A = sum_below A.height (λ i. length (support (row A i)))
 
+-- row i of A has an entry other than 0
+abbrev pub IsFilled : Matrix → ℕ → Type 0
+IsFilled A i = 0 < length (support (row A i))
+
+-- row i of A has none
+abbrev pub IsZeroRow : Matrix → ℕ → Type 0
+IsZeroRow A i = support (row A i) ≡ []
+
+-- no row of A from `from` on is filled
+abbrev pub AreZeroFrom : Matrix → ℕ → Type 0
+AreZeroFrom A from = (k : ℕ) → from ≤ k → k < A.height → IsZeroRow A k
+
+-- i is the first filled row of A from `from` on
+pub record IsNextFilled (A : Matrix) (from i : ℕ) : Type 0 where
+  pub low : from ≤ i
+  pub below : i < A.height
+  pub filled : IsFilled A i
+  pub between : (k : ℕ) → from ≤ k → k < i → IsZeroRow A k
+
+-- the numbers ascend
+abbrev pub AreRising : List ℕ → Type 0
+AreRising xs = (k t : ℕ) → k < t → t < length xs → slice_index xs k < slice_index xs t
+
+-- the filled rows of A, ascending
+pub record AreFilled (A : Matrix) (rows : List ℕ) : Type 0 where
+  pub rising : AreRising rows
+  pub below : (k : ℕ) → k < length rows → slice_index rows k < A.height
+  pub filled : (k : ℕ) → k < length rows → IsFilled A (slice_index rows k)
+  pub all : (i : ℕ) → i < A.height → IsFilled A i → Contains rows i
+
+-- ascending columns of A, off which all entries are 0
+pub record AreEnough (A : Matrix) (columns : List ℕ) : Type 0 where
+  pub rising : AreRising columns
+  pub below : (k : ℕ) → k < length columns → slice_index columns k < A.width
+  pub all : (i j : ℕ) → i < A.height → j < A.width → entry A i j ≢ 0 → Contains columns j
+
+-- the columns in which some row of A has an entry, ascending
+pub record AreOccupied (A : Matrix) (columns : List ℕ) : Type 0 where
+  pub enough : AreEnough A columns
+  pub occupied : (k : ℕ) → k < length columns → (i : ℕ) × (i < A.height) × (entry A i (slice_index columns k) ≢ 0)
+
 -- the matrix with these rows by a function of the place
 abbrev pub matrix_by : ℕ → ℕ → (ℕ → ℕ → ℕ) → Matrix
 matrix_by m n f = record { height = m; width = n; rows = map (λ i. list_of n (f i)) (range_with_len 0 m) }
@@ -47,6 +89,26 @@ sum_at i j (t ∷ ts) = (if t.i == i && t.j == j then t.v else 0) + sum_at i j t
 -- the matrix of m x n that is built of these triples: at each place the sum modulo p
 abbrev pub built : ℕ → ℕ → ℕ → List Triple → Matrix
 built p m n ts = matrix_by m n (λ i j. sum_at i j ts % p)
+
+-- the same of a row, a column and a value as code has them
+abbrev pub triple : ℕ × ℕ × ℕ → Triple
+triple t = record { i = t.0; j = t.1; v = t.2 }
+
+-- such a value lies inside a matrix of m x n modulo p
+pub record IsInside (m n p : ℕ) (t : ℕ × ℕ × ℕ) : Type 0 where
+  pub row : t.0 < m
+  pub column : t.1 < n
+  pub residue : t.2 < p
+
+-- the entries of row i at these columns
+abbrev pub row_triples : ℕ → List ℕ → List ℕ → List (ℕ × ℕ × ℕ)
+row_triples i [] vs = []
+row_triples i (c ∷ cs) [] = []
+row_triples i (c ∷ cs) (v ∷ vs) = (i, c, v) ∷ row_triples i cs vs
+
+-- the nonzero entries of A, row by row, by ascending columns
+abbrev pub triples_of : Matrix → List (ℕ × ℕ × ℕ)
+triples_of A = flat_map (λ i. row_triples i (support (row A i)) (nonzeros (row A i))) (range_with_len 0 A.height)
 
 -- what a builder has got so far
 pub record Building : Type 0 where
@@ -68,3 +130,15 @@ selected A rows = record { height = length rows; width = A.width; rows = map (ro
 
 abbrev pub identity : ℕ → Matrix
 identity n = matrix_by n n (λ i j. if i == j then 1 else 0)
+
+-- A with more rows of zeros, at its end
+abbrev pub with_zeros : Matrix → ℕ → Matrix
+with_zeros A count = record { height = A.height + count; width = A.width; rows = A.rows ++ replicate count (zeros A.width) }
+
+-- these columns of A alone
+abbrev pub narrowed : Matrix → List ℕ → Matrix
+narrowed A columns = matrix_by A.height (length columns) (λ i k. entry A i (slice_index columns k))
+
+-- the matrix of n columns that has the columns of A at these columns, and zeros elsewhere
+abbrev pub widened : Matrix → ℕ → List ℕ → Matrix
+widened A n columns = matrix_by A.height n (λ i. entry_at columns (row A i))

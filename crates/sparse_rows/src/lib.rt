@@ -5,6 +5,7 @@
 
 mod builder;
 mod cells;
+mod column_lists;
 mod group;
 mod list;
 mod order;

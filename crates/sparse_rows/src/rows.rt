@@ -1,14 +1,17 @@
 // A matrix as compressed rows.
 ghost use Rattle.residue_words.specs.declared.modulus.TheConstants.{MODULUS_BOUND};
 ghost use Rattle.sparse_rows.specs.declared.rows.TheConstants.{LARGEST_SIZE};
-ghost use Rattle.std.specs.Prelude.{◌≡◌, ◌<◌, ◌≤◌, ◌+◌, ◌*◌, ◌%◌, ◌^◌, ℕ, [], ◌∷◌, ◌++◌, length, slice_index, All, IfOk, OnErr, OnOk};
+ghost use Rattle.std.specs.Prelude.{◌≡◌, ◌<◌, ◌≤◌, ◌+◌, ◌*◌, ◌%◌, ◌^◌, ℕ, [], ◌∷◌, ◌++◌, length, map, slice_index, All, IfOk, OnErr, OnOk};
+ghost use Rattle.std.specs.Option.{MatchOption};
 ghost use Rattle.residue_words.specs.Matrix.{IsMatrix, IsVector, apply, entry, row};
 ghost use Rattle.residue_words.specs.Residues.{sum_below};
 ghost use Rattle.sparse_rows.specs.Cells.{AreEntries, IsWithin, place_of, weight};
-ghost use Rattle.sparse_rows.specs.Rows.{beside, entry_count, identity, matrix_by, nonzeros, selected, support, transposed};
+ghost use Rattle.sparse_rows.specs.Rows.{AreEnough, AreFilled, AreOccupied, AreRising, AreZeroFrom, IsInside, IsNextFilled, beside, built, entry_count, identity, matrix_by, narrowed, nonzeros, row_triples, selected, support, transposed, triple, triples_of, widened, with_zeros};
 ghost use Rattle.sparse_rows.specs.Stored.{IsSparse, spread, with_row};
 
+use crate::builder::RowsBuilder;
 use crate::cells::{Cell, columns, row_starts, values};
+use crate::column_lists::{named_columns, occurring, places_among};
 use crate::group::group;
 use crate::parts::{part, part_numbers};
 use crate::sparse::Sparse;
@@ -93,6 +96,40 @@ impl Rows {
         ensures err { OnErr result (self.new.matrix ≡ self.old.matrix) }
     {
         self.append_slices(row.cols(), row.vals())
+    }
+
+    /// Appends this many rows of zeros. Where memory is wanted the matrix is as before.
+    pub fn append_zeros(&mut self, count: u32) -> Result<(), AllocError>
+        requires height_small { self.old.matrix.height + count ≤ LARGEST_SIZE }
+        ensures modulus { self.new.modulus ≡ self.old.modulus }
+        ensures matrix { OnOk result (self.new.matrix ≡ with_zeros self.old.matrix count) }
+        ensures err { OnErr result (self.new.matrix ≡ self.old.matrix) }
+    {
+        let rows = self.starts.len() + count as usize;
+        self.starts.resize(rows, self.cols.len())?;
+        Ok(())
+    }
+
+    /// The matrix of m rows and n columns that is built of these values, each a row, a column and a residue, in any order:
+    /// at each place stands the sum modulo p.
+    pub fn from_triples(
+        alloc: Global,
+        m: u32,
+        n: u32,
+        p: &Modulus,
+        triples: &[(u32, u32, u64)],
+    ) -> Result<Rows, AllocError>
+        requires height { m ≤ LARGEST_SIZE }
+        requires width { n ≤ LARGEST_SIZE }
+        requires inside { All (IsInside m n p.now) triples.now }
+        ensures modulus { IfOk result (λ rows. rows.modulus ≡ p.now) }
+        ensures matrix { IfOk result (λ rows. rows.matrix ≡ built p.now m n (map triple triples.now)) }
+    {
+        let mut builder = RowsBuilder::new(alloc, m, n, *p)?;
+        for (i, j, v) in triples {
+            builder.push(*i, *j, *v)?;
+        }
+        builder.finish()
     }
 
     // The matrix with these entries, which ascend by places. It takes 12 bytes an entry and 8 bytes a row.
@@ -192,6 +229,89 @@ impl Rows {
         part(&self.vals, &self.starts, i as usize)
     }
 
+    /// The first row from `from` on that has an entry, if there is one. It takes no memory.
+    pub fn next_filled(&self, from: u32) -> Option<u32>
+        ensures { MatchOption result (AreZeroFrom self.now.matrix from) (IsNextFilled self.now.matrix from) }
+    {
+        for i in from..self.height() {
+            if !self.cols(i).is_empty() {
+                return Some(i);
+            }
+        }
+        None
+    }
+
+    /// The rows that have an entry, ascending.
+    pub fn filled(&self, alloc: Global) -> Result<Vec<u32>, AllocError>
+        ensures { IfOk result (λ rows. AreFilled self.now.matrix rows.items) }
+    {
+        let mut filled = Vec::new(alloc);
+        // The proof that i + 1 is no overflow wants to know how high a matrix is.
+        let _ = self.height();
+        let mut from = 0;
+        while let Some(i) = self.next_filled(from) {
+            filled.push(i)?;
+            from = i + 1;
+        }
+        Ok(filled)
+    }
+
+    /// The columns in which some row has an entry, ascending: in time and memory by the entries, times a logarithm where the
+    /// matrix is much wider than it has entries.
+    pub fn occupied(&self, alloc: Global) -> Result<Vec<u32>, AllocError>
+        ensures { IfOk result (λ columns. AreOccupied self.now.matrix columns.items) }
+    {
+        occurring(alloc, self.width, &self.cols)
+    }
+
+    /// The nonzero entries, row by row and by ascending columns: of each the row, the column and the residue.
+    pub fn triples(&self, alloc: Global) -> Result<Vec<(u32, u32, u64)>, AllocError>
+        ensures { IfOk result (λ triples. triples.items ≡ triples_of self.now.matrix) }
+    {
+        let mut triples = Vec::with_capacity(alloc, self.cols.len())?;
+        let mut from = 0;
+        while let Some(i) = self.next_filled(from) {
+            self.list_row(i, &mut triples)?;
+            from = i + 1;
+        }
+        Ok(triples)
+    }
+
+    /// These columns alone, where all entries stand in them: in time by the entries, times a logarithm of how many columns
+    /// are named, and the height.
+    pub fn narrowed(&self, alloc: Global, columns: &[u32]) -> Result<Rows, AllocError>
+        requires { AreEnough self.now.matrix columns.now }
+        ensures modulus { IfOk result (λ rows. rows.modulus ≡ self.now.modulus) }
+        ensures matrix { IfOk result (λ rows. rows.matrix ≡ narrowed self.now.matrix columns.now) }
+    {
+        Ok(Rows {
+            modulus: self.modulus,
+            width: columns.len() as u32,
+            starts: Vec::from_slice(alloc, &self.starts)?,
+            cols: places_among(alloc, columns, &self.cols)?,
+            vals: Vec::from_slice(alloc, &self.vals)?,
+        })
+    }
+
+    /// The matrix of this width that has the columns of this one at these columns, which ascend, and zeros elsewhere: in time
+    /// by the entries and the height.
+    pub fn widened(&self, alloc: Global, width: u32, columns: &[u32]) -> Result<Rows, AllocError>
+        requires width { width ≤ LARGEST_SIZE }
+        requires many { length columns.now ≡ self.now.matrix.width }
+        requires rising { AreRising columns.now }
+        requires below { (k : ℕ) → k < length columns.now → slice_index columns.now k < width }
+        ensures modulus { IfOk result (λ rows. rows.modulus ≡ self.now.modulus) }
+        ensures matrix { IfOk result (λ rows. rows.matrix ≡ widened self.now.matrix width columns.now) }
+    {
+        Ok(Rows {
+            modulus: self.modulus,
+            width,
+            starts: Vec::from_slice(alloc, &self.starts)?,
+            cols: named_columns(alloc, columns, &self.cols)?,
+            vals: Vec::from_slice(alloc, &self.vals)?,
+        })
+    }
+
     /// The transposed matrix, in time proportional to the entries, the width and the height.
     pub fn transpose(&self, alloc: Global) -> Result<Rows, AllocError>
         ensures modulus { IfOk result (λ rows. rows.modulus ≡ self.now.modulus) }
@@ -278,6 +398,20 @@ impl Rows {
             sum = sum.saturating_add(self.cols(*i).len());
         }
         sum
+    }
+
+    // Appends the entries of row i.
+    fn list_row(&self, i: u32, triples: &mut Vec<(u32, u32, u64)>) -> Result<(), AllocError>
+        requires { i < self.now.matrix.height }
+        ensures { OnOk result (triples.new.items ≡ triples.old.items
+            ++ row_triples i (support (row self.now.matrix i)) (nonzeros (row self.now.matrix i))) }
+    {
+        let cols = self.cols(i);
+        let vals = self.vals(i);
+        for k in 0..cols.len() {
+            triples.push((i, cols[k], vals[k]))?;
+        }
+        Ok(())
     }
 
     // Sets the entries of `to` from `by` on to those of row i: `to` is 0 there and behind.

@@ -1,0 +1,11 @@
+use Rattle.std.proofs.Common.{◌≡◌, ◌∙◌, ap, map}
+use Rattle.std.proofs.lemmas.List.{take_all}
+use Rattle.std.proofs.lemmas.Result.{IfOk-weaker}
+use Rattle.sparse_rows.specs.Rows.{Building, built, triple}
+use Rattle.sparse_rows.proofs.rows.Rows.from_triples.Goals as goal
+
+pub returns-clause-matrix : goal.returns-clause-matrix
+returns-clause-matrix c =
+    let all : c.loop-i.builder ≡ record { modulus = c.args.p.now; height = c.args.m; width = c.args.n; pushed = map triple c.args.triples.now } =
+    c.loop-i.invariant ∙ ap (λ ts. record { modulus = c.args.p.now; height = c.args.m; width = c.args.n; pushed = map triple ts }) (take_all c.loop-i.i-index c.args.triples.now c.loop-i-test.false) in
+    IfOk-weaker c.finish.result _ _ (λ rows h. h ∙ ap (λ (b : Building). built b.modulus b.height b.width b.pushed) all) c.finish.ensures.matrix

@@ -1,0 +1,26 @@
+-- Lists of columns: which occur, and at which places they stand.
+use Rattle.std.specs.Prelude.{◌≡◌, ◌<◌, ◌↔◌, ℕ, Bool, true, false, List, length, map, slice_index, slice_index_or, Contains}
+use Rattle.sparse_rows.specs.Rows.{AreRising}
+
+-- the columns named stand at these places among others
+pub record ArePlaces (columns named places : List ℕ) : Type 0 where
+  pub are : map (slice_index columns) places ≡ named
+  pub below : (k : ℕ) → k < length places → slice_index places k < length columns
+
+-- the columns that occur in a list, ascending
+pub record AreOccurring (columns found : List ℕ) : Type 0 where
+  pub rising : AreRising found
+  pub inside : (k : ℕ) → k < length found → Contains columns (slice_index found k)
+  pub all : (j : ℕ) → Contains columns j → Contains found j
+
+-- a mark for each column below n says whether it occurs in a list
+pub record AreMarks (n : ℕ) (columns : List ℕ) (marks : List Bool) : Type 0 where
+  pub long : length marks ≡ n
+  pub each : (j : ℕ) → j < n → (slice_index_or marks j false ≡ true) ↔ Contains columns j
+
+-- the columns that are marked, ascending
+pub record AreMarked (marks : List Bool) (found : List ℕ) : Type 0 where
+  pub rising : AreRising found
+  pub below : (k : ℕ) → k < length found → slice_index found k < length marks
+  pub marked : (k : ℕ) → k < length found → slice_index_or marks (slice_index found k) false ≡ true
+  pub all : (j : ℕ) → slice_index_or marks j false ≡ true → Contains found j
