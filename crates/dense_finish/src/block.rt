@@ -1,7 +1,7 @@
 // The dense block of a sparse matrix.
 ghost use Rattle.std.specs.Prelude.{◌≡◌, IfOk};
 ghost use Rattle.dense_finish.specs.Block.{IsBlock};
-ghost use Rattle.dense_finish.specs.Indices.{AreFilledColumns, AreFilledRows};
+ghost use Rattle.sparse_rows.specs.Rows.{AreFilled, AreOccupied};
 
 use crate::dense::Dense;
 use crate::residue::Residue;
@@ -19,8 +19,8 @@ pub(crate) fn block_of<W: Residue>(
 ) -> Result<Vec<Dense<W>>, AllocError>
     requires modulus { W.serves p.now }
     requires same { p.now ≡ rows.now.modulus }
-    requires rows { AreFilledRows rows.now.matrix filled_rows.now }
-    requires columns { AreFilledColumns rows.now.matrix columns.now }
+    requires rows { AreFilled rows.now.matrix filled_rows.now }
+    requires columns { AreOccupied rows.now.matrix columns.now }
     ensures { IfOk result (λ block. IsBlock p.now rows.now.matrix filled_rows.now columns.now block.items) }
 {
     let mut block = Vec::with_capacity(alloc, filled_rows.len())?;

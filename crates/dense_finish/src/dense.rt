@@ -1,9 +1,10 @@
 // One dense row.
 ghost use Rattle.std.specs.Prelude.{◌≡◌, ◌<◌, ◌≤◌, ℕ, length, slice_index, slice_set, IfOk, OnOk, IfSome, IfNone};
 ghost use Rattle.residue_words.specs.Matrix.{IsVector, zeros};
+ghost use Rattle.sparse_rows.specs.Rows.{AreRising};
 ghost use Rattle.sparse_rows.specs.declared.rows.TheConstants.{LARGEST_SIZE};
 ghost use Rattle.dense_finish.specs.Dense.{AreEntriesAt, Gathers, IsClear, IsFirstFree, IsPivotOf, KeepsCoefficients, Scatters, TakesOut};
-ghost use Rattle.dense_finish.specs.Indices.{AreAscending, AreBelow};
+ghost use Rattle.dense_finish.specs.Indices.{AreBelow};
 ghost use Rattle.dense_finish.specs.Multiples.{plus_multiple};
 
 use crate::residue::Residue;
@@ -53,8 +54,8 @@ impl<W: Residue> Dense<W> {
         requires modulus { W.serves p.now }
         requires long { length vals.now ≡ length cols.now }
         requires residues { (k : ℕ) → k < length vals.now → slice_index vals.now k < p.now }
-        requires ascending { AreAscending cols.now }
-        requires rising { AreAscending columns.now }
+        requires ascending { AreRising cols.now }
+        requires rising { AreRising columns.now }
         requires known { (k : ℕ) → k < length cols.now → (j : ℕ) × (j < length columns.now)
             × (slice_index columns.now j ≡ slice_index cols.now k) }
         ensures vector { IfOk result (IsVector p.now (length columns.now)) }
@@ -183,7 +184,7 @@ impl<W: Residue> Dense<W> {
         requires residues { IsVector to.old.modulus (length columns.now) self.now }
         requires zero { to.old.row ≡ zeros (length to.old.row) }
         requires inside { AreBelow (length to.old.row) columns.now }
-        requires rising { AreAscending columns.now }
+        requires rising { AreRising columns.now }
         ensures modulus { to.new.modulus ≡ to.old.modulus }
         ensures row { OnOk result (Scatters (length to.old.row) columns.now self.now to.new.row) }
     {

@@ -2,17 +2,17 @@
 ghost use Rattle.std.specs.Prelude.{◌≡◌, ◌<◌, ◌≤◌, ℕ, length, IfOk, OnOk};
 ghost use Rattle.residue_words.specs.Matrix.{IsVector};
 ghost use Rattle.residue_words.specs.Residues.{IsPrime};
+ghost use Rattle.sparse_rows.specs.Rows.{AreRising};
 ghost use Rattle.sparse_rows.specs.declared.rows.TheConstants.{LARGEST_SIZE};
 ghost use Rattle.dense_finish.specs.Block.{AreVectors};
 ghost use Rattle.dense_finish.specs.Dense.{IsFirstFree, IsPivotOf, KeepsCoefficients};
 ghost use Rattle.dense_finish.specs.Factors.{IsFactored};
-ghost use Rattle.dense_finish.specs.Indices.{AreAscending, AreBelow};
+ghost use Rattle.dense_finish.specs.Indices.{AreBelow};
 ghost use Rattle.dense_finish.specs.Pivots.{AddsPivot, AreEliminated, AreFound, IsPanelFrom, KeepsSplit, SplitBy, count, pivot_at, stage};
 
 use crate::block::block_of;
 use crate::dense::Dense;
 use crate::factors::{Factors, left_factor};
-use crate::indices::{filled_columns, filled_rows};
 use crate::panel::Panel;
 use crate::pivots::Pivots;
 use crate::residue::Residue;
@@ -61,8 +61,8 @@ fn finish_in<R: Threads + Sync, W: Residue>(
     ensures { IfOk result (IsFactored rows.now.modulus rows.now.matrix) }
 {
     let height = rows.height();
-    let filled = filled_rows(alloc, rows)?;
-    let columns = filled_columns(alloc, rows)?;
+    let filled = rows.filled(alloc)?;
+    let columns = rows.occupied(alloc)?;
     let mut block = block_of::<W>(alloc, rows, &filled, &columns, p)?;
     let pivots = eliminate(rt, alloc, &mut block, &columns, rows.width(), p, workers)?;
     let l = left_factor(
@@ -99,7 +99,7 @@ fn eliminate<R: Threads + Sync, W: Residue>(
     requires low { length block.old ≤ LARGEST_SIZE }
     requires few { length columns.now ≤ LARGEST_SIZE }
     requires inside { AreBelow width columns.now }
-    requires rising { AreAscending columns.now }
+    requires rising { AreRising columns.now }
     requires residues { AreVectors p.now (length columns.now) block.old }
     ensures found { IfOk result (AreFound p.now columns.now width (length block.old)) }
     ensures eliminated { IfOk result (λ pivots.
@@ -133,7 +133,7 @@ fn find_pivots<W: Residue>(
     requires low { length block.old ≤ LARGEST_SIZE }
     requires few { length columns.now ≤ LARGEST_SIZE }
     requires inside { AreBelow pivots.old.u.matrix.width columns.now }
-    requires rising { AreAscending columns.now }
+    requires rising { AreRising columns.now }
     requires found { AreFound p.now columns.now pivots.old.u.matrix.width start pivots.old }
     requires eliminated { AreEliminated p.now (length columns.now) start pivots.old block.old }
     ensures found { IfOk result (λ _. AreFound p.now columns.now pivots.old.u.matrix.width end pivots.new) }
@@ -171,7 +171,7 @@ fn take_pivot<W: Residue>(
     requires first { IsFirstFree row.old pivots.old.taken.items c }
     requires found { AreFound p.now columns.now pivots.old.u.matrix.width i pivots.old }
     requires inside { AreBelow pivots.old.u.matrix.width columns.now }
-    requires rising { AreAscending columns.now }
+    requires rising { AreRising columns.now }
     ensures pivot { IfOk result (IsPivotOf p.now c pivots.old.taken.items row.old) }
     ensures added { IfOk result (λ pivot. AddsPivot columns.now (pivot_at i c pivot) pivots.old pivots.new) }
     ensures kept { OnOk result (KeepsCoefficients p.now c pivots.old.taken.items row.old row.new) }

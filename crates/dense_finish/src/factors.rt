@@ -1,9 +1,10 @@
 // Factors of a matrix.
-ghost use Rattle.std.specs.Prelude.{◌≡◌, ◌<◌, ◌≤◌, ℕ, length, slice_index, IfOk};
+ghost use Rattle.std.specs.Prelude.{◌≡◌, ◌≤◌, ◌-◌, length, IfOk, OnOk};
 ghost use Rattle.residue_words.specs.Matrix.{IsMatrix};
+ghost use Rattle.sparse_rows.specs.Rows.{AreRising, with_zeros};
 ghost use Rattle.sparse_rows.specs.declared.rows.TheConstants.{LARGEST_SIZE};
 ghost use Rattle.dense_finish.specs.Block.{AreVectors};
-ghost use Rattle.dense_finish.specs.Indices.{AreAscending, AreBelow};
+ghost use Rattle.dense_finish.specs.Indices.{AreBelow};
 ghost use Rattle.dense_finish.specs.Factors.{IsLeft};
 
 use crate::dense::Dense;
@@ -40,24 +41,34 @@ pub(crate) fn left_factor<W: Residue>(
     requires few { length columns.now ≤ LARGEST_SIZE }
     requires long { length block.now ≡ length filled_rows.now }
     requires below { AreBelow m filled_rows.now }
-    requires rising { AreAscending filled_rows.now }
+    requires rising { AreRising filled_rows.now }
     requires residues { AreVectors p.now n block.now }
     requires inside { AreBelow n columns.now }
     ensures modulus { IfOk result (λ left. left.modulus ≡ p.now) }
     ensures residues { IfOk result (λ left. IsMatrix p.now left.matrix) }
     ensures left { IfOk result (λ left. IsLeft m filled_rows.now columns.now block.now left.matrix) }
 {
+    // The call's contract tells the range of the modulus.
+    let _ = p.p();
     let width = columns.len() as u32;
-    let mut left = Rows::with_room(alloc, *p, width, m, 0)?;
+    let mut left = Rows::with_room(alloc, *p, width, m, filled_rows.len())?;
     let mut row = Sparse::new(alloc, width, *p);
-    let mut next = 0;
-    for i in 0..m {
+    for t in 0..filled_rows.len() {
+        pad(&mut left, filled_rows[t])?;
         row.clear();
-        if next < filled_rows.len() && filled_rows[next] == i {
-            block[next].gather(columns, &mut row)?;
-            next += 1;
-        }
+        block[t].gather(columns, &mut row)?;
         left.append(&row)?;
     }
+    pad(&mut left, m)?;
     Ok(left)
+}
+
+// Appends rows of zeros until the matrix has this height.
+fn pad(rows: &mut Rows, height: u32) -> Result<(), AllocError>
+    requires low { rows.old.matrix.height ≤ height }
+    requires small { height ≤ LARGEST_SIZE }
+    ensures modulus { rows.new.modulus ≡ rows.old.modulus }
+    ensures matrix { OnOk result (rows.new.matrix ≡ with_zeros rows.old.matrix (height - rows.old.matrix.height)) }
+{
+    rows.append_zeros(height - rows.height())
 }

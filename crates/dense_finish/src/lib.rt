@@ -5,7 +5,6 @@ mod block;
 mod dense;
 mod elimination;
 mod factors;
-mod indices;
 mod lane_addition;
 mod multiplier;
 mod panel;

@@ -1,8 +1,9 @@
 // The pivots that an elimination finds.
 ghost use Rattle.std.specs.Prelude.{◌≡◌, ◌<◌, ◌≤◌, ℕ, length, slice_index, IfOk, OnOk};
 ghost use Rattle.residue_words.specs.Matrix.{IsVector};
+ghost use Rattle.sparse_rows.specs.Rows.{AreRising};
 ghost use Rattle.sparse_rows.specs.declared.rows.TheConstants.{LARGEST_SIZE};
-ghost use Rattle.dense_finish.specs.Indices.{AreAscending, AreBelow};
+ghost use Rattle.dense_finish.specs.Indices.{AreBelow};
 
 use crate::dense::Dense;
 use crate::residue::Residue;
@@ -61,7 +62,7 @@ impl Pivots {
         requires residues { IsVector p.now (length columns.now) row.now }
         requires found { AreFound p.now columns.now self.old.u.matrix.width i self.old }
         requires inside { AreBelow self.old.u.matrix.width columns.now }
-        requires rising { AreAscending columns.now }
+        requires rising { AreRising columns.now }
         ensures { OnOk result (AddsPivot columns.now (pivot_at i c row.now) self.old self.new) }
     {
         let mut entries = Sparse::new(alloc, self.u.width(), *p);

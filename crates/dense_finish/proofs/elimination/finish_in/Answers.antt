@@ -2,15 +2,16 @@ use Rattle.std.proofs.Common.{ℕ, List, ◌≡◌, ◌∙◌, ap, arith, length
 use Rattle.residue_words.specs.Matrix.{IsVector}
 use Rattle.dense_finish.specs.Block.{block_row}
 use Rattle.dense_finish.proofs.Assembling.{factored, indices_few}
+use Rattle.dense_finish.proofs.Indexing.{filled_indices, occupied_indices}
 use Rattle.dense_finish.proofs.Parts.{refilled}
 use Rattle.dense_finish.proofs.elimination.finish_in.Goals as goal
 
 pub eliminate-requires-clause-low : goal.eliminate-requires-clause-low
 eliminate-requires-clause-low g c κs within =
-    omega (arith, ap length c.deref_mut.ensures.value, c.in_ok-block.ensures.long, ap length c.deref.ensures.value, indices_few c.in_ok-filled.ensures, c.height-height.ensures.value, c.height-height.ensures.bound)
+    omega (arith, ap length c.deref_mut.ensures.value, c.in_ok-block.ensures.long, ap length c.deref.ensures.value, indices_few (filled_indices c.in_ok-filled.ensures), c.height-height.ensures.value, c.height-height.ensures.bound)
 
 pub eliminate-requires-clause-few : goal.eliminate-requires-clause-few
-eliminate-requires-clause-few g c κs within = omega (arith, ap length c.deref-3.ensures.value, indices_few c.in_ok-columns.ensures, c.width.ensures.value, c.width.ensures.bound)
+eliminate-requires-clause-few g c κs within = omega (arith, ap length c.deref-3.ensures.value, indices_few (occupied_indices c.in_ok-columns.ensures), c.width.ensures.value, c.width.ensures.bound)
 
 pub left_factor-requires-clause-rising : goal.left_factor-requires-clause-rising
 left_factor-requires-clause-rising g c κs within = rw c.deref-5.ensures.value c.in_ok-filled.ensures.rising
@@ -39,4 +40,4 @@ returns g c =
     let l = rw (c.height-height.ensures.value, c.deref-5.ensures.value, c.deref-6.ensures.value, left) at c.in_ok-l.ensures.left in
     let places = rw (c.deref-7.ensures.value, c.deref-8.ensures.value) at c.in_ok-places.ensures in
     let sound = rw (← c.requires.same) at c.height-height.ensures.sound in
-    rw (← c.requires.same) (factored sound c.in_ok-filled.ensures c.in_ok-columns.ensures is_block found eliminated split c.in_ok-l.ensures.modulus c.in_ok-l.ensures.residues l places)
+    rw (← c.requires.same) (factored sound (filled_indices c.in_ok-filled.ensures) (occupied_indices c.in_ok-columns.ensures) is_block found eliminated split c.in_ok-l.ensures.modulus c.in_ok-l.ensures.residues l places)
