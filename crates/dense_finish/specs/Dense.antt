@@ -6,13 +6,15 @@ use Rattle.sparse_rows.specs.Stored.{entry_at}
 
 -- the entries, at these columns, of the row of these columns and values
 abbrev pub AreEntriesAt : List ℕ → List ℕ → List ℕ → List ℕ → Type 0
-AreEntriesAt cols vals columns v = (j : ℕ) → j < length columns → slice_index v j ≡ entry_at cols vals (slice_index columns j)
+AreEntriesAt cols vals columns v = (j : ℕ) → j < length columns →
+    slice_index v j ≡ entry_at cols vals (slice_index columns j)
 
 -- v is w and the multiple of q by v's entry at column c; there w keeps this entry
 pub record TakesOut (p c : ℕ) (q v w : List ℕ) : Type 0 where
   pub vector : IsVector p (length v) w
   pub coefficient : slice_index w c ≡ slice_index v c
-  pub sum : (j : ℕ) → j < length v → j ≢ c → slice_index v j ≡ (slice_index w j + slice_index v c * slice_index q j) % p
+  pub sum : (j : ℕ) → j < length v → j ≢ c →
+      slice_index v j ≡ (slice_index w j + slice_index v c * slice_index q j) % p
 
 -- column j is not a pivot's
 abbrev pub IsFree : List Bool → ℕ → Type 0
@@ -29,7 +31,7 @@ pub record IsFirstFree (v : List ℕ) (taken : List Bool) (c : ℕ) : Type 0 whe
 abbrev pub IsClear : List Bool → List ℕ → Type 0
 IsClear taken v = (j : ℕ) → j < length v → IsFree taken j → slice_index v j ≡ 0
 
--- q is 1 at column c, 0 before it and at the columns that aren't free; at the others, v is for a prime modulus the
+-- q is 1 at column c, 0 before it and at the columns that aren't free; at the others, for a prime modulus, v is the
 -- multiple of q by v's entry at c
 pub record IsPivotOf (p c : ℕ) (taken : List Bool) (v q : List ℕ) : Type 0 where
   pub vector : IsVector p (length v) q

@@ -6,7 +6,7 @@ use Rattle.row_space.specs.Factors.{AreFactors, FitAsFactors}
 use Rattle.dense_finish.specs.Block.{entry_of}
 use Rattle.dense_finish.specs.declared.factors.Factors.{Factors}
 
--- factors of A modulo p: sizes, residues and places of pivots for every modulus, and valid factors for a prime one
+-- factors of A modulo p: sizes, residues and places of pivots for every modulus, and valid ones for a prime one
 pub record IsFactored (p : ℕ) (A : Matrix) (f : Factors) : Type 0 where
   pub left_modulus : f.l.modulus ≡ p
   pub right_modulus : f.u.modulus ≡ p

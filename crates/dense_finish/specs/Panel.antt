@@ -16,21 +16,26 @@ abbrev pub no_pivots : ℕ → PanelRows
 no_pivots n = record { width = n; columns = []; rows = [] }
 
 abbrev pub with_pivot : PanelRows → ℕ → List ℕ → PanelRows
-with_pivot panel c q = record { width = panel.width; columns = panel.columns ++ c ∷ []; rows = panel.rows ++ q ∷ [] }
+with_pivot panel c q = record {
+  width = panel.width;
+  columns = panel.columns ++ c ∷ [];
+  rows = panel.rows ++ q ∷ [];
+}
 
 -- rows of residues, one for each column, which are 0 before it
 pub record ArePivots (p : ℕ) (panel : PanelRows) : Type 0 where
   pub long : length panel.rows ≡ length panel.columns
   pub inside : (k : ℕ) → k < length panel.columns → slice_index panel.columns k < panel.width
   pub vectors : (k : ℕ) → k < length panel.columns → IsVector p panel.width (block_row panel.rows k)
-  pub before : (k j : ℕ) → k < length panel.columns → j < slice_index panel.columns k → entry_of panel.rows k j ≡ 0
+  pub before : (k j : ℕ) → k < length panel.columns → j < slice_index panel.columns k →
+      entry_of panel.rows k j ≡ 0
 
 -- the pivots from the r-th on are the panel's
 pub record Continues {p n : ℕ} (P : PivotSequence p n) (r : ℕ) (panel : PanelRows) : Type 0 where
   pub stands : (k : ℕ) → k < length panel.columns → P.column (r + k) ≡ slice_index panel.columns k
   pub entries : (k j : ℕ) → k < length panel.columns → j < n → P.entry (r + k) j ≡ entry_of panel.rows k j
 
--- w is what the panel leaves of v: whatever splits into v by the pivots before it, splits into w with the panel's too
+-- w is what the panel leaves of v: whatever splits into v by the pivots before it splits into w by the panel's too
 pub record PanelReduces (p : ℕ) (panel : PanelRows) (v w : List ℕ) : Type 0 where
   pub vector : IsVector p panel.width w
   pub split : (P : PivotSequence p panel.width) (r : ℕ) (b : List ℕ) → Continues P r panel →
@@ -39,4 +44,5 @@ pub record PanelReduces (p : ℕ) (panel : PanelRows) (v w : List ℕ) : Type 0 
 
 -- each of these rows
 abbrev pub PanelReducesEach : ℕ → PanelRows → List (List ℕ) → List (List ℕ) → Type 0
-PanelReducesEach p panel old new = (t : ℕ) → t < length old → PanelReduces p panel (block_row old t) (block_row new t)
+PanelReducesEach p panel old new = (t : ℕ) → t < length old →
+    PanelReduces p panel (block_row old t) (block_row new t)

@@ -21,10 +21,13 @@ filled_entry U columns k j = entry U k (slice_index columns j)
 
 -- the pivots as a block with these columns has them
 abbrev pub pivot_sequence : (p : ℕ) (columns : List ℕ) → Pivots → PivotSequence p (length columns)
-pivot_sequence p columns f = record { column = slice_index f.columns.items; entry = filled_entry f.u.matrix columns }
+pivot_sequence p columns f = record {
+  column = slice_index f.columns.items;
+  entry = filled_entry f.u.matrix columns;
+}
 
--- pivots of the first i rows: their rows ascend, their rows of U stand in steps and are 0 but at the block's columns,
--- and their columns are marked
+-- pivots of the first i rows: their rows ascend, their rows of U stand in steps and are 0 but at the block's
+-- columns, and their columns are marked
 pub record AreFound (p : ℕ) (columns : List ℕ) (width i : ℕ) (f : Pivots) : Type 0 where
   pub modulus : f.u.modulus ≡ p
   pub matrix : IsMatrix p f.u.matrix
@@ -38,7 +41,8 @@ pub record AreFound (p : ℕ) (columns : List ℕ) (width i : ℕ) (f : Pivots) 
   pub unnamed : (k x : ℕ) → k < count f → x < width →
       ((j : ℕ) → j < length columns → slice_index columns j ≢ x) → entry f.u.matrix k x ≡ 0
   pub marks : length f.taken.items ≡ length columns
-  pub marked : (k : ℕ) → k < count f → slice_index_or f.taken.items (slice_index f.columns.items k) false ≡ true
+  pub marked : (k : ℕ) → k < count f →
+      slice_index_or f.taken.items (slice_index f.columns.items k) false ≡ true
   pub only : (j : ℕ) → j < length columns → slice_index_or f.taken.items j false ≡ true →
       IsTaken (count f) (slice_index f.columns.items) j
 
@@ -64,8 +68,10 @@ pub record AddsPivot (filled : List ℕ) (pivot : NewPivot) (old new : Pivots) :
 -- the first i rows hold coefficients alone: of a pivot's row the last, at its column, is not 0
 pub record AreEliminated (p n i : ℕ) (f : Pivots) (rows : List (List ℕ)) : Type 0 where
   pub vectors : AreVectors p n rows
-  pub clear : (t j : ℕ) → t < i → j < n → (IsTaken (count f) (slice_index f.columns.items) j → ⊥) → entry_of rows t j ≡ 0
-  pub leads : (k : ℕ) → k < count f → entry_of rows (slice_index f.rows.items k) (slice_index f.columns.items k) ≢ 0
+  pub clear : (t j : ℕ) → t < i → j < n → (IsTaken (count f) (slice_index f.columns.items) j → ⊥) →
+      entry_of rows t j ≡ 0
+  pub leads : (k : ℕ) → k < count f →
+      entry_of rows (slice_index f.rows.items k) (slice_index f.columns.items k) ≢ 0
   pub after : (k t : ℕ) → k < t → t < count f →
       entry_of rows (slice_index f.rows.items k) (slice_index f.columns.items t) ≡ 0
 
@@ -86,7 +92,7 @@ pub record AreSplit (p : ℕ) (columns : List ℕ) (r : ℕ) (block : List (List
   pub ahead : (t : ℕ) → s.done ≤ t → t < length block →
       IsSplit (pivot_sequence p columns s.pivots) r (block_row block t) (block_row s.rows t)
 
--- whatever block splits into `old` by its pivots splits into `new`, whose rows ahead are reduced by the pivots of `old`
+-- whatever block splits into `old` by its pivots splits into `new`, whose rows ahead are reduced by those of `old`
 abbrev pub KeepsSplit : ℕ → List ℕ → Stage → Stage → Type 0
 KeepsSplit p columns old new = (block : List (List ℕ)) →
     AreSplit p columns (count old.pivots) block old → AreSplit p columns (count old.pivots) block new

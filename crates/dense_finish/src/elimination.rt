@@ -104,7 +104,8 @@ fn eliminate<R: Threads + Sync, W: Residue>(
     ensures found { IfOk result (AreFound p.now columns.now width (length block.old)) }
     ensures eliminated { IfOk result (λ pivots.
         AreEliminated p.now (length columns.now) (length block.old) pivots block.new) }
-    ensures split { IsPrime p.now → IfOk result (λ pivots. SplitBy p.now columns.now pivots block.old block.new) }
+    ensures split { IsPrime p.now → IfOk result (λ pivots.
+        SplitBy p.now columns.now pivots block.old block.new) }
 {
     let mut pivots = Pivots::new(alloc, columns, width, p)?;
     let mut start = 0;
@@ -137,7 +138,8 @@ fn find_pivots<W: Residue>(
     requires found { AreFound p.now columns.now pivots.old.u.matrix.width start pivots.old }
     requires eliminated { AreEliminated p.now (length columns.now) start pivots.old block.old }
     ensures found { IfOk result (λ _. AreFound p.now columns.now pivots.old.u.matrix.width end pivots.new) }
-    ensures eliminated { IfOk result (λ _. AreEliminated p.now (length columns.now) end pivots.new block.new) }
+    ensures eliminated { IfOk result (λ _.
+        AreEliminated p.now (length columns.now) end pivots.new block.new) }
     ensures panel { IfOk result (IsPanelFrom p.now columns.now (count pivots.old) pivots.new) }
     ensures split { IsPrime p.now → IfOk result (λ _. KeepsSplit p.now columns.now
         (stage pivots.old block.old start) (stage pivots.new block.new end)) }

@@ -68,7 +68,8 @@ fn pad(rows: &mut Rows, height: u32) -> Result<(), AllocError>
     requires low { rows.old.matrix.height ≤ height }
     requires small { height ≤ LARGEST_SIZE }
     ensures modulus { rows.new.modulus ≡ rows.old.modulus }
-    ensures matrix { OnOk result (rows.new.matrix ≡ with_zeros rows.old.matrix (height - rows.old.matrix.height)) }
+    ensures matrix { OnOk result (
+        rows.new.matrix ≡ with_zeros rows.old.matrix (height - rows.old.matrix.height)) }
 {
     rows.append_zeros(height - rows.height())
 }

@@ -119,7 +119,8 @@ impl<W: Residue> Panel<W> {
             rows,
             size,
             |_at: usize, piece: &mut [Dense<W>]|
-                requires { W.serves p.now × AreVectors p.now self.now.width piece.old × ArePivots p.now self.now }
+                requires { W.serves p.now × AreVectors p.now self.now.width piece.old
+                    × ArePivots p.now self.now }
                 ensures { PanelReducesEach p.entry.now self.entry.now piece.old piece.new }
             { self.reduce_each(piece, p) },
         );

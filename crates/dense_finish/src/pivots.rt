@@ -1,5 +1,5 @@
 // The pivots that an elimination finds.
-ghost use Rattle.std.specs.Prelude.{◌≡◌, ◌<◌, ◌≤◌, ℕ, length, slice_index, IfOk, OnOk};
+ghost use Rattle.std.specs.Prelude.{◌≡◌, ◌<◌, ◌≤◌, length, IfOk, OnOk};
 ghost use Rattle.residue_words.specs.Matrix.{IsVector};
 ghost use Rattle.sparse_rows.specs.Rows.{AreRising};
 ghost use Rattle.sparse_rows.specs.declared.rows.TheConstants.{LARGEST_SIZE};
@@ -82,8 +82,8 @@ impl Pivots {
         columns: &[u32],
     ) -> Result<List<Pair>, AllocError>
         requires long { length self.now.rows.items ≡ count self.now }
-        requires rows { (k : ℕ) → k < count self.now → slice_index self.now.rows.items k < length rows.now }
-        requires columns { (k : ℕ) → k < count self.now → slice_index self.now.columns.items k < length columns.now }
+        requires rows { AreBelow (length rows.now) self.now.rows.items }
+        requires columns { AreBelow (length columns.now) self.now.columns.items }
         ensures { IfOk result (ArePlaces self.now.rows.items self.now.columns.items rows.now columns.now) }
     {
         let mut places = List::new(alloc);

@@ -34,7 +34,8 @@ pub(crate) trait Residue: Copy + Send + Sync {
         requires factor { a < p.now }
         requires out_residues { (k : ℕ) → k < length out.old → slice_index (map value out.old) k < p.now }
         requires residues { (k : ℕ) → k < length y.now → slice_index (map value y.now) k < p.now }
-        ensures { map value out.new ≡ list_of (length out.old) (plus_at p.now a (map value out.old) (map value y.now)) };
+        ensures { map value out.new ≡
+            list_of (length out.old) (plus_at p.now a (map value out.old) (map value y.now)) };
 }
 
 impl Residue for u64 {

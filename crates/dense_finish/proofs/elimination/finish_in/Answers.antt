@@ -26,6 +26,18 @@ left_factor-requires-clause-residues g c κs within = λ t l.
     let wide : length c.deref-3.result.now ≡ c.len.result = omega (arith, ap length c.deref-3.ensures.value) in
     subst (λ n. IsVector p n (block_row c.deref-4.result.now t)) wide (subst (λ (u : List (List ℕ)). IsVector p (length c.deref-3.result.now) (block_row u t)) (sym left) vector)
 
+pub places-requires-clause-rows : goal.places-requires-clause-rows
+places-requires-clause-rows g c = λ k l.
+    let found = c.in_ok-pivots.ensures.found in
+    omega (
+      arith,
+      found.inside k (omega (arith, found.long)),
+      ap length c.deref_mut.ensures.value,
+      c.in_ok-block.ensures.long,
+      ap length c.deref.ensures.value,
+      ap length c.deref-7.ensures.value,
+    )
+
 pub returns : goal.returns
 returns g c =
     let p = c.args.p.now in
