@@ -1,9 +1,11 @@
 // The ways to add a multiple of a row, against values from outside and one another.
+ghost use Rattle.residue_words.specs.declared.modulus.TheConstants.{MODULUS_BOUND};
+ghost use Rattle.residue_words.specs.declared.shoup.TheConstants.{LANE_BOUND};
 ghost use Rattle.std.specs.Prelude.{◌≡◌, ◌<◌, ◌≤◌, ℕ, length, slice_index};
 
 use crate::residue::Residue;
 use crate::row_addition::{axpy, axpy_plainly};
-use residue_words::Modulus;
+use residue_words::{LANE_BOUND, MODULUS_BOUND, Modulus};
 use std::process::Abort;
 use std::test::Fail;
 
@@ -20,8 +22,6 @@ const SUMS: [(u64, u64, [u64; 3], [u64; 3], [u64; 3]); 2] = [
 ];
 
 const MODULI: [u64; 6] = [2, 7, 42013, 2147483647, 2147483659, 281474976710597];
-
-const LIMIT: u64 = 0x1_0000_0000_0000;
 
 const LONGEST: usize = 40;
 
@@ -50,7 +50,7 @@ fn assert_residues(rt: &impl Abort, row: &[u64], p: u64)
 #[test]
 fn sums_agree_with_values_from_outside(rt: HostRuntime) -> Result<(), Fail> {
     for (p, a, mut out, y, sums) in SUMS {
-        assert!(rt; 2 <= p && p < LIMIT && a < p);
+        assert!(rt; 2 <= p && p < MODULUS_BOUND && a < p);
         assert_residues(&rt, &out, p);
         assert_residues(&rt, &y, p);
         axpy(&mut out, a, &y, &Modulus::new(p));
@@ -82,7 +82,7 @@ fn zeros_become_multiples(rt: HostRuntime) -> Result<(), Fail> {
 // The residues of one row, in 32 bits.
 fn narrow(out: &mut [u32], row: &[u64], p: u64)
     requires lengths { length row.now ≡ length out.old }
-    requires in_range { p < 2147483648 }
+    requires in_range { p < LANE_BOUND }
     requires residues { (k : ℕ) → k < length row.now → slice_index row.now k < p }
     ensures { (k : ℕ) → k < length out.old → slice_index out.new k < p }
 {
@@ -95,7 +95,7 @@ fn narrow(out: &mut [u32], row: &[u64], p: u64)
 fn assert_all_ways_agree(rt: &impl Abort, p: u64, a: u64, length: usize)
     requires two_or_more { 2 ≤ p }
     requires factor { a < p }
-    requires in_range { p < 281474976710656 }
+    requires in_range { p < MODULUS_BOUND }
     requires short { length ≤ 40 }
 {
     let modulus = Modulus::new(p);
@@ -115,7 +115,7 @@ fn assert_all_ways_agree(rt: &impl Abort, p: u64, a: u64, length: usize)
     <u64 as Residue>::add_multiple(in_64_bits, a, y, &modulus);
     let mut in_32_bits = [0u32; LONGEST];
     let in_32_bits = &mut in_32_bits[..length];
-    let is_narrow = p < 2147483648;
+    let is_narrow = p < LANE_BOUND;
     if is_narrow {
         let mut y_in_32_bits = [0u32; LONGEST];
         let y_in_32_bits = &mut y_in_32_bits[..length];
@@ -137,7 +137,7 @@ fn assert_all_ways_agree(rt: &impl Abort, p: u64, a: u64, length: usize)
 #[test]
 fn all_ways_agree(rt: HostRuntime) -> Result<(), Fail> {
     for p in MODULI {
-        assert!(rt; 2 <= p && p < LIMIT);
+        assert!(rt; 2 <= p && p < MODULUS_BOUND);
         for length in 0..=LONGEST {
             assert_all_ways_agree(&rt, p, p - 1, length);
             assert_all_ways_agree(&rt, p, p / 2, length);
