@@ -1,6 +1,8 @@
+pub mod Deciding
 pub mod Digits
 pub mod Euclid
 pub mod Inverses
+pub mod Lists
 pub mod Quotients
 pub mod Residues
 pub mod Sums

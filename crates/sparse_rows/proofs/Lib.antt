@@ -6,4 +6,5 @@ pub mod Loops
 pub mod Spread
 pub mod Stored
 pub mod Summing
+pub mod Supports
 pub mod Transposed

@@ -1,0 +1,46 @@
+-- The example of 3 x 3 modulo 7 worked: what is alive, dead and maximal is decided by computing.
+use Rattle.std.proofs.Common.{[], ◌∷◌, refl}
+use Rattle.residue_words.proofs.Deciding.{decide_below, decide_not, shown}
+use Rattle.pivot_table.specs.History.{pair, Alive, Grown, LeastAlive}
+use Rattle.pivot_table.specs.Order.{IsOrder}
+use Rattle.pivot_table.specs.Order.IsParted.{nothing, right}
+use Rattle.pivot_table.specs.Greedy.{IsGreedy, IsGreedyBelow}
+use Rattle.pivot_table.specs.Greedy.IsTried.{dead, taken}
+use Rattle.pivot_table.specs.Example.{IsWorked, example, first_history, other_history}
+use Rattle.pivot_table.proofs.Growth.{grown_nil, grown_push}
+use Rattle.pivot_table.proofs.Orders.{order_triangular}
+use Rattle.pivot_table.proofs.Reaching.{decide_alive, decide_dead, decide_maximal, decide_reach}
+
+first_grown : Grown example first_history
+first_grown = grown_push example (pair 0 0 ∷ []) (pair 1 1)
+    (grown_push example [] (pair 0 0) (grown_nil example) (shown (decide_alive example [] 0 0) tt))
+    (shown (decide_alive example (pair 0 0 ∷ []) 1 1) tt)
+
+first_least : LeastAlive example (pair 0 0 ∷ []) 1 1
+first_least = (
+  shown (decide_alive example (pair 0 0 ∷ []) 1 1) tt,
+  (λ k l a. shown (decide_not (decide_below (Alive example (pair 0 0 ∷ []) 1) (decide_alive example (pair 0 0 ∷ []) 1) 1)) tt (k, l, a)),
+)
+
+first_greedy : IsGreedy example (pair 0 0 ∷ []) first_history
+unfolding IsGreedyBelow
+first_greedy = (
+  first_history,
+  (pair 0 0 ∷ [], (pair 0 0 ∷ [], refl, dead (shown (decide_dead example (pair 0 0 ∷ []) 0) tt)), taken 1 first_least),
+  dead (shown (decide_dead example first_history 2) tt),
+)
+
+first_order : IsOrder example first_history (pair 1 1 ∷ pair 0 0 ∷ [])
+first_order = ([], [], nothing, ([], pair 0 0 ∷ [], right (shown (decide_reach example (pair 0 0 ∷ []) 1 0) tt) nothing, refl))
+
+pub worked : IsWorked
+worked = record {
+  grown = first_grown;
+  least = first_least;
+  overtaken = shown (decide_dead example other_history 1) tt;
+  maximal = shown (decide_maximal example first_history) tt;
+  other_maximal = shown (decide_maximal example other_history) tt;
+  greedy = first_greedy;
+  order = first_order;
+  triangular = order_triangular example first_history (pair 1 1 ∷ pair 0 0 ∷ []) first_grown first_order;
+}
