@@ -7,18 +7,19 @@ use Rattle.std.proofs.lemmas.List.Elements.{Contains-push_cases, Contains-append
 use Rattle.residue_words.specs.Matrix.{Matrix, IsMatrix, row, entry}
 use Rattle.residue_words.specs.declared.plain.Pair.{Pair}
 use Rattle.sparse_rows.specs.Rows.{support}
+use Rattle.sparse_rows.proofs.Supports.{row_sparse}
 use Rattle.pivot_table.specs.History.{pair, Nonzero, HasRow, HasCol, Path, Reaches, Alive, Dead, LeastAlive, Grown}
 use Rattle.pivot_table.specs.Order.{IsParted, IsOrderFrom}
 use Rattle.pivot_table.specs.Order.IsParted.{nothing, left, right}
-use Rattle.pivot_table.proofs.Lists.{not_in_nil, in_cases}
-use Rattle.pivot_table.proofs.Orders.{IsChain, order_from, order_chain, order_covers, within_none, reaches_step}
+use Rattle.residue_words.proofs.Lists.{contains_at, in_cases, not_in_nil, place_in}
+use Rattle.pivot_table.proofs.Orders.{IsChain, order_from, order_chain, order_covers, within_none}
+use Rattle.pivot_table.proofs.Reaching.{reaches_step}
 use Rattle.optimistic_search.specs.Raising.{below_top, work_left}
 use Rattle.optimistic_search.specs.Levels.{IsLevel, AreLevels, IsBoundedWalk, AreRaised, ArePartlyRaised, limits, raised}
 use Rattle.optimistic_search.specs.Reached.{progress}
 use Rattle.optimistic_search.specs.Marks.{Grows}
 use Rattle.optimistic_search.proofs.Growing.{kept, came, at_kept, longer}
-use Rattle.optimistic_search.proofs.Marking.{contains_at, place_in}
-use Rattle.optimistic_search.proofs.Walking.{in_support, at_support, sparse}
+use Rattle.optimistic_search.proofs.Walking.{in_support, at_support}
 
 -- the place of a column in a list of pairs, or the list's length
 abbrev place : List Pair → ℕ → ℕ
@@ -151,7 +152,7 @@ module _ {p : ℕ} {A : Matrix} (m : IsMatrix p A) {h : List Pair} {r : ℕ} (l 
           | inl lt ↦ before t.0 lt (subst (Alive A h r) (sym t.2) b)
           | inr ge ↦ elim (cases_eq t.0 at) [
             | inl e ↦ absurd (omega (arith, t.2, ap (slice_index (support (row A r))) e))
-            | inr ne ↦ absurd (omega (arith, t.2, (sparse m r l).rising at t.0 (omega arith) t.1))
+            | inr ne ↦ absurd (omega (arith, t.2, (row_sparse m r l).rising at t.0 (omega arith) t.1))
           ]
         ]),
   )

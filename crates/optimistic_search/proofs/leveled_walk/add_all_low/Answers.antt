@@ -1,7 +1,7 @@
 use Rattle.std.proofs.Common.{◌≤◌, slice_index, subst, sym, ap, ◌∙◌, refl, arith}
 use Rattle.std.specs.List.{Contains}
 use Rattle.optimistic_search.proofs.Growing.{grows_trans, kept}
-use Rattle.optimistic_search.proofs.Marking.{contains_at, place_in}
+use Rattle.residue_words.proofs.Lists.{contains_at, place_in}
 use Rattle.optimistic_search.proofs.Walking.{below_next}
 use Rattle.optimistic_search.proofs.leveled_walk.add_all_low.Goals as goal
 

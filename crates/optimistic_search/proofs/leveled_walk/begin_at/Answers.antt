@@ -3,9 +3,9 @@ use Rattle.std.specs.List.{Contains}
 use Rattle.residue_words.specs.Matrix.{row}
 use Rattle.sparse_rows.specs.Rows.{ResidueMatrix, support}
 use Rattle.pivot_table.specs.History.{HasCol, Nonzero, Reaches}
-use Rattle.pivot_table.proofs.Orders.{reaches_support}
+use Rattle.pivot_table.proofs.Reaching.{reaches_support}
 use Rattle.optimistic_search.proofs.Growing.{kept, came}
-use Rattle.optimistic_search.proofs.Marking.{contains_at, place_in}
+use Rattle.residue_words.proofs.Lists.{contains_at, place_in}
 use Rattle.optimistic_search.proofs.Walking.{below_next, in_support, of_support}
 use Rattle.optimistic_search.proofs.leveled_walk.begin_at.Goals as goal
 

@@ -5,7 +5,7 @@ use Rattle.sparse_rows.specs.Rows.{ResidueMatrix, support}
 use Rattle.pivot_table.specs.History.{pair, Nonzero}
 use Rattle.pivot_table.proofs.Short.{grown_short}
 use Rattle.optimistic_search.proofs.Leveling.{grown_level, partly_none, partly_all, partly_more, partly_own}
-use Rattle.optimistic_search.proofs.Marking.{contains_at}
+use Rattle.residue_words.proofs.Lists.{contains_at}
 use Rattle.optimistic_search.proofs.Walking.{in_support, of_support}
 use Rattle.optimistic_search.proofs.raising.raise_steps.Goals as goal
 
