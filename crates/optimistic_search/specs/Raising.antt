@@ -17,5 +17,5 @@ abbrev pub work : Indexed → List ℕ → Marked → ℕ
 work w levels marks = work_left (length w.pairs) levels marks.list
 
 -- the level of the column is as it was
-abbrev pub IsKept : List ℕ → List ℕ → ℕ → Type 0
-IsKept old new d = slice_index new d ≡ slice_index old d
+abbrev pub Stays : List ℕ → List ℕ → ℕ → Type 0
+Stays old new d = slice_index new d ≡ slice_index old d

@@ -1,10 +1,8 @@
 // The least alive column by levels: a walk leaves out the columns whose level is above that of every candidate.
 ghost use Rattle.std.specs.Prelude.{◌≡◌, ◌<◌, ◌≤◌, ◌++◌, ◌∷◌, ℕ, [], length, slice_index, IsTrue, IfOk, false};
 ghost use Rattle.std.specs.List.{Contains};
-ghost use Rattle.residue_words.specs.Matrix.{row as row_of};
-ghost use Rattle.sparse_rows.specs.Rows.{support};
 ghost use Rattle.pivot_table.specs.History.{Alive, Grown, HasCol, HasRow, row_weight};
-ghost use Rattle.optimistic_search.specs.Indexed.{IsAliveAt, LeadsTo};
+ghost use Rattle.optimistic_search.specs.Indexed.{IsAliveAt, LeadsTo, support_of};
 ghost use Rattle.optimistic_search.specs.Levels.{AreLevels, FreeAreLow, IsLevel, IsLow, IsOut, LowAreBegun, LowAreTaken};
 ghost use Rattle.optimistic_search.specs.Marks.{AllBetween, AreBelow, Grows};
 ghost use Rattle.optimistic_search.specs.Reached.{AreReached};
@@ -180,7 +178,7 @@ fn go_on(
     requires sure { sure ≤ row_weight pivots.now.rows.matrix row }
     requires fresh { ¬ HasRow pivots.now.pairs row }
     requires rises { IsLevel pivots.now.rows.matrix pivots.now.pairs (slice_index levels.now) }
-    requires low { FreeAreLow pivots.now.pairs (IsLow levels.now bound) (support (row_of pivots.now.rows.matrix row)) sure }
+    requires low { FreeAreLow pivots.now.pairs (IsLow levels.now bound) (support_of pivots.now row) sure }
     requires reached { AreReached pivots.now.rows.matrix pivots.now.pairs row marks.old.list }
     requires begun { LowAreBegun pivots.now row (IsLow levels.now bound) marks.old.list }
     ensures width { marks.new.width ≡ marks.old.width }
@@ -230,15 +228,14 @@ pub(crate) struct LeveledWalk<'a> {
 }
 
 impl<'a> Model for LeveledWalk<'a> {
-    ghost use Rattle.std.specs.Prelude.{◌≡◌, []};
     ghost use Rattle.optimistic_search.specs.Indexed.{Indexed};
-    ghost use Rattle.optimistic_search.specs.Levels.{AreLevels};
+    ghost use Rattle.optimistic_search.specs.Levels.{IsAtRest};
 
     ghost Value = { Indexed };
 
     ghost view = { λ l. record { rows = l.pivots.rows; pairs = l.pivots.pairs } };
 
-    ghost invariant = { λ l. (l.marks.width ≡ l.pivots.rows.matrix.width) × (l.marks.list ≡ []) × AreLevels l.pivots.rows.matrix l.pivots.pairs l.levels };
+    ghost invariant = { λ l. IsAtRest l.pivots l.marks l.levels };
 }
 
 impl<'a> LeveledWalk<'a> {

@@ -3,8 +3,8 @@ ghost use Rattle.std.specs.Prelude.{◌≡◌, ◌≢◌, ◌<◌, ◌≤◌, �
 ghost use Rattle.std.specs.List.{Contains};
 ghost use Rattle.sparse_rows.specs.declared.rows.TheConstants.{LARGEST_SIZE};
 ghost use Rattle.pivot_table.specs.History.{Grown, HasCol};
-ghost use Rattle.optimistic_search.specs.Levels.{AreLevels, ArePartlyRaised, AreRaised, raised};
-ghost use Rattle.optimistic_search.specs.Raising.{IsKept, work};
+ghost use Rattle.optimistic_search.specs.Levels.{AreLevels, AreRaised, AreRaisedBut};
+ghost use Rattle.optimistic_search.specs.Raising.{Stays, work};
 
 use crate::levels::Levels;
 use crate::marks::Marks;
@@ -28,8 +28,8 @@ fn raise_column(pivots: &Pivots, levels: &mut Levels, marks: &mut Marks, c: u32,
     ensures raised { slice_index levels.old d ≤ slice_index levels.new d }
     ensures own { d ≢ c → level < slice_index levels.new d }
     ensures same { d ≡ c → slice_index levels.new d ≡ slice_index levels.old d }
-    ensures by_one { IsKept levels.old levels.new d ⊎ (slice_index levels.new d ≡ level + 1) }
-    ensures marked { IsKept levels.old levels.new d ⊎ (HasCol pivots.now.pairs d → Contains marks.new.list d) }
+    ensures by_one { Stays levels.old levels.new d ⊎ (slice_index levels.new d ≡ level + 1) }
+    ensures marked { Stays levels.old levels.new d ⊎ (HasCol pivots.now.pairs d → Contains marks.new.list d) }
     ensures work { work pivots.now levels.new marks.new ≤ work pivots.now levels.old marks.old }
 {
     if d == c || levels.at(d) > level {
@@ -47,7 +47,7 @@ fn raise_steps(pivots: &Pivots, levels: &mut Levels, marks: &mut Marks, c: u32)
     requires inside { c < pivots.now.rows.matrix.width }
     requires width { marks.old.width ≡ pivots.now.rows.matrix.width }
     requires fresh { ¬ Contains marks.old.list c }
-    requires levels { ArePartlyRaised pivots.now.rows.matrix pivots.now.pairs c (raised levels.old marks.old.list [] 0) }
+    requires levels { AreRaisedBut pivots.now c levels.old marks.old.list }
     ensures width { marks.new.width ≡ marks.old.width }
     ensures levels { AreRaised pivots.now.rows.matrix pivots.now.pairs levels.new marks.new.list }
     ensures work { work pivots.now levels.new marks.new ≤ work pivots.now levels.old marks.old }
@@ -77,4 +77,3 @@ pub(crate) fn raise_all(pivots: &Pivots, levels: &mut Levels, marks: &mut Marks)
         raise_steps(pivots, levels, marks, c);
     }
 }
-

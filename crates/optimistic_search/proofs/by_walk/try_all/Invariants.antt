@@ -1,4 +1,4 @@
-use Rattle.std.proofs.Common.{◌≡◌, ◌≤◌, ◌+◌, None, length, min}
+use Rattle.std.proofs.Common.{◌≡◌, None}
 use Rattle.pivot_table.specs.Greedy.{IsGreedyBelow}
 use Rattle.optimistic_search.specs.Search.{HasRoom}
 use Rattle.optimistic_search.proofs.by_walk.try_all.Given as goal

@@ -1,4 +1,4 @@
-use Rattle.std.proofs.Common.{◌≡◌, ◌≤◌, ◌+◌, length, min}
+use Rattle.std.proofs.Common.{◌≡◌}
 use Rattle.pivot_table.specs.Greedy.{IsGreedyBelow}
 use Rattle.optimistic_search.specs.Search.{HasRoom}
 use Rattle.optimistic_search.proofs.greedy.try_all.Given as goal
