@@ -9,7 +9,7 @@ mod beginning;
 
 ghost use Rattle.std.specs.Prelude.{◌≡◌, [], IfOk, OnOk};
 ghost use Rattle.fl_pivots.specs.Beginnings.{AreBeginnings, AreSorted};
-ghost use Rattle.fl_pivots.specs.Leftmost.{IsLeftmost};
+ghost use Rattle.pivot_table.specs.Leftmost.{IsLeftmost};
 
 use beginning::{Beginning, beginnings};
 use pivot_table::{Book, Pair};
