@@ -1,5 +1,6 @@
 pub mod Building
 pub mod Cuts
+pub mod Expanding
 pub mod FilledRows
 pub mod Filling
 pub mod Grouping

@@ -1,7 +1,7 @@
 use Rattle.std.proofs.Common.{arith}
 use Rattle.sparse_rows.specs.declared.cells.Cell.{Cell}
 use Rattle.sparse_rows.proofs.Cuts.{cells_matrix, cells_stored}
-use Rattle.sparse_rows.proofs.rows.Rows.from_cells.Goals as goal
+use Rattle.sparse_rows.proofs.stored_rows.StoredRows.from_cells.Goals as goal
 
 -- a cell
 abbrev some : Cell
