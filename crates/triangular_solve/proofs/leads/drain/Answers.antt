@@ -65,5 +65,5 @@ loop-c-preserved c =
       draining = draining_eliminated (kept_sound c.requires.kept) c.loop-c.invariant.draining c.in-Some.ensures.some gone;
     }
 
-pub returns-clause-rest : goal.returns-clause-rest
-returns-clause-rest c = draining_all c.loop-c.invariant.draining c.in_default.ensures.none.1
+pub returns-clause-ok : goal.returns-clause-ok
+returns-clause-ok c = draining_all c.loop-c.invariant.draining c.in_default.ensures.none.1
