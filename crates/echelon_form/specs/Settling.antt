@@ -2,8 +2,14 @@
 use Rattle.std.specs.Prelude.{◌≡◌, ◌<◌, ◌/◌, ◌%◌, ℕ, List, Result, Vec, length, slice_index, slice_index_or, IfOk}
 use Rattle.std.specs.declared.alloc.Global.{Global}
 use Rattle.residue_words.specs.Matrix.{Matrix, IsMatrix, row}
+use Rattle.residue_words.specs.Residues.{IsPrime}
+use Rattle.row_space.specs.Echelon.{SameSpan}
 use Rattle.triangular_solve.specs.Leads.{KeptRows, IsSettled}
 use Rattle.sparse_rows.specs.Rows.{ResidueRow}
+
+-- for a prime modulus the kept rows have the row space of A
+abbrev pub HaveSpanOf : Matrix → KeptRows → Type 0
+HaveSpanOf A kept = IsPrime kept.modulus → SameSpan kept.modulus A kept.matrix
 
 -- the leads ascend, and beside each stands the number of the kept row that has it
 pub record IsOrder (kept : KeptRows) (order : List (ℕ × ℕ)) : Type 0 where

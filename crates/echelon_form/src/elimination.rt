@@ -1,7 +1,8 @@
 // The rows that are left by elimination, and how many these are.
 ghost use Rattle.std.specs.Prelude.{◌≡◌, ◌≤◌, IfOk};
 ghost use Rattle.residue_words.specs.Residues.{IsPrime};
-ghost use Rattle.row_space.specs.Echelon.{HasRank, SameSpan};
+ghost use Rattle.row_space.specs.Echelon.{HasRank};
+ghost use Rattle.echelon_form.specs.Settling.{HaveSpanOf};
 
 use sparse_rows::Rows;
 use std::alloc::{AllocError, Global};
@@ -50,7 +51,7 @@ pub(crate) fn eliminated(alloc: Global, rows: &Rows) -> Result<Leads, AllocError
     ensures modulus { IfOk result (λ kept. kept.modulus ≡ rows.now.modulus) }
     ensures width { IfOk result (λ kept. kept.matrix.width ≡ rows.now.matrix.width) }
     ensures few { IfOk result (λ kept. kept.matrix.height ≤ rows.now.matrix.height) }
-    ensures span { IfOk result (λ kept. IsPrime kept.modulus → SameSpan kept.modulus rows.now.matrix kept.matrix) }
+    ensures span { IfOk result (HaveSpanOf rows.now.matrix) }
 {
     let mut kept = Leads::new(alloc, rows.width(), &rows.modulus())?;
     // The call tells how high a matrix is: the next row's number is no overflow.

@@ -8,6 +8,7 @@ use Rattle.sparse_rows.specs.Marks.{AllZero}
 use Rattle.sparse_rows.specs.Rows.{ResidueRow}
 use Rattle.sparse_rows.specs.Stored.{spread, with_row}
 use Rattle.sparse_rows.specs.declared.rows.TheConstants.{LARGEST_SIZE}
+use Rattle.triangular_solve.specs.Accumulator.{IsClear}
 use Rattle.triangular_solve.specs.Leads.{KeptRows}
 use Rattle.triangular_solve.specs.declared.led.Led.{Led}
 
@@ -42,6 +43,10 @@ pub record IsKept (p n : ℕ) (rows : List Led) (row_at : List ℕ) : Type 0 whe
   pub found : (k : ℕ) (d : Led) → k < length rows → slice_index row_at (slice_index_or rows k d).lead ≡ k
   pub only : (c : ℕ) (d : Led) → c < n → slice_index row_at c ≢ 4294967295 →
       (slice_index row_at c < length rows) × ((slice_index_or rows (slice_index row_at c) d).lead ≡ c)
+
+-- what `Leads` is made of: the kept rows, and a row of sums that are 0
+abbrev pub AreParts : ℕ → ℕ → List Led → List ℕ → ResidueRow → Type 0
+AreParts p n rows row_at sums = IsKept p n rows row_at × IsClear p n sums
 
 -- it is the kept row that leads at column c
 pub record LeadsAt (kept : KeptRows) (r : Led) (c : ℕ) : Type 0 where

@@ -33,6 +33,9 @@ impl Led {
                 tail.push(cols[k], value)?;
             }
         }
-        Ok(Led { lead: cols[0], tail })
+        Ok(Led {
+            lead: cols[0],
+            tail,
+        })
     }
 }

@@ -41,7 +41,7 @@ loop-c-smaller c =
     (found_some c.requires.kept c.in-Some.c inside (slice_index c.args.row_at.now c.in-Some.c) refl c.if-k.false).1 c.index-rows-k.result c.index-rows-k.is in
     let modulus : c.modulus-modulus.result ≡ c.args.sums.now.modulus = c.modulus-modulus.ensures.value ∙ c.requires.rest.modulus in
     let gone : IsEliminated kept at.k c.in-Some.c c.in-Some.value c.pop.new.self.row c.add_multiple.new.self.row =
-    eliminated (kept_sound c.requires.kept) c.loop-c.invariant.draining.sums c.in-Some.ensures.some at c.modulus-modulus.result c.neg.result modulus c.neg.ensures.value 
+    eliminated (kept_sound c.requires.kept) c.loop-c.invariant.draining.sums c.in-Some.ensures.some at c.modulus-modulus.result c.neg.result modulus c.neg.ensures.value
     (c.cols.ensures.support ∙ ap (λ (r : Led). support r.tail.row) (sym c.index-rows-k.is)) (c.vals.ensures.values ∙ ap (λ (r : Led). nonzeros r.tail.row) (sym c.index-rows-k.is))
     (subst (λ q. Adds q c.neg.result c.cols.result.now c.vals.result.now c.pop.new.self.row c.add_multiple.new.self.row) (c.pop.ensures.modulus ∙ c.loop-c.invariant.sums_modulus ∙ sym modulus)
     (c.add_multiple.ensures.vector, c.add_multiple.ensures.sums)) in
@@ -55,7 +55,7 @@ loop-c-preserved c =
     (found_some c.requires.kept c.in-Some.c inside (slice_index c.args.row_at.now c.in-Some.c) refl c.if-k.false).1 c.index-rows-k.result c.index-rows-k.is in
     let modulus : c.modulus-modulus.result ≡ c.args.sums.now.modulus = c.modulus-modulus.ensures.value ∙ c.requires.rest.modulus in
     let gone : IsEliminated kept at.k c.in-Some.c c.in-Some.value c.pop.new.self.row c.add_multiple.new.self.row =
-    eliminated (kept_sound c.requires.kept) c.loop-c.invariant.draining.sums c.in-Some.ensures.some at c.modulus-modulus.result c.neg.result modulus c.neg.ensures.value 
+    eliminated (kept_sound c.requires.kept) c.loop-c.invariant.draining.sums c.in-Some.ensures.some at c.modulus-modulus.result c.neg.result modulus c.neg.ensures.value
     (c.cols.ensures.support ∙ ap (λ (r : Led). support r.tail.row) (sym c.index-rows-k.is)) (c.vals.ensures.values ∙ ap (λ (r : Led). nonzeros r.tail.row) (sym c.index-rows-k.is))
     (subst (λ q. Adds q c.neg.result c.cols.result.now c.vals.result.now c.pop.new.self.row c.add_multiple.new.self.row) (c.pop.ensures.modulus ∙ c.loop-c.invariant.sums_modulus ∙ sym modulus)
     (c.add_multiple.ensures.vector, c.add_multiple.ensures.sums)) in
@@ -65,5 +65,5 @@ loop-c-preserved c =
       draining = draining_eliminated (kept_sound c.requires.kept) c.loop-c.invariant.draining c.in-Some.ensures.some gone;
     }
 
-pub returns-clause-rest : goal.returns-clause-rest
-returns-clause-rest c = draining_all c.loop-c.invariant.draining c.in_default.ensures.none.1
+pub returns-clause-ok : goal.returns-clause-ok
+returns-clause-ok c = draining_all c.loop-c.invariant.draining c.in_default.ensures.none.1

@@ -8,7 +8,7 @@ pub drain-done-requires-clause-rest : goal.drain-done-requires-clause-rest
 drain-done-requires-clause-rest c =
     subst (λ (r : ResidueRow). CanTake r.row c.args.rest.now r.modulus) (sym (loaded c.requires.kept.two_or_more c.requires.sparse c.requires.clear c.add_multiple.ensures)) c.requires.rest
 
-pub returns-clause-rest : goal.returns-clause-rest
-returns-clause-rest c =
+pub returns-clause-ok : goal.returns-clause-ok
+returns-clause-ok c =
     subst (λ r. OnOk c.drain-done.result (Drains c.args.rows.now r c.args.rest.now.row c.drain-done.new.rest.row))
-    (loaded c.requires.kept.two_or_more c.requires.sparse c.requires.clear c.add_multiple.ensures) c.drain-done.ensures.rest
+    (loaded c.requires.kept.two_or_more c.requires.sparse c.requires.clear c.add_multiple.ensures) c.drain-done.ensures.ok

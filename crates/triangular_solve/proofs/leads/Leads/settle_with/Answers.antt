@@ -54,4 +54,4 @@ returns-clause-settled c =
     read_led c.self.invariant.0 c.args.k (subst (λ (K : KeptRows). c.args.k < K.matrix.height) (sym c.self.view_is) c.requires.row) c.index-row.result.now c.index-row.ensures in
     subst (λ (K : KeptRows). IsSettled K c.args.k c.reduce.new.rest.row) c.self.view_is
     (settled_of_drained c.self.invariant.0 clear at c.cols.ensures.support c.vals.ensures.values (c.in_ok-push.ensures.ok ∙ ap (λ u. slice_set u c.index-row.result.now.lead 1) c.new-rest.ensures.row)
-    (subst (λ rows. Drains rows (row_of c.args.accumulator.now c.cols.result.now c.vals.result.now) c.push.new.self.row c.reduce.new.rest.row) c.deref.ensures.value c.in_ok-reduce.ensures.rest))
+    (subst (λ rows. Drains rows (row_of c.args.accumulator.now c.cols.result.now c.vals.result.now) c.push.new.self.row c.reduce.new.rest.row) c.deref.ensures.value c.in_ok-reduce.ensures.ok))
