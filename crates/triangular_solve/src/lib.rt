@@ -8,10 +8,14 @@
 mod columns;
 mod kept;
 mod leads;
+mod pivotal_columns;
+mod queue;
 mod scratch;
+mod triangle;
 
 pub use leads::Leads;
 pub use scratch::Scratch;
+pub use triangle::{Triangle, triangular_order_is_one};
 
 #[cfg(test)]
 mod tests {
