@@ -1,11 +1,16 @@
 pub mod Accumulating
 pub mod Adding
 pub mod Appending
+pub mod Changing
 pub mod Combining
+pub mod Counting
 pub mod Dividing
 pub mod Draining
 pub mod Examples
 pub mod Extent
 pub mod LedRows
+pub mod Listing
+pub mod Placing
+pub mod Queueing
 pub mod Reducing
 pub mod Touched

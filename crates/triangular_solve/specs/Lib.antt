@@ -1,3 +1,7 @@
 pub mod Accumulator
 pub mod Leads
 pub mod Led
+pub mod Listing
+pub mod PivotalColumns
+pub mod Queue
+pub mod Triangle

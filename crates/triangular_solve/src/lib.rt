@@ -8,8 +8,12 @@
 mod accumulator;
 mod leads;
 mod led;
+mod pivotal_columns;
+mod queue;
 #[cfg(test)]
 mod tests;
+mod triangle;
 
 pub use accumulator::Accumulator;
 pub use leads::Leads;
+pub use triangle::{Triangle, triangular_order_is_one};
