@@ -21,18 +21,18 @@ use std::thread::Threads;
 /// every candidate, and a candidate of level 0 is alive without a walk. It takes 13 bytes a column and 16 bytes a pair that there
 /// can be, all before the first row. The book is gone where memory was refused.
 pub fn search<'a, R: Threads + Sync, G: Gate>(
-    _rt: &R,
+    rt: &R,
     alloc: Global,
     book: Book<'a>,
-    _workers: u32,
-    _gate: &G,
+    workers: u32,
+    gate: &G,
 ) -> Result<Book<'a>, AllocError>
-    requires some { 1 ≤ _workers }
-    requires few { _workers ≤ 64 }
+    requires some { 1 ≤ workers }
+    requires few { workers ≤ 64 }
     ensures rows { IfOk result (λ b. b.rows ≡ book.entry.rows) }
     ensures begins { IfOk result (λ b. StartsWith b.pairs book.entry.pairs) }
     ensures maximal { IfOk result (λ b. Maximal book.entry.rows.matrix b.pairs) }
-    ensures greedy { _workers ≡ 1 → IfOk result (IsGreedyFrom book.entry) }
+    ensures greedy { workers ≡ 1 → IfOk result (IsGreedyFrom book.entry) }
 {
     search_greedily(alloc, book)
 }
