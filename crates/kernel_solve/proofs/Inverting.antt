@@ -4,9 +4,9 @@ use Rattle.std.proofs.lemmas.Bool.{cases_eq, cases_lt}
 use Rattle.residue_words.specs.Residues.{sum_below}
 use Rattle.residue_words.specs.Matrix.{Matrix, IsMatrix, IsVector, apply, combine, dot, entry, list_of, row, zeros}
 use native.Mathlib.Nat.{zero-mod}
-use Rattle.residue_words.proofs.Sums.{sum_equal, sum_none, sum_single}
-use Rattle.residue_words.proofs.Vectors.{at_combine, at_list_of, at_zeros, combination_vector, delta, delta_other, delta_same, dot_combine, entry_matrix_of, entry_residue, is_matrix_of, length_list_of, list_equal, list_of_equal, matrix_of, row_combination, sum_delta, vector_of}
-use Rattle.sparse_rows.specs.Rows.{beside, identity, matrix_by, transposed}
+use Rattle.residue_words.proofs.Sums.{sum_equal, sum_more, sum_none, sum_single}
+use Rattle.residue_words.proofs.Vectors.{at_combine, at_list_of, at_zeros, combination_vector, combine_single, delta, delta_other, delta_same, dot_combine, entry_matrix_of, entry_residue, is_matrix_of, length_list_of, list_equal, list_of_equal, matrix_of, row_combination, sum_delta, vector_of}
+use Rattle.sparse_rows.specs.Rows.{beside, entry_count, identity, matrix_by, support, transposed}
 use Rattle.row_space.specs.Echelon.{HasLeads, IsIndependent, IsRref}
 use Rattle.row_space.specs.Inverse.{IsInverse, unit}
 use Rattle.row_space.specs.Kernel.{IsKernel, IsNull}
@@ -14,7 +14,78 @@ use Rattle.row_space.proofs.Counting.{span_height, spanned_back}
 use Rattle.row_space.proofs.KernelLaws.{dot_zeros, identity_spans}
 use Rattle.row_space.proofs.Spans.{places_independent}
 use Rattle.echelon_form.specs.Form.{Form, IsFormOf}
+use Rattle.kernel_solve.proofs.AtLeads.{entry_absent}
 use Rattle.kernel_solve.proofs.Matrices.{beside_left, beside_matrix, beside_right, identity_matrix, identity_other, identity_same, transposed_entry}
+
+-- a square matrix with a left null vector y that is 1 at a place
+module _ (p : ℕ) (A : Matrix) (y : List ℕ) (at : ℕ) (two : 2 ≤ p) (square : A.height ≡ A.width) (inside : at < A.width) (zero_sum : combine p y A ≡ zeros A.width) (one_there : slice_index y at ≡ 1) where
+  -- if only zero were null, the columns of A would span each vector, that with a 1 there too; but y refutes it
+  never_trivial : ((x : List ℕ) → IsNull p A x → x ≡ zeros A.width) → ⊥
+  never_trivial trivial =
+      let n : ℕ = A.width in
+      let pos : 0 < p = omega arith in
+      let turned : (x : List ℕ) → combine p x (transposed A) ≡ apply p A x = λ x. list_of_equal A.height _ _ (λ i l.
+      ap (λ t. t % p) (sum_equal n (λ j. slice_index x j * entry (transposed A) j i) (λ j. entry A i j * slice_index x j) (λ j o.
+      ap (λ t. slice_index x j * t) (transposed_entry A j i o l) ∙ mul_comm (slice_index x j) (entry A i j)))) in
+      let independent : IsIndependent p (transposed A) = λ x v e. trivial x (v, sym (turned x) ∙ e) in
+      let e : List ℕ = list_of n (delta at) in
+      let vector : IsVector p n e = vector_of p n (delta at) (λ j o. elim (cases_eq j at) [
+        | inl q ↦ omega (arith, ap (delta at) q, delta_same at)
+        | inr d ↦ omega (arith, delta_other at j d)
+      ]) in
+      let wide_enough : (v : List ℕ) → IsVector p A.height v → IsVector p n v = λ v h. subst (λ k. IsVector p k v) square h in
+      let c = spanned_back p (transposed A) (matrix_of n n delta) two independent
+      (λ v c. identity_spans p n v pos (wide_enough v (combination_vector p (transposed A) v pos c))) (omega arith) e (identity_spans p n e pos vector) in
+      let product : dot p A.height y (apply p A c.0) ≡ 0 =
+      sym (dot_combine p y A c.0) ∙ ap (λ u. dot p n u c.0) zero_sum ∙ dot_zeros p n c.0 in
+      let one : dot p n y e ≡ 1 =
+      ap (λ t. t % p) (sum_equal n (λ k. slice_index y k * slice_index e k) (λ k. delta at k * slice_index y k) (λ k o.
+      ap (λ t. slice_index y k * t) (at_list_of n (delta at) k o) ∙ mul_comm (slice_index y k) (delta at k))
+      ∙ sum_delta n at (slice_index y) inside ∙ one_there)
+      ∙ mod-eq_of_lt two in
+      let same : dot p n y e ≡ dot p A.height y (apply p A c.0) = ap₂ (λ h u. dot p h y u) (sym square) (c.2 ∙ turned c.0) in
+      omega (arith, one, same, product)
+
+  -- so the kernel basis has a row
+  pub kernel_some : (K : Matrix) → IsKernel p A K → 0 < K.height
+  kernel_some K k = elim (cases_lt 0 K.height) [
+    | inl l ↦ l
+    | inr none ↦
+        let empty : K.height ≡ 0 = omega arith in
+        absurd (never_trivial (λ x null.
+        let c = k.every x null in
+        list_equal A.width x (zeros A.width) null.0.len (length_list_of A.width (λ j. 0)) (λ j l.
+        ap (λ u. slice_index u j) c.2 ∙ at_combine p c.0 K j (omega (arith, k.width)) ∙ ap (λ h. sum_below h (λ i. slice_index c.0 i * entry K i j) % p) empty
+        ∙ zero_none (λ i. slice_index c.0 i * entry K i j) ∙ sym (at_zeros A.width j l))))
+  ]
+    where
+      zero_none : (f : ℕ → ℕ) → sum_below 0 f % p ≡ 0
+      zero_none f = ap (λ t. t % p) (sum_none f) ∙ zero-mod p
+
+-- of n numbers with a sum below n one is 0
+zero_term : (n : ℕ) (f : ℕ → ℕ) → sum_below n f < n → (i : ℕ) × (i < n) × (f i ≡ 0)
+zero_term zero f l = absurd (omega arith)
+zero_term (suc n) f l = elim (cases_eq (f n) 0) [
+  | inl z ↦ (n, omega arith, z)
+  | inr d ↦
+      let next : suc n ≡ n + 1 = omega arith in
+      let more : sum_below (suc n) f ≡ sum_below n f + f n = ap (λ k. sum_below k f) next ∙ sum_more n f in
+      let found = zero_term n f (omega arith) in
+      (found.0, omega (arith, found.1), found.2)
+]
+
+-- a square matrix with fewer entries than rows has a row of zeros, so its kernel basis has a row
+pub few_entries : (p : ℕ) (A : Matrix) → 2 ≤ p → IsMatrix p A → A.height ≡ A.width → entry_count A < A.width → (K : Matrix) → IsKernel p A K → 0 < K.height
+few_entries p A two m square few =
+    let found = zero_term A.height (λ i. length (support (row A i))) (omega arith) in
+    let i : ℕ = found.0 in
+    let inside : i < A.height = found.1 in
+    let y : List ℕ = list_of A.height (delta i) in
+    let one : slice_index y i ≡ 1 = at_list_of A.height (delta i) i inside ∙ delta_same i in
+    let zero_row : row A i ≡ zeros A.width = list_equal A.width _ _ (m.each i inside).len (length_list_of A.width (λ j. 0)) (λ j l.
+    sym (entry_absent (row A i) j (λ k o e. omega (arith, found.2))) ∙ sym (at_zeros A.width j l)) in
+    let combined : combine p y A ≡ row A i = combine_single p y A i two m inside one (λ k l d. at_list_of A.height (delta i) k l ∙ delta_other i k d) in
+    kernel_some p A y i two square (omega arith) (combined ∙ zero_row) one
 
 -- the n columns from n on of n rows
 abbrev pub half_of : ℕ → Matrix → Matrix
@@ -208,50 +279,12 @@ module _ (p : ℕ) (A F : Matrix) (leads : List ℕ) (two : 2 ≤ p) (m : IsMatr
         sym (row_right (n - 1) last_row one_place place_inside) ∙ ap (entry F (n - 1)) (let e : n + one_place ≡ slice_index leads (n - 1) = omega arith in e)
         ∙ has.1.one (n - 1) (omega (arith, tall))
 
-    -- if only zero were null, the columns of A would span each vector, that with a 1 there too; but y refutes it
-    never_trivial : ((x : List ℕ) → IsNull p A x → x ≡ zeros n) → ⊥
-    never_trivial trivial =
-        let pos : 0 < p = omega arith in
-        let turned : (x : List ℕ) → combine p x (transposed A) ≡ apply p A x = λ x. list_of_equal A.height _ _ (λ i l.
-        ap (λ t. t % p) (sum_equal n (λ j. slice_index x j * entry (transposed A) j i) (λ j. entry A i j * slice_index x j) (λ j o.
-        ap (λ t. slice_index x j * t) (transposed_entry A j i o l) ∙ mul_comm (slice_index x j) (entry A i j)))) in
-        let independent : IsIndependent p (transposed A) = λ x v e. trivial x (v, sym (turned x) ∙ e) in
-        let e : List ℕ = list_of n (delta one_place) in
-        let vector : IsVector p n e = vector_of p n (delta one_place) (λ j o. elim (cases_eq j one_place) [
-          | inl q ↦ omega (arith, ap (delta one_place) q, delta_same one_place)
-          | inr d ↦ omega (arith, delta_other one_place j d)
-        ]) in
-        let wide_enough : (v : List ℕ) → IsVector p A.height v → IsVector p n v = λ v h. subst (λ k. IsVector p k v) square h in
-        let c = spanned_back p (transposed A) (matrix_of n n delta) two independent
-        (λ v c. identity_spans p n v pos (wide_enough v (combination_vector p (transposed A) v pos c))) (omega arith) e (identity_spans p n e pos vector) in
-        let product : dot p A.height left_null (apply p A c.0) ≡ 0 =
-        sym (dot_combine p left_null A c.0) ∙ ap (λ u. dot p n u c.0) left_zero ∙ dot_zeros p n c.0 in
-        let one : dot p n left_null e ≡ 1 =
-        ap (λ t. t % p) (sum_equal n (λ k. slice_index left_null k * slice_index e k) (λ k. delta one_place k * slice_index left_null k) (λ k o.
-        ap (λ t. slice_index left_null k * t) (at_list_of n (delta one_place) k o) ∙ mul_comm (slice_index left_null k) (delta one_place k))
-        ∙ sum_delta n one_place (slice_index left_null) place_inside ∙ left_one)
-        ∙ mod-eq_of_lt two in
-        let same : dot p n left_null e ≡ dot p A.height left_null (apply p A c.0) = ap₂ (λ h u. dot p h left_null u) (sym square) (c.2 ∙ turned c.0) in
-        omega (arith, one, same, product)
-
     -- so the kernel basis has a row
     pub basis_some : (K : Matrix) → IsKernel p A K → 0 < K.height
-    basis_some K k = elim (cases_lt 0 K.height) [
-      | inl l ↦ l
-      | inr none ↦
-          let empty : K.height ≡ 0 = omega arith in
-          absurd (never_trivial (λ x null.
-          let c = k.every x null in
-          list_equal n x (zeros n) null.0.len (length_list_of n (λ j. 0)) (λ j l.
-          ap (λ u. slice_index u j) c.2 ∙ at_combine p c.0 K j (omega (arith, k.width)) ∙ ap (λ h. sum_below h (λ i. slice_index c.0 i * entry K i j) % p) empty
-          ∙ zero_sum (λ i. slice_index c.0 i * entry K i j) ∙ sym (at_zeros n j l))))
-    ]
-      where
-        zero_sum : (f : ℕ → ℕ) → sum_below 0 f % p ≡ 0
-        zero_sum f = ap (λ t. t % p) (sum_none f) ∙ zero-mod p
+    basis_some = kernel_some p A left_null one_place two square place_inside left_zero left_one
 
 -- the first row of a kernel basis is null and not zero
-pub first_null : (p : ℕ) (A K : Matrix) → IsKernel p A K → 0 < K.height → IsNull p A (row K 0) × (row K 0 ≢ zeros A.width)
+first_null : (p : ℕ) (A K : Matrix) → IsKernel p A K → 0 < K.height → IsNull p A (row K 0) × (row K 0 ≢ zeros A.width)
 first_null p A K k some = (
   k.null 0 some,
   λ e.
@@ -261,6 +294,12 @@ first_null p A K k some = (
       let inside : at < A.width = omega (arith, places.inside 0 some, k.width) in
       omega (arith, places.one 0 some, ap (λ u. slice_index u at) e, at_zeros A.width at inside),
 )
+
+-- so where a row of a matrix is the first of a kernel basis, it shows that there is no inverse
+pub first_shown : (p : ℕ) (A V K : Matrix) → IsKernel p A K → 0 < K.height → row V 0 ≡ row K 0 →
+    IsNull p A (row V 0) × (row V 0 ≢ zeros A.width) × ((K : Matrix) × IsKernel p A K × (0 < K.height) × (row V 0 ≡ row K 0))
+first_shown p A V K k some same =
+    let null = first_null p A K k some in (subst (IsNull p A) (sym same) null.0, λ e. null.1 (sym same ∙ e), (K, k, some, same))
 
 -- what it is the form of, by an equal modulus and matrix
 pub form_same : (q p : ℕ) (M W : Matrix) (f : Form) → q ≡ p → M ≡ W → IsFormOf q M f → IsFormOf p W f

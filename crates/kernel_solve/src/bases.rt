@@ -31,9 +31,10 @@ pub fn kernel(alloc: Global, form: &Echelon) -> Result<Rows, AllocError>
     let leads = form.leads();
     let width = rows.width();
     let modulus = rows.modulus();
-    let columns = rows.transpose(alloc)?;
     let height = width - form.rank();
     let entries = (rows.entries() as usize).saturating_add(height as usize);
+    ask_for_room(alloc, height, entries)?;
+    let columns = rows.transpose(alloc)?;
     let mut basis = Rows::with_room(alloc, modulus, width, height, entries)?;
     let mut row = Sparse::new(alloc, width, modulus);
     let mut next = 0;
@@ -47,6 +48,17 @@ pub fn kernel(alloc: Global, form: &Echelon) -> Result<Rows, AllocError>
         }
     }
     Ok(basis)
+}
+
+// Asks for the memory of a matrix of so many rows and entries in one piece, and gives it back. A basis that the machine
+// can't hold is so refused before it is begun: in parts the system may grant more than it has, and end the program.
+fn ask_for_room(alloc: Global, rows: u32, entries: usize) -> Result<(), AllocError> {
+    let words = entries
+        .saturating_add(entries / 2)
+        .saturating_add(rows as usize);
+    let room: Vec<u64> = Vec::with_capacity(alloc, words)?;
+    drop(room);
+    Ok(())
 }
 
 // Sets a zero row to the basis row of a free column f of a form, where these rows, led before f, have these values.

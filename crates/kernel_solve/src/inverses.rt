@@ -33,7 +33,11 @@ pub fn inverse<R: Threads + Sync>(
     ensures inverse { IfOk result (λ found.
         IsPrime a.now.modulus → Inverts a.now.modulus a.now.matrix found) }
 {
-    let n = a.width();
+    let n = a.height();
+    // With fewer entries than rows there is a row of zeros: no I of 2^30 rows is made for a matrix of few entries.
+    if a.entries() < u64::from(n) {
+        return Ok(Inverse::Singular(null_row(rt, alloc, a, workers)?));
+    }
     let form = form_beside_identity(rt, alloc, a, workers)?;
     if fills(form.leads(), n) {
         return Ok(Inverse::Of(right_half(alloc, form.rows(), n)?));
@@ -53,8 +57,7 @@ fn form_beside_identity<R: Threads + Sync>(
     requires small { 2 * a.now.matrix.width ≤ LARGEST_SIZE }
     requires some { 1 ≤ workers }
     requires few { workers ≤ 64 }
-    ensures sound { IsMatrix a.now.modulus a.now.matrix }
-    ensures form { IfOk result (IsFormOf a.now.modulus (beside a.now.matrix (identity a.now.matrix.width))) }
+    ensures { IfOk result (IsFormOf a.now.modulus (beside a.now.matrix (identity a.now.matrix.width))) }
 {
     let modulus = a.modulus();
     let identity = Rows::identity(alloc, a.width(), &modulus)?;

@@ -5,8 +5,8 @@ use Rattle.echelon_form.specs.Form.{IsFormOf}
 use Rattle.kernel_solve.proofs.Inverting.{form_same}
 use Rattle.kernel_solve.proofs.inverses.form_beside_identity.Goals as goal
 
-pub returns-clause-form : goal.returns-clause-form
-returns-clause-form g c =
+pub returns : goal.returns
+returns g c =
     let p = c.args.a.now.modulus in
     let W = beside c.args.a.now.matrix (identity c.args.a.now.matrix.width) in
     IfOk-weaker c.of.result (λ form. IsFormOf c.in_ok-both.both.modulus c.in_ok-both.both.matrix form) (λ form. IsFormOf p W form)
