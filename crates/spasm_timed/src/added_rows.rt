@@ -4,7 +4,6 @@ ghost use Rattle.std.specs.Prelude.{◌≡◌, ◌<◌, ◌≤◌, ℕ, length, 
 use dense_finish::{axpy, axpy_plainly};
 use residue_words::Modulus;
 use std::io;
-use std::rt::Print;
 use std::time::{Clock, Instant};
 
 // How many entries a row has, and how often a multiple is added.

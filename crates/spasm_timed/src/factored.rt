@@ -6,7 +6,6 @@ use dense_finish::finish;
 use residue_words::Modulus;
 use std::alloc::Global;
 use std::io::{self, Read};
-use std::rt::Print;
 use std::thread::Threads;
 use std::time::{Clock, Instant};
 

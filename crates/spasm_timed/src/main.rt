@@ -11,10 +11,10 @@ mod texts;
 
 use added_rows::time_additions;
 use factored::time_factors;
+use residue_words::{MODULUS_BOUND, Modulus};
 use std::alloc::Global;
 use std::io::{self, Read, Write};
 use std::process::ExitCode;
-use std::rt::Print;
 use std::thread::Threads;
 use std::time::Clock;
 use std_edge::words_of;
@@ -33,7 +33,7 @@ fn main(rt: HostRuntime) -> ExitCode {
 }
 
 // Does what was asked.
-fn perform<R: Threads + Sync + Clock + Print, I: Read + Drop, O: Write + Drop>(
+fn perform<R: Threads + Sync + Clock + Print + Eprint, I: Read + Drop, O: Write + Drop>(
     rt: &R,
     alloc: Global,
     task: Option<Task>,
@@ -45,8 +45,12 @@ fn perform<R: Threads + Sync + Clock + Print, I: Read + Drop, O: Write + Drop>(
         Some(Task::Factors(workers)) if 1 <= workers && workers <= 64 => {
             time_factors(rt, alloc, input, workers)
         }
-        Some(Task::Read(p)) => time_reading(rt, alloc, input, &p),
-        Some(Task::Write(p)) => time_writing(rt, alloc, input, output, &p),
+        Some(Task::Read(p)) if 2 <= p && p < MODULUS_BOUND => {
+            time_reading(rt, alloc, input, &Modulus::new(p))
+        }
+        Some(Task::Write(p)) if 2 <= p && p < MODULUS_BOUND => {
+            time_writing(rt, alloc, input, output, &Modulus::new(p))
+        }
         _ => println!(rt; "spasm_timed lanes | factors WORKERS | read P | write P"),
     }
 }

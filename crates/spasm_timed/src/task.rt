@@ -1,5 +1,4 @@
 // What is to be timed.
-use residue_words::{MODULUS_BOUND, Modulus};
 
 #[derive(Clone, Copy, Debug)]
 pub(crate) enum Task {
@@ -8,9 +7,9 @@ pub(crate) enum Task {
     // The factors of the matrix on standard input, by so many workers.
     Factors(u32),
     // The matrix on standard input read, modulo this.
-    Read(Modulus),
+    Read(u64),
     // The same matrix written.
-    Write(Modulus),
+    Write(u64),
 }
 
 impl Task {
@@ -21,18 +20,9 @@ impl Task {
         match (task, number) {
             ("lanes", None) => Some(Task::Lanes),
             ("factors", Some(workers)) => Some(Task::Factors(u32::try_from(workers).ok()?)),
-            ("read", Some(p)) => Some(Task::Read(modulus(p)?)),
-            ("write", Some(p)) => Some(Task::Write(modulus(p)?)),
+            ("read", Some(p)) => Some(Task::Read(p)),
+            ("write", Some(p)) => Some(Task::Write(p)),
             _ => None,
         }
-    }
-}
-
-// The modulus, if p is in range.
-fn modulus(p: u64) -> Option<Modulus> {
-    if 2 <= p && p < MODULUS_BOUND {
-        Some(Modulus::new(p))
-    } else {
-        None
     }
 }

@@ -6,7 +6,6 @@ use sms_text::{Reader, read_rows, write_rows};
 use sparse_rows::Rows;
 use std::alloc::Global;
 use std::io::{self, ErrorKind, Read, Write};
-use std::rt::Print;
 use std::time::{Clock, Instant};
 use std_edge::{FromRead, ToWrite};
 
@@ -40,7 +39,7 @@ pub(crate) fn time_reading<R: Clock + Print, I: Read + Drop>(
 }
 
 // Writes the matrix that was read, and says on standard error how long that takes.
-pub(crate) fn time_writing<R: Clock + Print, I: Read + Drop, O: Write + Drop>(
+pub(crate) fn time_writing<R: Clock + Eprint, I: Read + Drop, O: Write + Drop>(
     rt: &R,
     alloc: Global,
     input: I,
