@@ -4,7 +4,7 @@
 ghost use Rattle.std.specs.Prelude.{◌≡◌, ◌⊎◌, Err, IfOk, OnErr};
 ghost use Rattle.spasm_run.specs.Options.{bytes_of};
 ghost use Rattle.spasm_run.specs.Words.{AreRefused};
-ghost use Rattle.spasm_main.specs.Ends.{EndsFor};
+ghost use Rattle.spasm_main.specs.Ends.{EndsFor, texts_of};
 
 use spasm_run::{Open, run};
 use std::alloc::{AllocError, Global};
@@ -43,9 +43,9 @@ fn answer<R: Threads + Sync, I: Read + Drop, O: Write + Drop, E: Write + Drop>(
     output: O,
     errors: E,
 ) -> Result<u8, NoWords>
-    ensures ran { IfOk result (EndsFor owned.now) }
-    ensures refused { AreRefused owned.now → IfOk result (λ code. (code ≡ 2) ⊎ (code ≡ 8)) }
-    ensures usage { IfOk result (λ code. code ≡ 2 → AreRefused owned.now) }
+    ensures ran { IfOk result (EndsFor (texts_of owned.now)) }
+    ensures refused { AreRefused (texts_of owned.now) → IfOk result (λ code. (code ≡ 2) ⊎ (code ≡ 8)) }
+    ensures usage { IfOk result (λ code. code ≡ 2 → AreRefused (texts_of owned.now)) }
     ensures memory { OnErr result (result ≡ Err NoWords.Memory) }
 {
     let Ok(words) = borrowed(alloc, owned) else {
@@ -60,7 +60,7 @@ fn answer<R: Threads + Sync, I: Read + Drop, O: Write + Drop, E: Write + Drop>(
 
 // The words, lent.
 fn borrowed<'a>(alloc: Global, owned: &'a [String]) -> Result<Vec<&'a str>, AllocError>
-    ensures { IfOk result (λ words. bytes_of words.items ≡ owned.entry.now) }
+    ensures { IfOk result (λ words. bytes_of words.items ≡ texts_of owned.entry.now) }
 {
     let mut words = Vec::with_capacity(alloc, owned.len())?;
     for word in owned {

@@ -9,7 +9,7 @@ ghost use Rattle.spasm_run.specs.Status.{SaysWhy, is_answered, is_written};
 ghost use Rattle.spasm_run.specs.Words.{Accepted, AreRefused};
 
 #[cfg(test)]
-mod tests;
+pub(crate) mod tests;
 
 use crate::answer::Answer;
 use crate::commands::{

@@ -131,6 +131,7 @@ pub fn rows_of(alloc: Global, modulus: &Modulus, text: &[u8]) -> Result<Rows, Fa
 }
 
 // A run that is known: its words, its input and its streams; how it ends, what its output holds then, and what its error stream tells.
+#[derive(Drop)]
 struct Trial<'a> {
     words: &'a [&'a str],
     text: &'a [u8],
