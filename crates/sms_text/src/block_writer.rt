@@ -1,11 +1,13 @@
 // A buffer in front of a sink.
 ghost use Rattle.std.specs.Prelude.{◌≡◌, ℕ, ◌+◌, ◌≤◌, List, [], length};
 ghost use Rattle.sms_text.specs.Writing.{Writes, Adds, output};
-ghost use Rattle.sms_text.specs.Written.{head_line, entry_line, end_line};
+ghost use Rattle.std.specs.Fmt.{decimal};
+ghost use Rattle.sms_text.specs.Written.{head_line, entry_line, pair_line, end_line};
 
 use crate::short_bytes::ShortBytes;
 use crate::stream::Sink;
-use crate::write::{WriteFault, entry, head, put_all};
+use crate::write::{WriteFault, entry, head, pair, put_all};
+use itoa::Buffer;
 use std::marker::Model;
 
 /// Bytes on their way to one sink, which reach it in blocks of more than 4,096 bytes and a last one of what is left. It takes no memory.
@@ -76,6 +78,24 @@ impl BlockWriter {
             (output self.old (K.state out.old)) (output self.new (K.state out.new)) }
     {
         let line = entry(i, j, v);
+        self.add(out, line.bytes())
+    }
+
+    /// Adds a number in decimal.
+    pub fn add_number<K: Sink>(&mut self, out: &mut K, n: u64) -> Result<(), WriteFault>
+        ensures { Adds result (decimal n)
+            (output self.old (K.state out.old)) (output self.new (K.state out.new)) }
+    {
+        let mut digits = Buffer::new();
+        self.add(out, digits.format(n).as_bytes())
+    }
+
+    /// Adds a line of two numbers.
+    pub fn add_pair<K: Sink>(&mut self, out: &mut K, i: u32, j: u32) -> Result<(), WriteFault>
+        ensures { Adds result (pair_line i j)
+            (output self.old (K.state out.old)) (output self.new (K.state out.new)) }
+    {
+        let line = pair(i, j);
         self.add(out, line.bytes())
     }
 

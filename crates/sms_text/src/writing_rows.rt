@@ -17,7 +17,7 @@ use sparse_rows::Rows;
 /// columns ascending, and the closing line.
 ///
 /// The sink is given blocks of more than 4096 bytes, and a last one of what is left. It takes no memory, and time proportional to the
-/// entries and the height. `read_rows` reads what was written as the same matrix: `written_text_reads_back` says so.
+/// entries, and to the height where it is about as large. `read_rows` reads what was written as the same matrix: `written_text_reads_back` says so.
 pub fn write_rows<K: Sink>(out: &mut K, rows: &Rows) -> Result<(), WriteFault>
     requires height { rows.now.matrix.height ≤ LARGEST_TEXT_SIZE }
     requires width { rows.now.matrix.width ≤ LARGEST_TEXT_SIZE }
@@ -48,8 +48,10 @@ fn add_rows<K: Sink>(out: &mut K, blocks: &mut BlockWriter, rows: &Rows) -> Resu
 {
     let height = rows.height();
     blocks.add_head(out, height, rows.width())?;
-    for i in 0..height {
+    let mut from = 0;
+    while let Some(i) = rows.next_filled(from) {
         add_row(out, blocks, rows, i)?;
+        from = i + 1;
     }
     blocks.add_end(out)?;
     Ok(())

@@ -1,7 +1,7 @@
 -- Row by row.
-use Rattle.std.proofs.Common.{refl, arith}
+use Rattle.std.proofs.Common.{◌+◌, ◌-◌, ◌<◌, refl, arith}
 use Rattle.std.proofs.lemmas.Result.{err_from_is_err_and}
-use Rattle.sms_text.proofs.WrittenRows.{added_nothing, added_more, added_fault, added_all, text_from, rows_from_one, rows_from_end}
+use Rattle.sms_text.proofs.WrittenRows.{added_nothing, added_more, added_fault, added_all, text_from, rows_from_next, rows_from_last}
 use Rattle.sms_text.proofs.writing_rows.add_rows.Goals as goal
 
 pub loop-i-init : goal.loop-i-init
@@ -11,7 +11,7 @@ loop-i-init g c =
 
 pub loop-i-preserved : goal.loop-i-preserved
 loop-i-preserved g c =
-    added_more _ _ _ _ _ _ _ (rows_from_one c.args.rows.now.matrix c.loop-i.i (omega (arith, c.height-height.ensures.value)))
+    added_more _ _ _ _ _ _ _ (rows_from_next c.args.rows.now.modulus c.loop-i.from c.in-Some.i c.args.rows.now.matrix c.height-height.ensures.sound c.in-Some.ensures)
     c.loop-i.invariant c.in_ok-add_row.ensures
 
 pub returns-in_err-add_head : goal.returns-in_err-add_head
@@ -23,17 +23,21 @@ returns-in_err-add_head g c =
 pub returns-in_err-add_row : goal.returns-in_err-add_row
 returns-in_err-add_row g c =
     let fault = err_from_is_err_and c.from_residual-in_err-add_row.result c.from_residual-in_err-add_row.ensures.1 in
-    rw fault.1 (added_fault _ _ _ _ _ _ _ _ (rows_from_one c.args.rows.now.matrix c.loop-i.i (omega (arith, c.height-height.ensures.value)))
+    rw fault.1 (added_fault _ _ _ _ _ _ _ _ (rows_from_next c.args.rows.now.modulus c.loop-i.from c.in-Some.i c.args.rows.now.matrix c.height-height.ensures.sound c.in-Some.ensures)
     c.loop-i.invariant c.in_err-add_row.ensures)
 
 pub returns-in_err-add_end : goal.returns-in_err-add_end
 returns-in_err-add_end g c =
     let fault = err_from_is_err_and c.from_residual-in_err-add_end.result c.from_residual-in_err-add_end.ensures.1 in
-    rw fault.1 (added_fault _ _ _ _ _ _ _ _ (rows_from_end c.args.rows.now.matrix c.loop-i.i (omega (arith, c.height-height.ensures.value)))
+    rw fault.1 (added_fault _ _ _ _ _ _ _ _ (rows_from_last c.args.rows.now.modulus c.loop-i.from c.args.rows.now.matrix c.height-height.ensures.sound c.in_default.ensures)
     c.loop-i.invariant c.in_err-add_end.ensures)
 
 pub returns : goal.returns
 returns g c =
     added_all _ _ _ _ refl
-    (added_more _ _ _ _ _ _ _ (rows_from_end c.args.rows.now.matrix c.loop-i.i (omega (arith, c.height-height.ensures.value)))
+    (added_more _ _ _ _ _ _ _ (rows_from_last c.args.rows.now.modulus c.loop-i.from c.args.rows.now.matrix c.height-height.ensures.sound c.in_default.ensures)
     c.loop-i.invariant c.in_ok-add_end.ensures)
+
+pub loop-i-smaller : goal.loop-i-smaller
+loop-i-smaller g c =
+    let less : c.args.rows.now.matrix.height - (c.in-Some.i + 1) < c.args.rows.now.matrix.height - c.loop-i.from = omega (arith, c.in-Some.ensures.low, c.in-Some.ensures.below) in less
