@@ -1,5 +1,5 @@
 -- From the calls of a reader to the matrices that were read.
-use Rattle.std.proofs.Common.{ℕ, Bool, false, true, ◌≡◌, List, [], ◌∷◌, ◌++◌, Option, None, Some, Result, Ok, Err, refl, sym, ap, ◌∙◌, subst, append-nil}
+use Rattle.std.proofs.Common.{ℕ, Bool, false, true, ◌≡◌, List, [], ◌∷◌, ◌++◌, Option, None, Some, Result, Ok, Err, sym, ap, ◌∙◌, subst, append-nil}
 use Rattle.sms_text.specs.declared.kind.TextError.{TextError}
 use Rattle.sms_text.specs.declared.kind.TextError.TheVariants as error
 use Rattle.sms_text.specs.Lines.{lines}
@@ -10,7 +10,7 @@ use Rattle.sms_text.specs.Text.{Due, Header, Got, Request, matrices, reading}
 use Rattle.sms_text.proofs.Moving.{draws_none, draws_on, draws_reach, draws_with, stays_at}
 use Rattle.sms_text.proofs.Runs.{with_items_append, with_items_fault, with_items_short}
 use Rattle.sparse_rows.specs.Rows.{ResidueMatrix}
-use Rattle.spasm_run.specs.Input.{Input, SaysMatrices, WasRead, one_value, supply_behind}
+use Rattle.spasm_run.specs.Input.{Input, SaysMatrices, WasRead, one_value}
 
 -- what is due from the first line on
 abbrev pub from_start : ℕ → ℕ → List Due → Request

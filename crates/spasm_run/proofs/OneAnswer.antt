@@ -1,5 +1,5 @@
 -- A command has one answer: what its text tells is unique, and just one of two things can be told.
-use Rattle.std.proofs.Common.{ℕ, ◌≡◌, ◌≤◌, ◌++◌, inl, inr, List, [], ◌∷◌, None, sym, ap, subst, ◌∙◌, arith}
+use Rattle.std.proofs.Common.{ℕ, ◌≡◌, ◌≤◌, ◌++◌, inl, inr, List, [], ◌∷◌, None, sym, ap, ◌∙◌, arith}
 use Rattle.std.specs.Prelude.{codes}
 use Rattle.std.proofs.lemmas.Bool.Decides.{nat_tests}
 use Rattle.residue_words.specs.Matrix.{Matrix, row}
@@ -8,9 +8,8 @@ use Rattle.row_space.proofs.Unique.{kernel_unique, rank_unique, refutation_uniqu
 use Rattle.kernel_solve.specs.Columns.{column}
 use Rattle.sms_text.specs.Written.{text_of}
 use Rattle.sparse_rows.specs.Rows.{transposed}
-use Rattle.spasm_run.specs.declared.words.Task.{Task}
 use Rattle.spasm_run.specs.declared.words.Task.TheVariants as task
-use Rattle.spasm_run.specs.Answers.{InvertsTo, IsOneAnswer, SolvesTo, AnswerOf, as_column, misfit, rank_text, as_row}
+use Rattle.spasm_run.specs.Answers.{InvertsTo, IsOneAnswer, SolvesTo, as_column, misfit, rank_text, as_row}
 
 -- a system's answer
 one_solution : (p : ℕ) (A : Matrix) (b x y : List ℕ) → 2 ≤ p → SolvesTo p A b x → SolvesTo p A b y → x ≡ y

@@ -1,6 +1,6 @@
 -- What the bytes taken from a source say, all its bytes say.
 use Rattle.std.proofs.Common.{ℕ, Bool, true, false, ◌≡◌, List, [], ◌++◌, Option, None, Some, refl, sym, ap, ◌∙◌, append-nil}
-use Rattle.sms_text.specs.Lines.{Line, lines}
+use Rattle.sms_text.specs.Lines.{Line}
 use Rattle.sms_text.specs.Reading.{Draws, Drew, untouched}
 use Rattle.sms_text.specs.Stream.{SourceState, IsNothing, in_front}
 use Rattle.sms_text.specs.Text.{Reading, Request, Got, Fault, Short, reading}

@@ -1,5 +1,5 @@
 -- From what was found to what a run did.
-use Rattle.std.proofs.Common.{ℕ, Bool, true, false, ◌≡◌, ◌⊎◌, ◌++◌, List, [], Option, None, Some, Result, Ok, Err, refl, sym, ap, ap₂, ◌∙◌, subst, inl, inr}
+use Rattle.std.proofs.Common.{ℕ, Bool, true, false, ◌≡◌, ◌⊎◌, ◌++◌, List, [], None, Some, Result, Ok, Err, refl, sym, ap, ap₂, ◌∙◌, subst, inl, inr}
 use Rattle.std.specs.Result.{IsErrAnd}
 use Rattle.std.proofs.lemmas.Result.{err_from_is_err_and}
 use Rattle.residue_words.specs.Matrix.{Matrix}
@@ -7,10 +7,9 @@ use Rattle.sms_text.specs.declared.kind.Kind.{Kind}
 use Rattle.sms_text.specs.declared.kind.TextError.{TextError}
 use Rattle.sms_text.specs.declared.kind.TextError.TheVariants as error
 use Rattle.sms_text.specs.declared.write.WriteFault.{WriteFault}
-use Rattle.sms_text.specs.Lines.{Line}
 use Rattle.sms_text.specs.Reading.{Draws, IsShort, untouched}
 use Rattle.sms_text.specs.Stream.{SinkState, SourceState, Gained, Rose}
-use Rattle.sms_text.specs.Text.{Due, Item, Got, Fault, FirstFault, Reading, Request, matrices, reading}
+use Rattle.sms_text.specs.Text.{Got, Fault, FirstFault, Reading, Request, matrices, reading}
 use Rattle.sms_text.specs.Writing.{Writes}
 use Rattle.sms_text.proofs.Moving.{draws_none, draws_with}
 use Rattle.spasm_run.specs.declared.answer.Answer.{Answer}
@@ -21,7 +20,7 @@ use Rattle.spasm_run.specs.declared.words.Task.{Task}
 use Rattle.spasm_run.specs.Answers.{misfit, wanted}
 use Rattle.spasm_run.specs.Computed.{ComesOf, IsFoundIn, WasFound, answer_text, is_unread_in}
 use Rattle.spasm_run.specs.Input.{HasMatrices, Input, WasRead, supply_behind}
-use Rattle.spasm_run.specs.Ran.{AreTooFew, Completes, HasAnswer, Explains, HasNoAnswer, IsAnswered, IsMisfit, IsOffered, IsOrMemory, Ran, Run, request, whole_input}
+use Rattle.spasm_run.specs.Ran.{AreTooFew, HasAnswer, Explains, HasNoAnswer, IsAnswered, IsMisfit, IsOffered, IsOrMemory, Ran, Run, request, whole_input}
 use Rattle.spasm_run.specs.Status.{is_unread, status_of}
 use Rattle.spasm_run.specs.Words.{Accepted, AreRefused}
 use Rattle.spasm_run.proofs.Exact.{one_command}

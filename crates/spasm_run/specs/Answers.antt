@@ -24,7 +24,8 @@ wanted task = Header ∷ []
 -- the status by which matrices of a wrong shape are refused: a right-hand side has to be a column as long as the matrix is high, and what is
 -- inverted square, of at most LARGEST_INVERTED rows
 abbrev pub misfit : Task → List Matrix → Option Status
-misfit Solve (A ∷ B ∷ []) = if (B.height == A.height) && (B.width == 1) then None else Some (Shape B.height B.width)
+misfit Solve (A ∷ B ∷ []) =
+    if (B.height == A.height) && (B.width == 1) then None else Some (Shape B.height B.width)
 misfit Inverse (A ∷ []) =
     if not (A.height == A.width) then Some (Shape A.height A.width) else
     if nat_lt LARGEST_INVERTED A.height then Some (Wide A.height A.width) else None
@@ -44,13 +45,15 @@ as_row y = record { height = 1; width = length y; rows = y ∷ [] }
 abbrev pub SolvesTo : ℕ → Matrix → List ℕ → List ℕ → Type 0
 SolvesTo p A b text =
     ((x : List ℕ) × IsReducedSolution p A b x × (text ≡ codes "solution\n" ++ text_of (as_column x)))
-    ⊎ ((y : List ℕ) × ((x : List ℕ) → ¬ IsSolution p A b x) × IsRefutingCombination p A b y × (text ≡ codes "no solution\n" ++ text_of (as_row y)))
+    ⊎ ((y : List ℕ) × ((x : List ℕ) → ¬ IsSolution p A b x) × IsRefutingCombination p A b y
+    × (text ≡ codes "no solution\n" ++ text_of (as_row y)))
 
 -- the inverse of A; or, where there is none, the first row of its kernel basis
 abbrev pub InvertsTo : ℕ → Matrix → List ℕ → Type 0
 InvertsTo p A text =
     ((B : Matrix) × IsInverse p A B × (text ≡ codes "inverse\n" ++ text_of B))
-    ⊎ ((K : Matrix) × ((B : Matrix) → ¬ IsInverse p A B) × IsKernel p A K × (0 < K.height) × (text ≡ codes "singular\n" ++ text_of (as_row (row K 0))))
+    ⊎ ((K : Matrix) × ((B : Matrix) → ¬ IsInverse p A B) × IsKernel p A K × (0 < K.height)
+    × (text ≡ codes "singular\n" ++ text_of (as_row (row K 0))))
 
 -- the text is the answer to the command for these matrices
 abbrev pub AnswerOf : Task → ℕ → List Matrix → List ℕ → Type 0
@@ -64,5 +67,5 @@ AnswerOf task p values text = ⊥
 
 -- the answer to a command for matrices of the shapes that are wanted is one text
 abbrev pub IsOneAnswer : Type 0
-IsOneAnswer = (task : Task) (p : ℕ) (values : List Matrix) (text other : List ℕ) → 2 ≤ p → misfit task values ≡ None →
-    AnswerOf task p values text → AnswerOf task p values other → text ≡ other
+IsOneAnswer = (task : Task) (p : ℕ) (values : List Matrix) (text other : List ℕ) → 2 ≤ p →
+    misfit task values ≡ None → AnswerOf task p values text → AnswerOf task p values other → text ≡ other

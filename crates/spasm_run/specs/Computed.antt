@@ -48,7 +48,8 @@ pub record IsAnswerTo (t : Task) (p : ℕ) (values : List Matrix) (a : Answer) :
 
 -- what is found for the system S: for a prime modulus the solution of A x = b, or that there is none, where S is [A | b]
 abbrev pub AnswersSystem : ℕ → Matrix → Found → Type 0
-AnswersSystem p S found = IsPrime p → (A : Matrix) (b : List ℕ) → IsMatrix p A → IsVector p A.height b → S ≡ beside A b → Answers p A b found
+AnswersSystem p S found = IsPrime p → (A : Matrix) (b : List ℕ) → IsMatrix p A → IsVector p A.height b →
+    S ≡ beside A b → Answers p A b found
 
 -- what comes of a task for these matrices: its answer; or they are refused for their shapes; or memory was wanted
 abbrev pub ComesOf : Task → ℕ → List Matrix → Result Answer Status → Type 0
@@ -70,7 +71,9 @@ IsFoundIn words limit input (Err s) = HasNoAnswer words limit input s
 
 -- The answer that was found for these words, or why there is none, in the input that was taken from a source, of which nothing was asked
 -- before; no more was taken than was needed.
-pub record WasFound (words : List (List ℕ)) (limit : ℕ) (result : Result Answer Status) (old new : SourceState) : Type 0 where
+pub record WasFound (words : List (List ℕ)) (limit : ℕ) (result : Result Answer Status)
+    (old new : SourceState) : Type 0 where
   pub input : Input
-  pub draws : Draws (AreTooFew words limit) (is_unread_in result) input.bytes (untouched old) (supply_behind input new)
+  pub draws : Draws (AreTooFew words limit) (is_unread_in result) input.bytes
+      (untouched old) (supply_behind input new)
   pub found : IsFoundIn words limit input result

@@ -32,7 +32,8 @@ SaysMatrices r input (Err e) = Says (Err e) (reading r input.ended input.bytes)
 
 -- What was asked for was read from a source, of which nothing was asked before: the input that was taken says so. It was not read for a
 -- failure exactly where the source failed, and no more was taken than was needed.
-pub record WasRead (r : Request) (result : Result (List Matrix) TextError) (old new : SourceState) : Type 0 where
+pub record WasRead (r : Request) (result : Result (List Matrix) TextError)
+    (old new : SourceState) : Type 0 where
   pub input : Input
   pub draws : Draws (IsShort r) (is_failed result) input.bytes (untouched old) (supply_behind input new)
   pub says : SaysMatrices r input result

@@ -24,7 +24,8 @@ IsNumber low high absent (Some w) n = IsInRange low high w n
 
 -- the number, if there is one
 abbrev pub IsNumberOf : ℕ → ℕ → ℕ → Option (List ℕ) → Option ℕ → Type 0
-IsNumberOf low high absent text result = MatchOption result ((n : ℕ) → ¬ IsNumber low high absent text n) (IsNumber low high absent text)
+IsNumberOf low high absent text result =
+    MatchOption result ((n : ℕ) → ¬ IsNumber low high absent text n) (IsNumber low high absent text)
 
 -- the rows give this number for the option
 abbrev pub RowsGive : Rule → List Row → ℕ → Type 0

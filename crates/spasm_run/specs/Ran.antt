@@ -1,5 +1,5 @@
 -- What a run did: each status with its cause, and what a run comes to on a whole input.
-use Rattle.std.specs.Prelude.{◌≡◌, ◌⊎◌, true, false, ℕ, List, ◌++◌, Some, None}
+use Rattle.std.specs.Prelude.{◌≡◌, ◌⊎◌, true, ℕ, List, ◌++◌, Some, None}
 use Rattle.residue_words.specs.Matrix.{Matrix}
 use Rattle.residue_words.specs.Residues.{IsPrime}
 use Rattle.sms_text.specs.declared.kind.Kind.{Kind}
@@ -58,12 +58,14 @@ HasNoAnswer words limit input (status.Wide height width) =
     (c : Command) × Accepted words c × IsMisfit c limit input (status.Wide height width)
 HasNoAnswer words limit input _ = ⊥
 
--- The run and its input explain why it ended with this status: the output gained the answer; or it gained a part of the answer, and failed; or there is no answer, and the output
--- is as it was.
+-- The run and its input explain this status: the output gained the answer; or it gained a part of the answer, and failed; or there is no
+-- answer, and the output is as it was.
 abbrev pub Explains : Run → Input → Status → Type 0
-Explains r input status.Done = (text : List ℕ) × IsAnswered r.words r.limit input text × Gained text r.out r.out_after
+Explains r input status.Done =
+    (text : List ℕ) × IsAnswered r.words r.limit input text × Gained text r.out r.out_after
 Explains r input status.WriteFault =
-    (part : List ℕ) × (rest : List ℕ) × IsAnswered r.words r.limit input (part ++ rest) × GainedAndFailed part r.out r.out_after
+    (part : List ℕ) × (rest : List ℕ) × IsAnswered r.words r.limit input (part ++ rest)
+    × GainedAndFailed part r.out r.out_after
 Explains r input s = HasNoAnswer r.words r.limit input s × (r.out_after ≡ r.out)
 
 -- the words ask for a command, and these bytes are too few to tell its matrices or a fault
@@ -100,6 +102,7 @@ pub record Completes (r : Run) (s : Status) : Type 0 where
 -- status has a cause; and it came to what it had to.
 pub record Ran (r : Run) (s : Status) : Type 0 where
   pub input : Input
-  pub draws : Draws (AreTooFew r.words r.limit) (is_unread s) input.bytes (untouched r.source) (supply_behind input r.source_after)
+  pub draws : Draws (AreTooFew r.words r.limit) (is_unread s) input.bytes
+      (untouched r.source) (supply_behind input r.source_after)
   pub cause : Explains r input s
   pub complete : Completes r s

@@ -27,11 +27,13 @@ fault_line status.No = []
 fault_line status.Usage = codes "error 2 usage\n"
 fault_line (status.BadText line k) =
     codes "error 3 line " ++ decimal line ++ codes " kind " ++ decimal (kind_number k) ++ 10 ∷ []
-fault_line (status.Shape height width) = codes "error 4 shape " ++ decimal height ++ 32 ∷ decimal width ++ 10 ∷ []
+fault_line (status.Shape height width) =
+    codes "error 4 shape " ++ decimal height ++ 32 ∷ decimal width ++ 10 ∷ []
 fault_line status.ReadFault = codes "error 6 read\n"
 fault_line status.WriteFault = codes "error 7 write\n"
 fault_line status.Memory = codes "error 8 memory\n"
-fault_line (status.Wide height width) = codes "error 9 wide " ++ decimal height ++ 32 ∷ decimal width ++ 10 ∷ []
+fault_line (status.Wide height width) =
+    codes "error 9 wide " ++ decimal height ++ 32 ∷ decimal width ++ 10 ∷ []
 
 -- the run ended with an answer that was written whole, so that there is no fault line
 abbrev pub is_answered : Status → Bool
@@ -52,7 +54,8 @@ is_unread _ = false
 -- a stream gained this line, or a part of it where it failed
 abbrev pub Tells : List ℕ → SinkState → SinkState → Type 0
 Tells line old new =
-    Gained line old new ⊎ ((part : List ℕ) × (rest : List ℕ) × (line ≡ part ++ rest) × GainedAndFailed part old new)
+    Gained line old new
+    ⊎ ((part : List ℕ) × (rest : List ℕ) × (line ≡ part ++ rest) × GainedAndFailed part old new)
 
 -- the error stream is as it was, or tells the fault
 abbrev pub SaysWhy : Status → SinkState → SinkState → Type 0

@@ -57,8 +57,10 @@ IsInRange low high w n = IsTrue (is_number w) × (n ≡ value w) × (low ≤ n) 
 -- n is the value of the option among those given, and lies in its range; or it is the number that stands where it is absent
 pub data IsValueOf (options : List Given) (rule : Rule) (n : ℕ) : Type 0 where
   GivenOnce : (before : List Given) (joined : Bool) (w : List ℕ) (after : List Given) →
-      options ≡ before ++ (record { name = rule.name; value = w; joined = joined }) ∷ after → IsInRange rule.low rule.high w n → IsValueOf options rule n
-  Absent : ((g : Given) → Contains options g → g.name ≢ rule.name) → n ≡ rule.absent → IsValueOf options rule n
+      options ≡ before ++ (record { name = rule.name; value = w; joined = joined }) ∷ after →
+      IsInRange rule.low rule.high w n → IsValueOf options rule n
+  Absent : ((g : Given) → Contains options g → g.name ≢ rule.name) → n ≡ rule.absent →
+      IsValueOf options rule n
 
 -- each option has one of these names, and no name comes twice
 pub record AreKnown (options : List Given) (names : List (List ℕ)) : Type 0 where

@@ -209,7 +209,8 @@ fn refutation<R: Threads + Sync>(
     requires width { a.now.matrix.width < LARGEST_SIZE }
     ensures row { IfOk result (λ y. y.matrix ≡ as_row (row y.matrix 0)) }
     ensures width { IfOk result (λ y. y.matrix.width ≡ a.now.matrix.height) }
-    ensures refutes { IfOk result (λ y. IsPrime a.now.modulus → ((x : List ℕ) → ¬ IsSolution a.now.modulus a.now.matrix (column b.now.matrix) x)
+    ensures refutes { IfOk result (λ y. IsPrime a.now.modulus
+        → ((x : List ℕ) → ¬ IsSolution a.now.modulus a.now.matrix (column b.now.matrix) x)
         → IsRefutingCombination a.now.modulus a.now.matrix (column b.now.matrix) (row y.matrix 0)) }
 {
     row_space::refuting_is_solvable();

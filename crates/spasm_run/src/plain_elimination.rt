@@ -44,7 +44,8 @@ fn plain_row(alloc: Global, rows: &Rows, i: u32) -> Result<Vec<u64>, AllocError>
 
 // The place of the first entry that isn't 0.
 fn first_nonzero(row: &[u64]) -> Option<usize>
-    ensures { MatchOption result ((j : ℕ) → j < length row.now → slice_index row.now j ≡ 0) (StartsAt row.now) }
+    ensures { MatchOption result
+        ((j : ℕ) → j < length row.now → slice_index row.now j ≡ 0) (StartsAt row.now) }
 {
     for (j, a) in row.iter().enumerate() {
         if *a != 0 {
@@ -73,7 +74,8 @@ fn scale(p: &Modulus, row: &mut [u64], a: u64)
     requires row { IsVector p.now (length row.old) row.old }
     requires factor { a < p.now }
     ensures vector { IsVector p.now (length row.old) row.new }
-    ensures value { (j : ℕ) → j < length row.old → slice_index row.new j ≡ (a * slice_index row.old j) % p.now }
+    ensures value { (j : ℕ) → j < length row.old
+        → slice_index row.new j ≡ (a * slice_index row.old j) % p.now }
 {
     for j in 0..row.len() {
         row[j] = p.mul(a, row[j]);
@@ -86,7 +88,8 @@ fn reduce(p: &Modulus, row: &mut [u64], kept: &[Vec<u64>], leads: &[usize])
     requires kept { AreKept p.now (length row.old) (lists kept.now) leads.now }
     ensures vector { IsVector p.now (length row.old) row.new }
     ensures value { IsPrime p.now → DiffersBy p.now (plain_matrix (length row.old) kept.now) row.old row.new }
-    ensures cleared { let A = plain_matrix (length row.old) kept.now in IsPrime p.now → HasSteps A.height A.width (entry A) (slice_index leads.now)
+    ensures cleared { let A = plain_matrix (length row.old) kept.now in
+        IsPrime p.now → HasSteps A.height A.width (entry A) (slice_index leads.now)
         → (k : ℕ) → k < length leads.now → slice_index row.new (slice_index leads.now k) ≡ 0 }
 {
     for k in 0..kept.len() {
@@ -129,7 +132,8 @@ fn keep(
 ) -> Result<(), AllocError>
     requires row { IsVector p.now (length row.items) row.items }
     requires kept { AreKept p.now (length row.items) (lists kept.old.items) leads.old.items }
-    ensures kept { IfOk result (λ _. AreKept p.now (length row.items) (lists kept.new.items) leads.new.items) }
+    ensures kept { IfOk result (λ _.
+        AreKept p.now (length row.items) (lists kept.new.items) leads.new.items) }
     ensures reduced { IfOk result (λ _. PassesRow p.now (length row.items) row.items
         (steps kept.old.items leads.old.items) (steps kept.new.items leads.new.items)) }
 {

@@ -17,8 +17,8 @@ pub(crate) fn read_one<S: Source>(
     limit: u64,
 ) -> Result<Rows, TextError>
     requires { limit ≤ LARGEST_INPUT }
-    ensures did { WasRead (record { modulus = p.now; limit = limit; due = Header ∷ [] }) (one_value result)
-        (S.state source.old) (S.state source.new) }
+    ensures did { WasRead (record { modulus = p.now; limit = limit; due = Header ∷ [] })
+        (one_value result) (S.state source.old) (S.state source.new) }
     ensures matrix { IfOk result (IsOfText p.now) }
 {
     let Ok(mut reader) = Reader::new(alloc, limit) else {
@@ -35,8 +35,8 @@ pub(crate) fn read_two<S: Source>(
     limit: u64,
 ) -> Result<(Rows, Rows), TextError>
     requires { limit ≤ LARGEST_INPUT }
-    ensures did { WasRead (record { modulus = p.now; limit = limit; due = Header ∷ Header ∷ [] }) (two_values result)
-        (S.state source.old) (S.state source.new) }
+    ensures did { WasRead (record { modulus = p.now; limit = limit; due = Header ∷ Header ∷ [] })
+        (two_values result) (S.state source.old) (S.state source.new) }
     ensures first { IfOk result (λ both. IsOfText p.now both.0) }
     ensures second { IfOk result (λ both. IsOfText p.now both.1) }
 {

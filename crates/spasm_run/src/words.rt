@@ -100,7 +100,9 @@ fn matches_of<'a>(alloc: Global, words: &'a [&'a str]) -> Result<Option<ArgMatch
 
 // The command that the matches give, where each number is in its range.
 fn command_of(matches: &ArgMatches<'_>) -> Option<Command>
-    ensures { MatchOption result ((c : Command) → ¬ AsksFor (subcommand_rows_of matches.now) c) (AsksFor (subcommand_rows_of matches.now)) }
+    ensures { MatchOption result
+        ((c : Command) → ¬ AsksFor (subcommand_rows_of matches.now) c)
+        (AsksFor (subcommand_rows_of matches.now)) }
 {
     let (name, options) = matches.subcommand()?;
     let task = line::task_of(name)?;

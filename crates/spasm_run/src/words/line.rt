@@ -42,7 +42,8 @@ pub fn command<'a>(alloc: Global) -> Result<clap::Command<'a>, AllocError>
 
 // The command of this name, with its options.
 fn with_options<'a>(alloc: Global, name: &'a str) -> Result<clap::Command<'a>, AllocError>
-    ensures { IfOk result (λ c. (app_of c ≡ command_named name.entry.now) × ((fields_of c).has_globals ≡ false)) }
+    ensures { IfOk result (λ c.
+        (app_of c ≡ command_named name.entry.now) × ((fields_of c).has_globals ≡ false)) }
 {
     let mut named = clap::Command::new(alloc, name);
     for option in &OPTIONS {
