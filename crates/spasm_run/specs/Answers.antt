@@ -6,7 +6,7 @@ use Rattle.row_space.specs.Echelon.{HasRank, IsRref}
 use Rattle.row_space.specs.Inverse.{IsInverse}
 use Rattle.row_space.specs.Kernel.{IsKernel}
 use Rattle.row_space.specs.Solution.{IsReducedSolution, IsRefutingCombination, IsSolution}
-use Rattle.kernel_solve.specs.Columns.{column}
+use Rattle.kernel_solve.specs.Column.{column, column_of}
 use Rattle.sms_text.specs.Text.{Due, Header}
 use Rattle.sms_text.specs.Written.{text_of}
 use Rattle.sparse_rows.specs.Rows.{matrix_by, transposed}
@@ -32,10 +32,7 @@ misfit task values = None
 abbrev pub rank_text : ℕ → List ℕ
 rank_text r = codes "rank " ++ decimal r ++ 10 ∷ []
 
--- the matrix of one column, and of one row, with these entries
-abbrev pub column_of : List ℕ → Matrix
-column_of x = matrix_by (length x) 1 (λ i j. slice_index x i)
-
+-- the matrix of one row with these entries
 abbrev pub row_of : List ℕ → Matrix
 row_of y = record { height = 1; width = length y; rows = y ∷ [] }
 
