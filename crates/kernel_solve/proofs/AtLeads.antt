@@ -60,10 +60,10 @@ module _ (leads rs : List ℕ) (rising : (s t : ℕ) → s < t → t < length le
     ])
   ]
 
-  pub at_lead : (vs : List ℕ) (k : ℕ) → k < length leads → entry_at moved vs (slice_index leads k) ≡ entry_at rs vs k
+  at_lead : (vs : List ℕ) (k : ℕ) → k < length leads → entry_at moved vs (slice_index leads k) ≡ entry_at rs vs k
   at_lead vs k l = entry_moved (slice_index leads) rs vs k (lead_apart k l)
 
-  pub no_lead : (vs : List ℕ) (j : ℕ) → ((k : ℕ) → k < length leads → slice_index leads k ≢ j) → entry_at moved vs j ≡ 0
+  no_lead : (vs : List ℕ) (j : ℕ) → ((k : ℕ) → k < length leads → slice_index leads k ≢ j) → entry_at moved vs j ≡ 0
   no_lead vs j none = elim (entry_cover moved vs j) [
     | inl z ↦ z
     | inr w ↦

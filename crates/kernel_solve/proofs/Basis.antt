@@ -65,7 +65,7 @@ pub record AreBasisRows (p : ℕ) (E : Matrix) (leads free : List ℕ) (K : Matr
   pub each : (g : ℕ) → g < length free → IsBasisRow p leads (column_at E (slice_index free g)) (slice_index free g) (row K g)
 
 -- one row more
-pub basis_more : {p : ℕ} {E : Matrix} {leads free : List ℕ} {K : Matrix} → 2 ≤ p → AreBasisRows p E leads free K → (f : ℕ) (v : List ℕ) → length v ≡ E.width →
+basis_more : {p : ℕ} {E : Matrix} {leads free : List ℕ} {K : Matrix} → 2 ≤ p → AreBasisRows p E leads free K → (f : ℕ) (v : List ℕ) → length v ≡ E.width →
     IsBasisRow p leads (column_at E f) f v → AreBasisRows p E leads (free ++ f ∷ []) (with_row K v)
 basis_more {p} {E} {leads} {free} {K} two b f v long made =
     record {
@@ -283,7 +283,7 @@ basis_kernel p A E leads free K prime rref has c b =
     kernel_through p A E K prime.two_or_more rref.width rref.span (form_kernel p E leads free K prime.two_or_more rref.matrix has.0 c b has prime)
 
 -- a column, its free column and the form's leads determine the row
-pub basis_row_unique : (p : ℕ) (leads column : List ℕ) (f : ℕ) (u v : List ℕ) → IsBasisRow p leads column f u → IsBasisRow p leads column f v → length u ≡ length v → u ≡ v
+basis_row_unique : (p : ℕ) (leads column : List ℕ) (f : ℕ) (u v : List ℕ) → IsBasisRow p leads column f u → IsBasisRow p leads column f v → length u ≡ length v → u ≡ v
 basis_row_unique p leads column f u v a b same = list_equal (length v) u v same refl (λ j l. elim (cases_eq j f) [
   | inl e ↦ ap (slice_index u) e ∙ a.one ∙ sym (ap (slice_index v) e ∙ b.one)
   | inr d ↦ elim (lead_or_none leads j) [

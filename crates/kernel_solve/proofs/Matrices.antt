@@ -16,11 +16,8 @@ use Rattle.kernel_solve.specs.Column.{column, column_of}
 pub transposed_entry : (M : Matrix) (i j : ℕ) → i < M.width → j < M.height → entry (transposed M) i j ≡ entry M j i
 transposed_entry M i j a b = entry_matrix_of M.width M.height (λ i j. entry M j i) i j a b
 
-pub transposed_matrix : {p : ℕ} {M : Matrix} → IsMatrix p M → IsMatrix p (transposed M)
-transposed_matrix {p} {M} m = is_matrix_of p M.width M.height (λ i j. entry M j i) (λ i j a b. entry_residue p M m j i b a)
-
 -- two matrices side by side
-pub beside_row : (A B : Matrix) (i : ℕ) → i < A.height → row (beside A B) i ≡ row A i ++ row B i
+beside_row : (A B : Matrix) (i : ℕ) → i < A.height → row (beside A B) i ≡ row A i ++ row B i
 beside_row A B i l = get_or-map-range_with_len (λ i. row A i ++ row B i) 0 A.height i i [] l (omega arith)
 
 pub beside_left : {p : ℕ} {A : Matrix} → IsMatrix p A → (B : Matrix) (i j : ℕ) → i < A.height → j < A.width → entry (beside A B) i j ≡ entry A i j
@@ -63,7 +60,7 @@ beside_column {p} A {B} m heights narrow =
     ap (λ w. sized A.height (A.width + w) (map g (range_with_len 0 A.height))) narrow ∙ ap (sized A.height (A.width + 1)) (map_range_equal g f 0 A.height same)
 
 -- the identity
-pub identity_entry : (n i j : ℕ) → i < n → j < n → entry (identity n) i j ≡ cond (eqb i j) 1 0
+identity_entry : (n i j : ℕ) → i < n → j < n → entry (identity n) i j ≡ cond (eqb i j) 1 0
 identity_entry n i j a b = entry_matrix_of n n (λ i j. cond (eqb i j) 1 0) i j a b
 
 pub identity_same : (n i : ℕ) → i < n → entry (identity n) i i ≡ 1

@@ -1,5 +1,5 @@
 -- The reduced solution is read off an echelon form, and the refuting system is put together.
-use Rattle.std.proofs.Common.{ℕ, ◌≡◌, ◌+◌, ◌-◌, ◌<◌, ◌≤◌, inl, inr, List, [], ◌∷◌, ◌++◌, length, map, slice_index, slice_set, sym, refl, ap, ap₂, subst, ◌∙◌, arith}
+use Rattle.std.proofs.Common.{ℕ, ◌≡◌, ◌+◌, ◌-◌, ◌<◌, ◌≤◌, inl, inr, List, [], ◌∷◌, ◌++◌, length, map, slice_index, slice_set, sym, ap, ap₂, subst, ◌∙◌, arith}
 use Rattle.std.specs.List.{range_with_len}
 use Rattle.std.proofs.lemmas.Bool.{cases_eq}
 use Rattle.std.proofs.lemmas.List.{get_or-set_other, get_or-set_same, get_or_append_left, get_or_push, length_push}
@@ -18,16 +18,6 @@ use Rattle.kernel_solve.specs.Column.{column, column_at, column_of}
 use Rattle.kernel_solve.specs.ReadOff.{IsAtLeads}
 use Rattle.kernel_solve.proofs.AtLeads.{lead_or_none}
 use Rattle.kernel_solve.proofs.Matrices.{beside_column, beside_left, beside_right, column_vector}
-
--- the matrix with one row
-abbrev pub one_of : List ℕ → Matrix
-one_of v = record { height = 1; width = length v; rows = v ∷ [] }
-
-pub one_matrix : {p : ℕ} (v : List ℕ) → IsVector p (length v) v → IsMatrix p (one_of v)
-one_matrix {p} v h = record {
-  len = refl;
-  each = λ i l. let z : i ≡ 0 = omega arith in subst (λ i. IsVector p (length v) (row (one_of v) i)) (sym z) h;
-}
 
 -- where a column of residues has the last column's entries at the leads, and 0 elsewhere, it is the reduced solution
 module _ (p : ℕ) (A B E : Matrix) (leads : List ℕ) (two : 2 ≤ p) (ma : IsMatrix p A) (mb : IsMatrix p B) (heights : A.height ≡ B.height) (narrow : B.width ≡ 1)

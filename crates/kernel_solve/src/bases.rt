@@ -32,7 +32,9 @@ pub fn kernel(alloc: Global, form: &Echelon) -> Result<Rows, AllocError>
     let width = rows.width();
     let modulus = rows.modulus();
     let height = width - form.rank();
-    let entries = (rows.entries() as usize).saturating_add(height as usize);
+    let entries = (rows.entries() as usize)
+        .saturating_sub(leads.len())
+        .saturating_add(height as usize);
     ask_for_room(alloc, height, entries)?;
     let columns = rows.transpose(alloc)?;
     let mut basis = Rows::with_room(alloc, modulus, width, height, entries)?;
@@ -109,5 +111,6 @@ pub fn left_kernel<R: Threads + Sync>(
     let columns = a.transpose(alloc)?;
     let form = Echelon::of(rt, alloc, &columns, workers)?;
     drop(columns);
-    kernel(alloc, &form)
+    let left = kernel(alloc, &form)?;
+    Ok(left)
 }

@@ -6,10 +6,10 @@ use Rattle.row_space.specs.Echelon.{HasRank, IsRref}
 use Rattle.row_space.specs.Inverse.{IsInverse}
 use Rattle.row_space.specs.Kernel.{IsKernel}
 use Rattle.row_space.specs.Solution.{IsReducedSolution, IsRefutingCombination, IsSolution}
-use Rattle.kernel_solve.specs.Columns.{column}
+use Rattle.kernel_solve.specs.Column.{column, column_of}
 use Rattle.sms_text.specs.Text.{Due, Header}
 use Rattle.sms_text.specs.Written.{text_of}
-use Rattle.sparse_rows.specs.Rows.{matrix_by, transposed}
+use Rattle.sparse_rows.specs.Rows.{transposed}
 use Rattle.spasm_run.specs.declared.commands.TheConstants.{LARGEST_INVERTED}
 use Rattle.spasm_run.specs.declared.status.Status.{Status}
 use Rattle.spasm_run.specs.declared.status.Status.TheVariants.{Shape, Wide}
@@ -34,17 +34,14 @@ misfit task values = None
 abbrev pub rank_text : ℕ → List ℕ
 rank_text r = codes "rank " ++ decimal r ++ 10 ∷ []
 
--- the matrix of one column, and of one row, with these entries
-abbrev pub as_column : List ℕ → Matrix
-as_column x = matrix_by (length x) 1 (λ i j. slice_index x i)
-
+-- the matrix of one row with these entries
 abbrev pub as_row : List ℕ → Matrix
 as_row y = record { height = 1; width = length y; rows = y ∷ [] }
 
 -- the reduced solution of A x = b; or, where there is no solution, the refuting combination
 abbrev pub SolvesTo : ℕ → Matrix → List ℕ → List ℕ → Type 0
 SolvesTo p A b text =
-    ((x : List ℕ) × IsReducedSolution p A b x × (text ≡ codes "solution\n" ++ text_of (as_column x)))
+    ((x : List ℕ) × IsReducedSolution p A b x × (text ≡ codes "solution\n" ++ text_of (column_of x)))
     ⊎ ((y : List ℕ) × ((x : List ℕ) → ¬ IsSolution p A b x) × IsRefutingCombination p A b y
     × (text ≡ codes "no solution\n" ++ text_of (as_row y)))
 

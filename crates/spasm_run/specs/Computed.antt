@@ -2,8 +2,9 @@
 use Rattle.std.specs.Prelude.{◌≡◌, ◌<◌, ℕ, List, ◌++◌, Bool, false, Some, None, Result, Ok, Err, codes}
 use Rattle.residue_words.specs.Residues.{IsPrime}
 use Rattle.residue_words.specs.Matrix.{Matrix, IsMatrix, IsVector}
-use Rattle.row_space.specs.Solution.{beside}
+use Rattle.sparse_rows.specs.Rows.{beside}
 use Rattle.sparse_rows.specs.declared.rows.TheConstants.{LARGEST_SIZE}
+use Rattle.kernel_solve.specs.Column.{column}
 use Rattle.kernel_solve.specs.declared.systems.Found.{Found}
 use Rattle.kernel_solve.specs.Found.{Answers}
 use Rattle.sms_text.specs.Reading.{Draws, untouched}
@@ -46,10 +47,12 @@ pub record IsAnswerTo (t : Task) (p : ℕ) (values : List Matrix) (a : Answer) :
   pub fits : misfit t values ≡ None
   pub answers : IsPrime p → AnswerOf t p values (answer_text a)
 
--- what is found for the system S: for a prime modulus the solution of A x = b, or that there is none, where S is [A | b]
+-- what is found for the system S: for a prime modulus the solution of A x = b, or that there is none, where S is [A | B]
+-- and b the one column of B
 abbrev pub AnswersSystem : ℕ → Matrix → Found → Type 0
-AnswersSystem p S found = IsPrime p → (A : Matrix) (b : List ℕ) → IsMatrix p A → IsVector p A.height b →
-    S ≡ beside A b → Answers p A b found
+AnswersSystem p S found =
+    IsPrime p → (A B : Matrix) → IsMatrix p A → IsMatrix p B → A.height ≡ B.height → B.width ≡ 1 →
+    S ≡ beside A B → Answers p A (column B) found
 
 -- what comes of a task for these matrices: its answer; or they are refused for their shapes; or memory was wanted
 abbrev pub ComesOf : Task → ℕ → List Matrix → Result Answer Status → Type 0

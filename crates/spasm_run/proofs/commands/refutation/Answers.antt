@@ -2,7 +2,7 @@
 use Rattle.std.proofs.Common.{◌≡◌, ◌∙◌, ℕ, ap, subst, sym}
 use Rattle.residue_words.specs.Matrix.{Matrix, IsMatrix, row}
 use Rattle.row_space.specs.Solution.{IsRefutingCombination}
-use Rattle.kernel_solve.specs.Columns.{column}
+use Rattle.kernel_solve.specs.Column.{column}
 use Rattle.kernel_solve.specs.Found.{HasShape}
 use Rattle.spasm_run.proofs.Solving.{never_inconsistent, refuted_by, transposed_row}
 use Rattle.spasm_run.proofs.commands.refutation.Goals as goal

@@ -12,6 +12,6 @@ returns-clause-shape g c =
     (subst (λ n. HasShape form.form.modulus n found.found) form.ensures.width found.ensures.shape)
 
 pub returns-clause-tells : goal.returns-clause-tells
-returns-clause-tells g c = λ prime A b m v same.
+returns-clause-tells g c = λ prime A B ma mb heights narrow same.
     let p = c.args.system.modulus in
-    c.in_ok-found.ensures.answers p A b prime m v (subst (λ S. IsFormOf p S c.in_ok-form.form) same c.in_ok-form.ensures)
+    c.in_ok-found.ensures.answers p A B prime ma mb heights narrow (subst (λ S. IsFormOf p S c.in_ok-form.form) same c.in_ok-form.ensures)
