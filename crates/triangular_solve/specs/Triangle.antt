@@ -6,7 +6,7 @@ use Rattle.residue_words.specs.declared.plain.Pair.{Pair}
 use Rattle.sparse_rows.specs.Rows.{ResidueMatrix}
 use Rattle.pivot_table.specs.Order.{Triangular}
 
--- among the pairs that are left it is ready: no other of them has a nonzero entry of its row in this one's column
+-- among the pairs that are left it is ready: no other of them has an entry of its row in this one's column
 abbrev pub IsReady : Matrix → List Pair → Pair → Type 0
 IsReady A left q = (p : Pair) → Contains left p → p.col ≢ q.col → entry A p.row q.col ≡ 0
 
@@ -29,7 +29,8 @@ pub record IsTriangularOrder (A : Matrix) (h o : List Pair) : Type 0 where
 
 -- pairs have at most one triangular order
 abbrev pub TriangularOrderIsOne : Type 0
-TriangularOrderIsOne = (A : Matrix) (h o u : List Pair) → IsTriangularOrder A h o → IsTriangularOrder A h u → o ≡ u
+TriangularOrderIsOne = (A : Matrix) (h o u : List Pair) →
+    IsTriangularOrder A h o → IsTriangularOrder A h u → o ≡ u
 
 -- what callers see of a triangle: a matrix of residues, and pairs of it in triangular order
 pub record TriangleState : Type 0 where
