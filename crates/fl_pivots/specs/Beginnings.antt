@@ -24,4 +24,5 @@ pub record IsNoLater (x y : Beginning) : Type 0 where
   pub row : x.column ≡ y.column → x.weight ≡ y.weight → x.row ≤ y.row
 
 abbrev pub AreSorted : List Beginning → Type 0
-AreSorted list = (i j : ℕ) (d : Beginning) → i ≤ j → j < length list → IsNoLater (slice_index_or list i d) (slice_index_or list j d)
+AreSorted list = (i j : ℕ) (d : Beginning) → i ≤ j → j < length list →
+    IsNoLater (slice_index_or list i d) (slice_index_or list j d)

@@ -1,5 +1,5 @@
--- The leftmost pairs: for each column at which a row begins, the sparsest of these rows (the selection of Faugère and Lachartre,
--- PASCO 2010).
+-- The leftmost pairs: for each column at which a row begins, the sparsest of these rows (the selection of Faugère
+-- and Lachartre, PASCO 2010).
 use Rattle.std.specs.Prelude.{◌≡◌, ◌<◌, ◌≤◌, ℕ, List, length}
 use Rattle.std.specs.List.{Contains}
 use Rattle.residue_words.specs.Matrix.{Matrix, entry}

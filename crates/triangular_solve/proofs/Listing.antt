@@ -17,7 +17,7 @@ use Rattle.pivot_table.specs.History.{Grown, Nonzero}
 use Rattle.pivot_table.proofs.Growth.{pair_nonzero}
 use Rattle.pivot_table.proofs.Orders.{IsChain, chain_append, chain_triangular, grown_chain}
 use Rattle.pivot_table.proofs.Short.{columns_distinct}
-use Rattle.triangular_solve.specs.Listing.{ArePivots, column_count, entry_flag}
+use Rattle.triangular_solve.specs.Listing.{ArePivots, AreWaits, HasReady, TakesReady, column_count, entry_flag}
 use Rattle.pivot_table.specs.Order.{AreInOrder, IsNext, IsReady, IsTriangularOrder}
 use Rattle.triangular_solve.specs.Triangle.{TriangularOrderIsOne}
 use Rattle.triangular_solve.proofs.Counting.{AreApart, apart_less, count_middle, counted_ready, flag_one, flag_zero, none_counted, ready_counted, some_ready}
@@ -92,17 +92,17 @@ next_push A (x ∷ qs) q us vs a n = (next_same to from a.0, next_push A qs q us
     to p m = ⊎_elim
         (λ k. Contains-append_left (qs ++ q ∷ []) (us ++ vs) p (Contains-append_left qs (q ∷ []) p k))
         (λ k. ⊎_elim
-          (λ e. Contains-append_left (qs ++ q ∷ []) (us ++ vs) p (subst (Contains (qs ++ q ∷ [])) e (Contains-push qs q)))
-          (λ t. Contains-append_right (qs ++ q ∷ []) (us ++ vs) p t)
-          (middle_cases us q vs p k))
+        (λ e. Contains-append_left (qs ++ q ∷ []) (us ++ vs) p (subst (Contains (qs ++ q ∷ [])) e (Contains-push qs q)))
+        (λ t. Contains-append_right (qs ++ q ∷ []) (us ++ vs) p t)
+        (middle_cases us q vs p k))
         (Contains-append_cases qs (us ++ q ∷ vs) p m)
 
     from : (p : Pair) → Contains ((qs ++ q ∷ []) ++ (us ++ vs)) p → Contains (qs ++ (us ++ q ∷ vs)) p
     from p m = ⊎_elim
         (λ k. ⊎_elim
-          (λ o. Contains-append_left qs (us ++ q ∷ vs) p o)
-          (λ e. Contains-append_right qs (us ++ q ∷ vs) p (subst (Contains (us ++ q ∷ vs)) e (Contains-append_right us (q ∷ vs) q (in_head q vs))))
-          (Contains-push_cases qs q p k))
+        (λ o. Contains-append_left qs (us ++ q ∷ vs) p o)
+        (λ e. Contains-append_right qs (us ++ q ∷ vs) p (subst (Contains (us ++ q ∷ vs)) e (Contains-append_right us (q ∷ vs) q (in_head q vs))))
+        (Contains-push_cases qs q p k))
         (λ k. Contains-append_right qs (us ++ q ∷ vs) p (middle_more us q vs p k))
         (Contains-append_cases (qs ++ q ∷ []) (us ++ vs) p m)
 
@@ -127,21 +127,19 @@ pub record IsListing (A : Matrix) (pairs listed : List Pair) (waits heap : List 
   pub next : AreNext A listed left
   pub chain : IsChain A listed
 
-pub listing_begins : {A : Matrix} {pairs : List Pair} {waits heap : List ℕ} → ArePivots A pairs → length waits ≡ length pairs →
-    ((k : ℕ) → k < length pairs → slice_index waits k ≡ column_count A pairs (col_at pairs k)) → ((k : ℕ) → Contains heap k → k < length pairs) →
-    ((k : ℕ) → k < length pairs → slice_index waits k ≡ 1 → Contains heap k) → IsListing A pairs [] waits heap
-listing_begins {A} {pairs} {waits} {heap} pivots long counts inside covers = record {
+pub listing_begins : {A : Matrix} {pairs : List Pair} {waits heap : List ℕ} → ArePivots A pairs → AreWaits A pairs waits → HasReady waits heap → IsListing A pairs [] waits heap
+listing_begins {A} {pairs} {waits} {heap} pivots are ready = record {
   left = pairs;
   many = omega arith;
   old = λ p m. absurd (not_in_nil p m);
   others = λ p m. m;
   every = λ p m. inr m;
   apart = rising_apart pairs pivots.rising;
-  long = long;
-  counts = counts;
+  long = are.many;
+  counts = are.counts;
   gone = λ p m. absurd (not_in_nil p m);
-  inside = inside;
-  covers = λ k l m one. covers k l one;
+  inside = λ k m. omega (arith, ready.inside k m, are.many);
+  covers = λ k l m one. ready.covers k (omega (arith, are.many)) one;
   next = tt;
   chain = tt;
 }
@@ -169,21 +167,21 @@ module _ {A : Matrix} {pairs listed : List Pair} {waits heap : List ℕ} (pivots
           (t.0, s.covers t.0 t.1 (subst (Contains s.left) (sym t.2) r.1) waits_one, waits_one)
 
   -- the pair at place k is listed next
-  module _ (k : ℕ) (l : k < length pairs) (one : slice_index waits k ≡ 1)
-      (mid waits2 heap2 : List ℕ)
-      (least : (d : ℕ) → Contains heap d → slice_index waits d ≡ 1 → (k ≤ d) × ((d ≡ k) ⊎ Contains mid d))
-      (mid_kept : (d : ℕ) → Contains mid d → Contains heap d)
+  module _ (k : ℕ) (mid waits2 heap2 : List ℕ) (taken : TakesReady waits heap mid k)
       (long2 : length waits2 ≡ length waits)
       (lowered : (d : ℕ) → d < length pairs → entry A (get_or pairs k no_pair).row (col_at pairs d) ≢ 0 → slice_index waits2 d + 1 ≡ slice_index waits d)
       (kept : (d : ℕ) → d < length pairs → entry A (get_or pairs k no_pair).row (col_at pairs d) ≡ 0 → slice_index waits2 d ≡ slice_index waits d)
       (queued : (d : ℕ) → Contains mid d → Contains heap2 d)
       (only : (d : ℕ) → Contains heap2 d → Contains mid d ⊎ (d < length pairs))
       (pushed : (d : ℕ) → d < length pairs → entry A (get_or pairs k no_pair).row (col_at pairs d) ≢ 0 → slice_index waits2 d ≡ 1 → Contains heap2 d) where
+    l : k < length pairs
+    l = s.inside k taken.here
+
     abbrev q : Pair
     q = get_or pairs k no_pair
 
     m : Contains s.left (get_or pairs k no_pair)
-    m = waits_left k l one
+    m = waits_left k l taken.ready
 
     nonzero : Nonzero A (get_or pairs k no_pair).row (get_or pairs k no_pair).col
     nonzero = pivots.nonzero (get_or pairs k no_pair) (s.others (get_or pairs k no_pair) m)
@@ -204,7 +202,7 @@ module _ {A : Matrix} {pairs listed : List Pair} {waits heap : List ℕ} (pivots
     less d = ap (λ (x : List Pair). column_count A x d) cut.2 ∙ count_middle A cut.0 q cut.1 d
 
     count_here : column_count A s.left (get_or pairs k no_pair).col ≡ 1
-    count_here = ap (column_count A s.left) (col_is pairs k l) ∙ sym (s.counts k l) ∙ one
+    count_here = ap (column_count A s.left) (col_is pairs k l) ∙ sym (s.counts k l) ∙ taken.ready
 
     next_here : IsNext A (get_or pairs k no_pair) (cut.0 ++ cut.1)
     next_here = record {
@@ -218,7 +216,7 @@ module _ {A : Matrix} {pairs listed : List Pair} {waits heap : List ℕ} (pivots
           let ready : IsReady A s.left p = λ o io d. r o (⊎_elim (λ e. subst (Contains (q ∷ (cut.0 ++ cut.1))) e (in_head q (cut.0 ++ cut.1))) (λ t. in_tail q (cut.0 ++ cut.1) o t) (from_left o io)) d in
           let t = place_of pairs p (s.others p mp) in
           let one_p : slice_index waits t.0 ≡ 1 = s.counts t.0 t.1 ∙ ap (column_count A s.left) t.3 ∙ ready_counted A s.left s.apart p mp np.2 ready in
-          let le = (least t.0 (s.covers t.0 t.1 (subst (Contains s.left) (sym t.2) mp) one_p) one_p).0 in
+          let le = taken.least t.0 (s.covers t.0 t.1 (subst (Contains s.left) (sym t.2) mp) one_p) one_p in
           elim (cases_eq k t.0) [
             | inl e ↦ absurd (off.1 p i (sym (ap (λ (x : Pair). x.col) (ap (λ j. get_or pairs j no_pair) e ∙ t.2))))
             | inr ne ↦ omega (arith, pivots.rising k t.0 (omega arith) (omega (arith, t.1, length-map pairs (λ (p : Pair). p.col))), col_is pairs k l, t.3)
@@ -230,7 +228,7 @@ module _ {A : Matrix} {pairs listed : List Pair} {waits heap : List ℕ} (pivots
       | inl z ↦ ⊎_elim
           (λ e. absurd (off.1 (get_or pairs d no_pair) i (ap (λ j. (get_or pairs j no_pair).col) e)))
           (λ t. queued d t)
-          (least d (s.covers d ld (in_left _ i) (sym (kept d ld z) ∙ one_d)) (sym (kept d ld z) ∙ one_d)).1
+          (taken.others d (s.covers d ld (in_left _ i) (sym (kept d ld z) ∙ one_d)) (sym (kept d ld z) ∙ one_d))
       | inr n ↦ pushed d ld n one_d
     ]
 
@@ -254,14 +252,14 @@ module _ {A : Matrix} {pairs listed : List Pair} {waits heap : List ℕ} (pivots
           (λ o. omega (arith, s.gone p o, less p.col))
           (λ e. ap (λ (x : Pair). column_count A (cut.0 ++ cut.1) x.col) (sym e) ∙ omega (arith, count_here, less q.col, flag_one A q.row q.col nonzero.2))
           (Contains-push_cases listed q p i);
-      inside = λ d i. ⊎_elim (λ t. s.inside d (mid_kept d t)) (λ t. t) (only d i);
+      inside = λ d i. ⊎_elim (λ t. s.inside d (taken.kept d t)) (λ t. t) (only d i);
       covers = covers_next;
       next = next_push A listed q cut.0 cut.1 (subst (AreNext A listed) cut.2 s.next) next_here;
       chain = chain_append A listed (q ∷ []) s.chain (nonzero, (λ p i. absurd (not_in_nil p i)), tt)
           (λ a b ia ib. ⊎_elim
-            (λ e. subst (λ (x : Pair). entry A x.row a.col ≡ 0) e (none_counted A s.left a.col (s.gone a ia) q m))
-            (λ t. absurd (not_in_nil b t))
-            (in_cases q [] b ib));
+          (λ e. subst (λ (x : Pair). entry A x.row a.col ≡ 0) e (none_counted A s.left a.col (s.gone a ia) q m))
+          (λ t. absurd (not_in_nil b t))
+          (in_cases q [] b ib));
     }
 
     -- and fewer are left
@@ -308,12 +306,12 @@ heads_one : {A : Matrix} {q v : Pair} {qs vs : List Pair} → ((p : Pair) → Co
 heads_one {A} {q} {v} {qs} {vs} to from n k = ⊎_elim
     (λ e. sym e)
     (λ later. ⊎_elim
-      (λ e. e)
-      (λ behind.
-        let one : v.col < q.col = k.least q later (λ p m d. n.ready p (from p m) d) in
-        let other : q.col < v.col = n.least v behind (λ p m d. k.ready p (to p m) d) in
-        absurd (omega arith))
-      (in_cases q qs v (from v (in_head v vs))))
+    (λ e. e)
+    (λ behind.
+    let one : v.col < q.col = k.least q later (λ p m d. n.ready p (from p m) d) in
+    let other : q.col < v.col = n.least v behind (λ p m d. k.ready p (to p m) d) in
+    absurd (omega arith))
+    (in_cases q qs v (from v (in_head v vs))))
     (in_cases v vs q (to q (in_head q qs)))
 
 order_one : (A : Matrix) (o u : List Pair) → ((p : Pair) → Contains o p → Contains u p) → ((p : Pair) → Contains u p → Contains o p) → AreInOrder A o → AreInOrder A u → o ≡ u
@@ -323,9 +321,9 @@ order_one A (q ∷ qs) [] to from a b = absurd (not_in_nil q (to q (in_head q qs
 order_one A (q ∷ qs) (v ∷ vs) to from a b =
     let same : q ≡ v = heads_one to from a.0 b.0 in
     let rest : qs ≡ vs = order_one A qs vs
-      (λ p m. ⊎_elim (λ e. absurd (not_again a.0 (subst (Contains qs) (sym e ∙ sym same) m))) (λ t. t) (in_cases v vs p (to p (in_tail q qs p m))))
-      (λ p m. ⊎_elim (λ e. absurd (not_again b.0 (subst (Contains vs) (sym e ∙ same) m))) (λ t. t) (in_cases q qs p (from p (in_tail v vs p m))))
-      a.1 b.1 in
+    (λ p m. ⊎_elim (λ e. absurd (not_again a.0 (subst (Contains qs) (sym e ∙ sym same) m))) (λ t. t) (in_cases v vs p (to p (in_tail q qs p m))))
+    (λ p m. ⊎_elim (λ e. absurd (not_again b.0 (subst (Contains vs) (sym e ∙ same) m))) (λ t. t) (in_cases q qs p (from p (in_tail v vs p m))))
+    a.1 b.1 in
     ap (λ (x : Pair). x ∷ qs) same ∙ ap (λ (l : List Pair). v ∷ l) rest
 
 pub triangular_order_one : TriangularOrderIsOne

@@ -11,8 +11,10 @@ IsPlaceOf columns c k = (k < length columns) × (slice_index columns k ≡ c)
 
 -- the table has the place of each column of the list, and NONE elsewhere
 pub record IsTable (columns table : List ℕ) : Type 0 where
-  pub some : (c : ℕ) → c < length table → slice_index table c ≢ NONE → IsPlaceOf columns c (slice_index table c)
-  pub every : (k : ℕ) → k < length columns → (slice_index columns k < length table) × (slice_index table (slice_index columns k) ≡ k)
+  pub some : (c : ℕ) → c < length table → slice_index table c ≢ NONE →
+      IsPlaceOf columns c (slice_index table c)
+  pub every : (k : ℕ) → k < length columns → (slice_index columns k < length table)
+      × (slice_index table (slice_index columns k) ≡ k)
 
 -- the columns ascend, and the table is right where there is one
 pub record HasTable (columns : List ℕ) (table : Option (Vec ℕ Global)) : Type 0 where

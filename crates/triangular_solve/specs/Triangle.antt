@@ -7,7 +7,8 @@ use Rattle.pivot_table.specs.Order.{IsTriangularOrder}
 
 -- pairs have at most one triangular order
 abbrev pub TriangularOrderIsOne : Type 0
-TriangularOrderIsOne = (A : Matrix) (h o u : List Pair) → IsTriangularOrder A h o → IsTriangularOrder A h u → o ≡ u
+TriangularOrderIsOne = (A : Matrix) (h o u : List Pair) →
+    IsTriangularOrder A h o → IsTriangularOrder A h u → o ≡ u
 
 -- what callers see of a triangle: a matrix of residues, and pairs of it in triangular order
 pub record TriangleState : Type 0 where

@@ -91,7 +91,8 @@ fn table_of(alloc: Global, width: u32, columns: &[u32]) -> Result<Vec<u32>, Allo
 // The place that the table has for a column, if it has one.
 fn look_up(table: &[u32], column: u32) -> Option<u32>
     ensures none { IfNone result (column < length table.now → slice_index table.now column ≡ NONE) }
-    ensures some { IfSome result (λ k. (column < length table.now) × (k ≡ slice_index table.now column) × (k ≢ NONE)) }
+    ensures some { IfSome result (λ k. (column < length table.now) × (k ≢ NONE)) }
+    ensures value { IfSome result (λ k. k ≡ slice_index table.now column) }
 {
     match table.get(column as usize) {
         Some(&place) if place != NONE => Some(place),

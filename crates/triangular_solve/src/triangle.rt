@@ -4,9 +4,8 @@ ghost use Rattle.std.specs.List.{Contains};
 ghost use Rattle.std.specs.List.Sorted.{IsPermutation};
 ghost use Rattle.sparse_rows.specs.Rows.{AreRising};
 ghost use Rattle.sparse_rows.specs.declared.rows.TheConstants.{LARGEST_SIZE};
-ghost use Rattle.row_space.specs.Factors.{col_at};
 ghost use Rattle.pivot_table.specs.Order.{IsTriangularOrder, Triangular};
-ghost use Rattle.triangular_solve.specs.Listing.{ArePivots, column_count};
+ghost use Rattle.triangular_solve.specs.Listing.{ArePivots, AreWaits, EachOtherPlace, EachPlaceOf, HasReady, TakesReady};
 ghost use Rattle.triangular_solve.specs.Triangle.{TriangularOrderIsOne};
 
 use crate::pivotal_columns::PivotalColumns;
@@ -41,8 +40,8 @@ impl<'a> Triangle<'a> {
     /// matrix is wider than 64 columns a pair, each entry costs a logarithm too. It takes memory for the pairs, and for the
     /// columns where there are no more than that.
     pub fn of(alloc: Global, book: &Book<'a>) -> Result<Self, AllocError>
-        ensures rows { IfOk result (λ triangle. triangle.rows ≡ book.now.rows) }
-        ensures order { IfOk result (λ triangle. IsTriangularOrder book.now.rows.matrix book.now.pairs triangle.pairs) }
+        ensures rows { IfOk result (λ t. t.rows ≡ book.now.rows) }
+        ensures order { IfOk result (λ t. IsTriangularOrder book.now.rows.matrix book.now.pairs t.pairs) }
     {
         let rows = book.rows();
         let pairs = by_columns(alloc, book)?;
@@ -96,8 +95,7 @@ fn count_waits(
     requires pivots { ArePivots rows.now.matrix pairs.now }
     requires few { length pairs.now ≤ LARGEST_SIZE }
     requires columns { columns.now ≡ map (λ p. p.col) pairs.now }
-    ensures many { IfOk result (λ waits. length waits.items ≡ length pairs.now) }
-    ensures counts { IfOk result (λ waits. (k : ℕ) → k < length pairs.now → slice_index waits.items k ≡ column_count rows.now.matrix pairs.now (col_at pairs.now k)) }
+    ensures { IfOk result (λ waits. AreWaits rows.now.matrix pairs.now waits.items) }
 {
     // The contract of this call tells that the rows are a matrix.
     let _ = rows.height();
@@ -114,8 +112,10 @@ fn raise(waits: &mut [u32], columns: &PivotalColumns, cols: &[u32])
     requires pivotal { AreRising columns.now }
     requires rising { AreRising cols.now }
     requires small { (k : ℕ) → k < length waits.old → slice_index waits.old k < LARGEST_SIZE }
-    ensures raised { (k : ℕ) → k < length columns.now → Contains cols.now (slice_index columns.now k) → slice_index waits.new k ≡ slice_index waits.old k + 1 }
-    ensures kept { (k : ℕ) → k < length columns.now → ¬ Contains cols.now (slice_index columns.now k) → slice_index waits.new k ≡ slice_index waits.old k }
+    ensures raised { EachPlaceOf columns.now cols.now
+        (λ k. slice_index waits.new k ≡ slice_index waits.old k + 1) }
+    ensures kept { EachOtherPlace columns.now cols.now
+        (λ k. slice_index waits.new k ≡ slice_index waits.old k) }
 {
     for column in cols {
         if let Some(place) = columns.find(*column) {
@@ -124,11 +124,10 @@ fn raise(waits: &mut [u32], columns: &PivotalColumns, cols: &[u32])
     }
 }
 
-// The places at which one pair waits: these are ready.
+// The places at which one pair waits.
 fn queue_ready(alloc: Global, waits: &[u32]) -> Result<Queue, AllocError>
-    requires few { length waits.now ≤ LARGEST_SIZE }
-    ensures inside { IfOk result (λ queue. (k : ℕ) → Contains queue k → k < length waits.now) }
-    ensures covers { IfOk result (λ queue. (k : ℕ) → k < length waits.now → slice_index waits.now k ≡ 1 → Contains queue k) }
+    requires { length waits.now ≤ LARGEST_SIZE }
+    ensures { IfOk result (HasReady waits.now) }
 {
     let mut queue = Queue::new(alloc);
     for place in 0..waits.len() {
@@ -139,12 +138,11 @@ fn queue_ready(alloc: Global, waits: &[u32]) -> Result<Queue, AllocError>
     Ok(queue)
 }
 
-// Takes the least place at which one pair waits. Another place is passed, so nobody has to know that none is in the queue.
+// Takes the least place at which one pair waits, and drops those before it. In fact there are none, but the test is cheaper than
+// to keep account of it.
 fn next_ready(waits: &[u32], queue: &mut Queue) -> Option<u32>
     requires { (k : ℕ) → Contains queue.old k → k < length waits.now }
-    ensures kept { (k : ℕ) → Contains queue.new k → Contains queue.old k }
-    ensures some { IfSome result (λ k. Contains queue.old k × (slice_index waits.now k ≡ 1)) }
-    ensures least { IfSome result (λ k. (d : ℕ) → Contains queue.old d → slice_index waits.now d ≡ 1 → (k ≤ d) × ((d ≡ k) ⊎ Contains queue.new d)) }
+    ensures some { IfSome result (TakesReady waits.now queue.old queue.new) }
     ensures none { IfNone result ((k : ℕ) → Contains queue.old k → slice_index waits.now k ≢ 1) }
 {
     while let Some(place) = queue.pop() {
@@ -153,22 +151,6 @@ fn next_ready(waits: &[u32], queue: &mut Queue) -> Option<u32>
         }
     }
     None
-}
-
-// One less at a place, which comes onto the queue where one is left.
-fn lower_at(waits: &mut [u32], place: u32, queue: &mut Queue) -> Result<(), AllocError>
-    requires place { place < length waits.old }
-    requires some { 0 < slice_index waits.old place }
-    ensures waits { waits.new ≡ slice_set waits.old place (slice_index waits.old place - 1) }
-    ensures pushed { OnOk result (slice_index waits.new place ≡ 1 → Contains queue.new place) }
-    ensures kept { (k : ℕ) → Contains queue.old k → Contains queue.new k }
-    ensures only { (k : ℕ) → Contains queue.new k → Contains queue.old k ⊎ (k ≡ place) }
-{
-    waits[place as usize] -= 1;
-    if waits[place as usize] == 1 {
-        return queue.push(place);
-    }
-    Ok(())
 }
 
 // One less at the place of each of these columns that is pivotal, and the places at which one is left onto the queue.
@@ -181,10 +163,15 @@ fn lower(
     requires many { length waits.old ≡ length columns.now }
     requires pivotal { AreRising columns.now }
     requires rising { AreRising cols.now }
-    requires some { (k : ℕ) → k < length columns.now → Contains cols.now (slice_index columns.now k) → 0 < slice_index waits.old k }
-    ensures lowered { OnOk result ((k : ℕ) → k < length columns.now → Contains cols.now (slice_index columns.now k) → slice_index waits.new k + 1 ≡ slice_index waits.old k) }
-    ensures kept { OnOk result ((k : ℕ) → k < length columns.now → ¬ Contains cols.now (slice_index columns.now k) → slice_index waits.new k ≡ slice_index waits.old k) }
-    ensures pushed { OnOk result ((k : ℕ) → k < length columns.now → Contains cols.now (slice_index columns.now k) → slice_index waits.new k ≡ 1 → Contains queue.new k) }
+    requires some { EachPlaceOf columns.now cols.now (λ k. 0 < slice_index waits.old k) }
+
+    ensures lowered { OnOk result (EachPlaceOf columns.now cols.now
+        (λ k. slice_index waits.new k + 1 ≡ slice_index waits.old k)) }
+    ensures kept { OnOk result (EachOtherPlace columns.now cols.now
+        (λ k. slice_index waits.new k ≡ slice_index waits.old k)) }
+
+    ensures pushed { OnOk result (EachPlaceOf columns.now cols.now
+        (λ k. slice_index waits.new k ≡ 1 → Contains queue.new k)) }
     ensures queued { (k : ℕ) → Contains queue.old k → Contains queue.new k }
     ensures only { (k : ℕ) → Contains queue.new k → Contains queue.old k ⊎ (k < length columns.now) }
 {
@@ -192,6 +179,22 @@ fn lower(
         if let Some(place) = columns.find(*column) {
             lower_at(waits, place, queue)?;
         }
+    }
+    Ok(())
+}
+
+// One less at a place, which comes onto the queue where one is left.
+fn lower_at(waits: &mut [u32], place: u32, queue: &mut Queue) -> Result<(), AllocError>
+    requires place { place < length waits.old }
+    requires some { 0 < slice_index waits.old place }
+    ensures waits { waits.new ≡ slice_set waits.old place (slice_index waits.old place - 1) }
+    ensures pushed { OnOk result (slice_index waits.new place ≡ 1 → Contains queue.new place) }
+    ensures queued { (k : ℕ) → Contains queue.old k → Contains queue.new k }
+    ensures only { (k : ℕ) → Contains queue.new k → Contains queue.old k ⊎ (k ≡ place) }
+{
+    waits[place as usize] -= 1;
+    if waits[place as usize] == 1 {
+        return queue.push(place);
     }
     Ok(())
 }
@@ -207,10 +210,8 @@ fn list_all(
 ) -> Result<Vec<Pair>, AllocError>
     requires pivots { ArePivots rows.now.matrix pairs.now }
     requires columns { columns.now ≡ map (λ p. p.col) pairs.now }
-    requires many { length waits.old ≡ length pairs.now }
-    requires counts { (k : ℕ) → k < length pairs.now → slice_index waits.old k ≡ column_count rows.now.matrix pairs.now (col_at pairs.now k) }
-    requires inside { (k : ℕ) → Contains queue.old k → k < length pairs.now }
-    requires covers { (k : ℕ) → k < length pairs.now → slice_index waits.old k ≡ 1 → Contains queue.old k }
+    requires waits { AreWaits rows.now.matrix pairs.now waits.old }
+    requires ready { HasReady waits.old queue.old }
     ensures { IfOk result (λ order. IsTriangularOrder rows.now.matrix pairs.now order.items) }
 {
     // The contract of this call tells that the rows are a matrix.

@@ -12,16 +12,15 @@ use Rattle.triangular_solve.proofs.Counting.{count_some}
 use Rattle.triangular_solve.proofs.Listing.{IsListing, listing_begins, listing_ends, listing_goes, listing_shorter, no_pair, waits_left}
 use Rattle.triangular_solve.proofs.triangle.list_all.Goals as goal
 
-
 pub loop-place-init : goal.loop-place-init
-loop-place-init c = rw c.in_ok-order.ensures.items (listing_begins c.requires.pivots c.requires.many c.requires.counts c.requires.inside c.requires.covers)
+loop-place-init c = rw c.in_ok-order.ensures.items (listing_begins c.requires.pivots c.requires.waits c.requires.ready)
 
 pub next_ready-requires : goal.next_ready-requires
 next_ready-requires c = λ k m. omega (arith, c.loop-place.invariant.inside k m, c.loop-place.invariant.long)
 
 pub cols-requires : goal.cols-requires
 cols-requires c =
-    let inside = c.loop-place.invariant.inside c.in-Some.place c.in-Some.ensures.some.0 in
+    let inside = c.loop-place.invariant.inside c.in-Some.place c.in-Some.ensures.some.here in
     (c.requires.pivots.nonzero _ (Contains-get_or c.args.pairs.now c.in-Some.place no_pair inside)).0
 
 pub lower-requires-clause-some : goal.lower-requires-clause-some
@@ -31,9 +30,9 @@ lower-requires-clause-some c = λ k lk t.
     let place = c.in-Some.place in
     let inv = c.loop-place.invariant in
     let some = c.in-Some.ensures.some in
-    let lp = inv.inside place some.0 in
+    let lp = inv.inside place some.here in
     let q = get_or pairs place no_pair in
-    let m = waits_left c.requires.pivots inv place lp some.1 in
+    let m = waits_left c.requires.pivots inv place lp some.ready in
     let kp : k < length pairs = omega (arith, lk, ap length c.requires.columns, length-map pairs (λ (p : Pair). p.col)) in
     let col : slice_index c.args.columns.now k ≡ col_at pairs k = ap (λ (xs : List ℕ). slice_index xs k) c.requires.columns in
     let here = subst (λ (xs : List ℕ). Contains xs (slice_index c.args.columns.now k)) c.cols.ensures.support t in
@@ -48,7 +47,7 @@ loop-place-preserved c =
     let place = c.in-Some.place in
     let inv = c.loop-place.invariant in
     let some = c.in-Some.ensures.some in
-    let lp = inv.inside place some.0 in
+    let lp = inv.inside place some.here in
     let q = get_or pairs place no_pair in
     let nq = (c.requires.pivots.nonzero q (Contains-get_or pairs place no_pair lp)).0 in
     let many : length columns ≡ length pairs = ap length c.requires.columns ∙ length-map pairs (λ (p : Pair). p.col) in
@@ -57,15 +56,13 @@ loop-place-preserved c =
     subst (λ (xs : List ℕ). Contains xs (slice_index columns d)) (sym c.cols.ensures.support) (in_support c.height.ensures.sound q.row nq (slice_index columns d) (λ z. n (ap (entry A q.row) (sym (col d)) ∙ z))) in
     let off : (d : ℕ) → entry A q.row (col_at pairs d) ≡ 0 → ¬ Contains c.cols.result.now (slice_index columns d) = λ d z t.
     of_support c.height.ensures.sound q.row nq (slice_index columns d) (subst (λ (xs : List ℕ). Contains xs (slice_index columns d)) c.cols.ensures.support t) (ap (entry A q.row) (col d) ∙ z) in
-    rw c.in_ok-push.ensures.items (listing_goes c.requires.pivots inv place lp some.1 c.next_ready.new.queue c.lower.new.waits c.lower.new.queue
-      c.in-Some.ensures.least
-      c.in-Some.ensures.kept
-      c.lower.auto.waits
-      (λ d l n. c.in_ok-lower.ensures.lowered d (omega arith) (has d n))
-      (λ d l z. c.in_ok-lower.ensures.kept d (omega arith) (off d z))
-      c.lower.ensures.queued
-      (λ d m. ⊎_elim (λ t. inl t) (λ l. inr (omega arith)) (c.lower.ensures.only d m))
-      (λ d l n one. c.in_ok-lower.ensures.pushed d (omega arith) (has d n) one))
+    rw c.in_ok-push.ensures.items (listing_goes c.requires.pivots inv place c.next_ready.new.queue c.lower.new.waits c.lower.new.queue some
+    c.lower.auto.waits
+    (λ d l n. c.in_ok-lower.ensures.lowered d (omega arith) (has d n))
+    (λ d l z. c.in_ok-lower.ensures.kept d (omega arith) (off d z))
+    c.lower.ensures.queued
+    (λ d m. ⊎_elim (λ t. inl t) (λ l. inr (omega arith)) (c.lower.ensures.only d m))
+    (λ d l n one. c.in_ok-lower.ensures.pushed d (omega arith) (has d n) one))
 
 pub returns : goal.returns
 returns c = listing_ends c.requires.pivots c.loop-place.invariant c.in_default.ensures.none

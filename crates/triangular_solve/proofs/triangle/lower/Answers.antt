@@ -36,17 +36,17 @@ loop-column-preserved c =
           rw (w.waits-is, w.queue-is) record {
             changed = rw new (changed_comes cols l columns inv.changed c.requires.rising c.requires.pivotal place inside at (slice_index c.loop-column.waits place - 1)
                 (omega (arith, c.loop-column.auto.waits, c.requires.many, inside)) (omega arith));
-            queued = λ k m. w.lower_at.ensures.kept k (inv.queued k m);
+            queued = λ k m. w.lower_at.ensures.queued k (inv.queued k m);
             only = λ k m. ⊎_elim (inv.only k) (λ e. inr (subst (λ j. j < length columns) (sym e) inside)) (w.lower_at.ensures.only k m);
             pushed = λ k lk t one. elim (cases_eq k place) [
               | inl e ↦ subst (Contains w.lower_at.new.queue) (sym e) (w.in_ok-lower_at.ensures.pushed (subst (λ j. slice_index w.lower_at.new.waits j ≡ 1) e one))
               | inr ne ↦
                   let was : slice_index c.loop-column.waits k ≡ 1 =
                   sym (get_or-set_other c.loop-column.waits place k (slice_index c.loop-column.waits place - 1) 0 ne) ∙ sym (ap (λ (xs : List ℕ). slice_index xs k) new) ∙ one in
-                  w.lower_at.ensures.kept k (⊎_elim
-                    (λ old. inv.pushed k lk old was)
-                    (λ e. absurd (ne (place_is cols l columns inv.changed c.requires.rising c.requires.pivotal place inside at k lk e)))
-                    (touched_cases cols l columns k t))
+                  w.lower_at.ensures.queued k (⊎_elim
+                  (λ old. inv.pushed k lk old was)
+                  (λ e. absurd (ne (place_is cols l columns inv.changed c.requires.rising c.requires.pivotal place inside at k lk e)))
+                  (touched_cases cols l columns k t))
             ];
           }
       | in_default w ↦ rw (w.waits-is, w.queue-is) record {

@@ -34,16 +34,6 @@ count_waits-requires-clause-pivots c = pivots_here c.rows-rows.ensures c.deref-2
 pub list_all-requires-clause-pivots : goal.list_all-requires-clause-pivots
 list_all-requires-clause-pivots c = pivots_here c.rows-rows.ensures c.deref-4.ensures.value c.in_ok-pairs.ensures.pivots
 
-pub list_all-requires-clause-inside : goal.list_all-requires-clause-inside
-list_all-requires-clause-inside c = λ k m. omega (
-  arith,
-  c.in_ok-queue.ensures.inside k m,
-  ap length c.deref-3.ensures.value,
-  c.in_ok-waits.ensures.many,
-  ap length c.deref-2.ensures.value,
-  ap length c.deref-4.ensures.value,
-)
-
 pub returns-clause-order : goal.returns-clause-order
 returns-clause-order c = order_of_sorted c.in_ok-pairs.ensures.permutation
     (subst (λ (m : ResidueMatrix). IsTriangularOrder m.matrix c.in_ok-pairs.pairs.items c.in_ok-list_all.field-0.items) c.rows-rows.ensures
