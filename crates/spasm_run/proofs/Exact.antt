@@ -16,7 +16,7 @@ use Rattle.spasm_run.specs.Options.{AcceptedIsPlain, AreTaken, RowsGive, IsComma
 use Rattle.spasm_run.specs.Line.{command_line, option_names, tasks}
 use Rattle.spasm_run.specs.declared.words.Command.{Command}
 use Rattle.spasm_run.specs.declared.words.Task.{Task}
-use Rattle.spasm_run.specs.declared.words.Task.TheVariants.{Rank, Rref, Kernel, Solve, LeftKernel, Inverse}
+use Rattle.spasm_run.specs.declared.words.Task.TheVariants.{Rank, Rref, Kernel, Solve, LeftKernel, Inverse, Pivots}
 use Rattle.spasm_run.proofs.Accepting.{differ, fits_first, fits_known, first_of_list, gives_value, known_fits, later_in_list, value_gives}
 use Rattle.spasm_run.proofs.Program.{fault_at, first_is_named, subcommand_at}
 use Rattle.spasm_run.proofs.Reading.{ArePlain, Fits, IsName, IsPlainValue, NoDashes, apart_dashes, joined_dashes, level_passes, passes_level, passes_reads, reads_passes, row_of_given}
@@ -92,6 +92,7 @@ task_dashes Kernel = refl
 task_dashes Solve = refl
 task_dashes LeftKernel = refl
 task_dashes Inverse = refl
+task_dashes Pivots = refl
 
 abbrev has_dashes : List Text → Bool
 has_dashes words = list_any (λ w. bytes_eq w (codes "--")) words
@@ -200,6 +201,7 @@ decoded Kernel = refl
 decoded Solve = refl
 decoded LeftKernel = refl
 decoded Inverse = refl
+decoded Pivots = refl
 
 pub same_task : (s t : Task) → task_name s ≡ task_name t → s ≡ t
 same_task s t e = ap (λ (o : Option Task). unwrap_or o s) (sym (decoded s) ∙ ap decode e ∙ decoded t)

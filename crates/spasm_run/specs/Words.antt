@@ -5,7 +5,7 @@ use Rattle.residue_words.specs.declared.modulus.TheConstants.{MODULUS_BOUND}
 use Rattle.sms_text.specs.Numbers.{is_number, value}
 use Rattle.spasm_run.specs.declared.words.Command.{Command}
 use Rattle.spasm_run.specs.declared.words.Task.{Task}
-use Rattle.spasm_run.specs.declared.words.Task.TheVariants.{Rank, Rref, Kernel, Solve, LeftKernel, Inverse}
+use Rattle.spasm_run.specs.declared.words.Task.TheVariants.{Rank, Rref, Kernel, Solve, LeftKernel, Inverse, Pivots}
 
 -- the name of a command, its first word
 abbrev pub task_name : Task → List ℕ
@@ -15,6 +15,7 @@ task_name Kernel = codes "kernel"
 task_name Solve = codes "solve"
 task_name LeftKernel = codes "leftkernel"
 task_name Inverse = codes "inverse"
+task_name Pivots = codes "pivots"
 
 -- an option that commands have: its name, the least and the largest number that it takes, and the number that stands where it is absent
 pub record Rule : Type 0 where

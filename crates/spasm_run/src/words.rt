@@ -35,6 +35,8 @@ pub enum Task {
     LeftKernel,
     /// The inverse of a matrix, or that there is none.
     Inverse,
+    /// The structural pivots of a matrix.
+    Pivots,
 }
 
 /// What is asked for, modulo what, and how it is to be worked out.

@@ -10,13 +10,14 @@ use clap::{Arg, ArgAction};
 use std::alloc::{AllocError, Global};
 
 // Each command's name, with what it asks for.
-static TASKS: [(&str, Task); 6] = [
+static TASKS: [(&str, Task); 7] = [
     ("rank", Task::Rank),
     ("rref", Task::Rref),
     ("kernel", Task::Kernel),
     ("solve", Task::Solve),
     ("leftkernel", Task::LeftKernel),
     ("inverse", Task::Inverse),
+    ("pivots", Task::Pivots),
 ];
 
 // The options' names. Each command has each option.
