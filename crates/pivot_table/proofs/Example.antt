@@ -11,14 +11,20 @@ use Rattle.pivot_table.proofs.Growth.{grown_nil, grown_push}
 use Rattle.pivot_table.proofs.Orders.{order_triangular}
 use Rattle.pivot_table.proofs.Reaching.{decide_alive, decide_dead, decide_maximal, decide_reach}
 
+-- the pairs of the first history are alive
+pub first_alive : Alive example [] 0 0
+first_alive = shown (decide_alive example [] 0 0) tt
+
+pub next_alive : Alive example (pair 0 0 ∷ []) 1 1
+next_alive = shown (decide_alive example (pair 0 0 ∷ []) 1 1) tt
+
 first_grown : Grown example first_history
 first_grown = grown_push example (pair 0 0 ∷ []) (pair 1 1)
-    (grown_push example [] (pair 0 0) (grown_nil example) (shown (decide_alive example [] 0 0) tt))
-    (shown (decide_alive example (pair 0 0 ∷ []) 1 1) tt)
+    (grown_push example [] (pair 0 0) (grown_nil example) first_alive) next_alive
 
 first_least : LeastAlive example (pair 0 0 ∷ []) 1 1
 first_least = (
-  shown (decide_alive example (pair 0 0 ∷ []) 1 1) tt,
+  next_alive,
   (λ k l a. shown (decide_not (decide_below (Alive example (pair 0 0 ∷ []) 1) (decide_alive example (pair 0 0 ∷ []) 1) 1)) tt (k, l, a)),
 )
 

@@ -8,6 +8,9 @@ ghost use Rattle.pivot_table.specs.Order.{IsTriangularOrder, Triangular};
 ghost use Rattle.triangular_solve.specs.Listing.{ArePivots, AreWaits, EachOtherPlace, EachPlaceOf, HasReady, TakesReady};
 ghost use Rattle.triangular_solve.specs.Triangle.{TriangularOrderIsOne};
 
+#[cfg(test)]
+mod tests;
+
 use crate::pivotal_columns::PivotalColumns;
 use crate::queue::Queue;
 use pivot_table::{Book, Pair};
