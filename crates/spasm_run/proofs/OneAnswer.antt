@@ -1,5 +1,5 @@
 -- A command has one answer: what its text tells is unique, and just one of two things can be told.
-use Rattle.std.proofs.Common.{ℕ, ◌≡◌, ◌≤◌, ◌++◌, inl, inr, List, [], ◌∷◌, None, sym, ap, ◌∙◌, arith}
+use Rattle.std.proofs.Common.{ℕ, ◌≡◌, ◌≤◌, ◌++◌, inl, inr, List, [], ◌∷◌, None, refl, sym, ap, ◌∙◌, arith}
 use Rattle.std.specs.Prelude.{codes}
 use Rattle.std.proofs.lemmas.Bool.Decides.{nat_tests}
 use Rattle.residue_words.specs.Matrix.{Matrix, row}
@@ -9,7 +9,7 @@ use Rattle.kernel_solve.specs.Column.{column, column_of}
 use Rattle.sms_text.specs.Written.{text_of}
 use Rattle.sparse_rows.specs.Rows.{transposed}
 use Rattle.spasm_run.specs.declared.words.Task.TheVariants as task
-use Rattle.spasm_run.specs.Answers.{InvertsTo, IsOneAnswer, SolvesTo, as_row, misfit, rank_text}
+use Rattle.spasm_run.specs.Answers.{InvertsTo, IsOneAnswer, SolvesTo, as_row, misfit, pivots_text, rank_text}
 
 -- a system's answer
 one_solution : (p : ℕ) (A : Matrix) (b x y : List ℕ) → 2 ≤ p → SolvesTo p A b x → SolvesTo p A b y → x ≡ y
@@ -39,23 +39,28 @@ squared : (A : Matrix) → misfit task.Inverse (A ∷ []) ≡ None → A.height 
 squared A fits = grind (arith, nat_tests)
 
 pub one_answer : IsOneAnswer
-one_answer task.Rank p (A ∷ []) x y two fits (r, s, a) (q, t, b) = a ∙ ap rank_text (rank_unique p A r q two s t) ∙ sym b
-one_answer task.Rref p (A ∷ []) x y two fits (E, s, a) (F, t, b) = one_kernel p A E F x y (rref_unique p A E F two s t) a b
-one_answer task.Kernel p (A ∷ []) x y two fits (K, s, a) (L, t, b) = one_kernel p A K L x y (kernel_unique p A K L two s t) a b
-one_answer task.Solve p (A ∷ B ∷ []) x y two fits s t = one_solution p A (column B) x y two s t
-one_answer task.LeftKernel p (A ∷ []) x y two fits (K, s, a) (L, t, b) =
+one_answer task.Rank p w (A ∷ []) x y two fits alone (r, s, a) (q, t, b) = a ∙ ap rank_text (rank_unique p A r q two s t) ∙ sym b
+one_answer task.Rref p w (A ∷ []) x y two fits alone (E, s, a) (F, t, b) = one_kernel p A E F x y (rref_unique p A E F two s t) a b
+one_answer task.Kernel p w (A ∷ []) x y two fits alone (K, s, a) (L, t, b) = one_kernel p A K L x y (kernel_unique p A K L two s t) a b
+one_answer task.Solve p w (A ∷ B ∷ []) x y two fits alone s t = one_solution p A (column B) x y two s t
+one_answer task.LeftKernel p w (A ∷ []) x y two fits alone (K, s, a) (L, t, b) =
     one_kernel p A K L x y (kernel_unique p (transposed A) K L two s t) a b
-one_answer task.Inverse p (A ∷ []) x y two fits s t = one_inverse p A x y two (squared A fits) s t
-one_answer task.Rank p [] x y two fits s t = absurd s
-one_answer task.Rank p (A ∷ B ∷ values) x y two fits s t = absurd s
-one_answer task.Rref p [] x y two fits s t = absurd s
-one_answer task.Rref p (A ∷ B ∷ values) x y two fits s t = absurd s
-one_answer task.Kernel p [] x y two fits s t = absurd s
-one_answer task.Kernel p (A ∷ B ∷ values) x y two fits s t = absurd s
-one_answer task.Solve p [] x y two fits s t = absurd s
-one_answer task.Solve p (A ∷ []) x y two fits s t = absurd s
-one_answer task.Solve p (A ∷ B ∷ C ∷ values) x y two fits s t = absurd s
-one_answer task.LeftKernel p [] x y two fits s t = absurd s
-one_answer task.LeftKernel p (A ∷ B ∷ values) x y two fits s t = absurd s
-one_answer task.Inverse p [] x y two fits s t = absurd s
-one_answer task.Inverse p (A ∷ B ∷ values) x y two fits s t = absurd s
+one_answer task.Inverse p w (A ∷ []) x y two fits alone s t = one_inverse p A x y two (squared A fits) s t
+one_answer task.Rank p w [] x y two fits alone s t = absurd s
+one_answer task.Rank p w (A ∷ B ∷ values) x y two fits alone s t = absurd s
+one_answer task.Rref p w [] x y two fits alone s t = absurd s
+one_answer task.Rref p w (A ∷ B ∷ values) x y two fits alone s t = absurd s
+one_answer task.Kernel p w [] x y two fits alone s t = absurd s
+one_answer task.Kernel p w (A ∷ B ∷ values) x y two fits alone s t = absurd s
+one_answer task.Solve p w [] x y two fits alone s t = absurd s
+one_answer task.Solve p w (A ∷ []) x y two fits alone s t = absurd s
+one_answer task.Solve p w (A ∷ B ∷ C ∷ values) x y two fits alone s t = absurd s
+one_answer task.LeftKernel p w [] x y two fits alone s t = absurd s
+one_answer task.LeftKernel p w (A ∷ B ∷ values) x y two fits alone s t = absurd s
+one_answer task.Inverse p w [] x y two fits alone s t = absurd s
+one_answer task.Inverse p w (A ∷ B ∷ values) x y two fits alone s t = absurd s
+one_answer task.Pivots p w (A ∷ []) x y two fits alone (qs, s, a) (rs, t, b) =
+    let one : w ≡ 1 = alone refl in
+    a ∙ ap pivots_text (selection_one A qs rs (s.alone one) (t.alone one)) ∙ sym b
+one_answer task.Pivots p w [] x y two fits alone s t = absurd s
+one_answer task.Pivots p w (A ∷ B ∷ values) x y two fits alone s t = absurd s

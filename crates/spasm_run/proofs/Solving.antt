@@ -98,8 +98,8 @@ module _ (p : ℕ) (A B : Matrix) (ma : IsMatrix p A) (mb : IsMatrix p B) (heigh
   told_of q S found prime modulus matrix tells = subst (λ q. AnswersSystem q S found) modulus tells prime A B ma mb heights narrow matrix
 
   -- the solution answers, or what refutes the system
-  pub solution_answers : (q : ℕ) (S : Matrix) (found : Found) (x : ResidueMatrix) → A.width < LARGEST_SIZE → q ≡ p → S ≡ beside A B → HasShape q S.width found → AnswersSystem q S found → found ≡ Solution x →
-      IsAnswerTo task.Solve p (A ∷ B ∷ []) (answer.Solution x)
+  pub solution_answers : {workers : ℕ} (q : ℕ) (S : Matrix) (found : Found) (x : ResidueMatrix) → A.width < LARGEST_SIZE → q ≡ p → S ≡ beside A B → HasShape q S.width found → AnswersSystem q S found → found ≡ Solution x →
+      IsAnswerTo task.Solve p workers (A ∷ B ∷ []) (answer.Solution x)
   solution_answers q S found x wide modulus matrix shape tells here =
       let sizes = subst (HasShape q S.width) here shape in record {
         small = (omega (arith, sizes.2, ap (λ m. m.width) matrix), omega (arith, sizes.3));
@@ -109,9 +109,9 @@ module _ (p : ℕ) (A B : Matrix) (ma : IsMatrix p A) (mb : IsMatrix p B) (heigh
             inl (column x.matrix, told.1, ap (λ X. codes "solution\n" ++ text_of X) (column_whole x.matrix sizes.1 sizes.3));
       }
 
-  pub refutation_answers : (q : ℕ) (S : Matrix) (found : Found) (y : ResidueMatrix) → A.height < LARGEST_SIZE → q ≡ p → S ≡ beside A B → AnswersSystem q S found → found ≡ Inconsistent →
+  pub refutation_answers : {workers : ℕ} (q : ℕ) (S : Matrix) (found : Found) (y : ResidueMatrix) → A.height < LARGEST_SIZE → q ≡ p → S ≡ beside A B → AnswersSystem q S found → found ≡ Inconsistent →
       y.matrix ≡ as_row (row y.matrix 0) → y.matrix.width ≡ A.height → (IsPrime p → ((x : List ℕ) → ¬ IsSolution p A (column B) x) → IsRefutingCombination p A (column B) (row y.matrix 0)) →
-      IsAnswerTo task.Solve p (A ∷ B ∷ []) (answer.Refutation y)
+      IsAnswerTo task.Solve p workers (A ∷ B ∷ []) (answer.Refutation y)
   refutation_answers q S found y tall modulus matrix tells here one_row width refutes = record {
     small = (omega (arith, ap (λ m. m.height) one_row), omega (arith, width));
     fits = side_fits;
@@ -121,8 +121,8 @@ module _ (p : ℕ) (A B : Matrix) (ma : IsMatrix p A) (mb : IsMatrix p B) (heigh
   }
 
 -- where a square matrix has a null vector that is not zero, it has no inverse, and what is told is the first row of its kernel basis
-pub singular_answers : (p : ℕ) (A : Matrix) (found : Inverse) (v : ResidueMatrix) → InverseExcludesNull → A.height ≡ A.width → A.height ≤ LARGEST_INVERTED →
-    HasInverseShape p A.width found → (IsPrime p → Inverts p A found) → found ≡ Singular v → IsAnswerTo task.Inverse p (A ∷ []) (answer.Singular v)
+pub singular_answers : {workers : ℕ} (p : ℕ) (A : Matrix) (found : Inverse) (v : ResidueMatrix) → InverseExcludesNull → A.height ≡ A.width → A.height ≤ LARGEST_INVERTED →
+    HasInverseShape p A.width found → (IsPrime p → Inverts p A found) → found ≡ Singular v → IsAnswerTo task.Inverse p workers (A ∷ []) (answer.Singular v)
 singular_answers p A found v law square narrow shape inverts here =
     let sizes = subst (HasInverseShape p A.width) here shape in record {
       small = (omega (arith, sizes.2), omega (arith, sizes.3));

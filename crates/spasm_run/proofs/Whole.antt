@@ -28,7 +28,7 @@ use Rattle.spasm_run.proofs.Stays.{Keeps, told_of_all}
 
 -- what comes of the matrices that were read for a command is found for the words that ask for it
 module _ (words : List (List ℕ)) (c : Command) (limit : ℕ) (accepted : Accepted words c) (old new : SourceState) where
-  found_in : (values : List Matrix) (result : Result Answer Status) (input : Input) → ComesOf c.task c.modulus values result →
+  found_in : (values : List Matrix) (result : Result Answer Status) (input : Input) → ComesOf c.task c.modulus c.workers values result →
       HasMatrices (request c limit) input values → IsFoundIn words limit input result
   found_in values (Ok a) input comes reads = (c, accepted, record { values = values; reads = reads; fits = comes.fits; answers = comes.answers })
   found_in values (Err status.Done) input comes reads = absurd comes
@@ -41,7 +41,7 @@ module _ (words : List (List ℕ)) (c : Command) (limit : ℕ) (accepted : Accep
   found_in values (Err status.Memory) input comes reads = tt
   found_in values (Err (status.Wide h w)) input comes reads = (c, accepted, record { values = values; reads = reads; refused = comes })
 
-  read_well : (values : List Matrix) (result : Result Answer Status) → ComesOf c.task c.modulus values result → false ≡ is_unread_in result
+  read_well : (values : List Matrix) (result : Result Answer Status) → ComesOf c.task c.modulus c.workers values result → false ≡ is_unread_in result
   read_well values (Ok a) comes = refl
   read_well values (Err status.Done) comes = refl
   read_well values (Err status.No) comes = refl
@@ -57,7 +57,7 @@ module _ (words : List (List ℕ)) (c : Command) (limit : ℕ) (accepted : Accep
   few bytes short = (c, accepted, short)
 
   found_for : (values : List Matrix) (result : Result Answer Status) → WasRead (request c limit) (Ok values) old new →
-      ComesOf c.task c.modulus values result → WasFound words limit result old new
+      ComesOf c.task c.modulus c.workers values result → WasFound words limit result old new
   found_for values result was comes =
       let moved = draws_with (IsShort (request c limit)) (AreTooFew words limit) false was.input.bytes (untouched old) (supply_behind was.input new) few was.draws in
       let Moves : Bool → Type 0 = λ x. Draws (AreTooFew words limit) x was.input.bytes (untouched old) (supply_behind was.input new) in record {
@@ -90,12 +90,12 @@ asked t p limit = record { modulus = p; limit = limit; due = wanted t }
 
 -- the matrices were read, and something came of them
 pub found_given : (words : List (List ℕ)) (c : Command) (t : Task) (p q limit : ℕ) (old new : SourceState) (values : List Matrix) (result : Result Answer Status) →
-    c.task ≡ t → p ≡ c.modulus → q ≡ p → Accepted words c → WasRead (asked t p limit) (Ok values) old new → ComesOf t q values result → WasFound words limit result old new
+    c.task ≡ t → p ≡ c.modulus → q ≡ p → Accepted words c → WasRead (asked t p limit) (Ok values) old new → ComesOf t q c.workers values result → WasFound words limit result old new
 found_given words c t p q limit old new values result task modulus same accepted was comes =
     let at_task : WasRead (asked c.task p limit) (Ok values) old new = subst (λ t. WasRead (asked t p limit) (Ok values) old new) (sym task) was in
     let read : WasRead (request c limit) (Ok values) old new = subst (λ p. WasRead (asked c.task p limit) (Ok values) old new) modulus at_task in
-    let of_task : ComesOf c.task q values result = subst (λ t. ComesOf t q values result) (sym task) comes in
-    found_for words c limit accepted old new values result read (subst (λ q. ComesOf c.task q values result) (same ∙ modulus) of_task)
+    let of_task : ComesOf c.task q c.workers values result = subst (λ t. ComesOf t q c.workers values result) (sym task) comes in
+    found_for words c limit accepted old new values result read (subst (λ q. ComesOf c.task q c.workers values result) (same ∙ modulus) of_task)
 
 -- they weren't
 pub found_unread : (words : List (List ℕ)) (c : Command) (t : Task) (p limit : ℕ) (old new : SourceState) (e : TextError) (result : Result Answer Status) →

@@ -1,20 +1,23 @@
 -- What each command reads, and what it answers.
-use Rattle.std.specs.Prelude.{◌≡◌, ◌<◌, ◌≤◌, ◌⊎◌, ◌==◌, ◌&&◌, nat_lt, not, if◌then◌else◌, ℕ, List, [], ◌∷◌, ◌++◌, Option, None, Some, codes, length, slice_index}
+use Rattle.std.specs.Prelude.{◌≡◌, ◌+◌, ◌<◌, ◌≤◌, ◌⊎◌, ◌==◌, ◌&&◌, nat_lt, not, if◌then◌else◌, ℕ, List, [], ◌∷◌, ◌++◌, Option, None, Some, codes, length, slice_index}
 use Rattle.std.specs.Fmt.{decimal}
+use Rattle.std.specs.List.{flat_map}
 use Rattle.residue_words.specs.Matrix.{Matrix, row}
+use Rattle.residue_words.specs.declared.plain.Pair.{Pair}
+use Rattle.pivot_table.specs.Selected.{Selected}
 use Rattle.row_space.specs.Echelon.{HasRank, IsRref}
 use Rattle.row_space.specs.Inverse.{IsInverse}
 use Rattle.row_space.specs.Kernel.{IsKernel}
 use Rattle.row_space.specs.Solution.{IsReducedSolution, IsRefutingCombination, IsSolution}
 use Rattle.kernel_solve.specs.Column.{column, column_of}
 use Rattle.sms_text.specs.Text.{Due, Header}
-use Rattle.sms_text.specs.Written.{text_of}
+use Rattle.sms_text.specs.Written.{pair_line, text_of}
 use Rattle.sparse_rows.specs.Rows.{transposed}
 use Rattle.spasm_run.specs.declared.commands.TheConstants.{LARGEST_INVERTED}
 use Rattle.spasm_run.specs.declared.status.Status.{Status}
 use Rattle.spasm_run.specs.declared.status.Status.TheVariants.{Shape, Wide}
 use Rattle.spasm_run.specs.declared.words.Task.{Task}
-use Rattle.spasm_run.specs.declared.words.Task.TheVariants.{Rank, Rref, Kernel, Solve, LeftKernel, Inverse}
+use Rattle.spasm_run.specs.declared.words.Task.TheVariants.{Rank, Rref, Kernel, Solve, LeftKernel, Inverse, Pivots}
 
 -- the lines that are due at first: the headers of the matrices that are read
 abbrev pub wanted : Task → List Due
@@ -52,17 +55,25 @@ InvertsTo p A text =
     ⊎ ((K : Matrix) × ((B : Matrix) → ¬ IsInverse p A B) × IsKernel p A K × (0 < K.height)
     × (text ≡ codes "singular\n" ++ text_of (as_row (row K 0))))
 
--- the text is the answer to the command for these matrices
-abbrev pub AnswerOf : Task → ℕ → List Matrix → List ℕ → Type 0
-AnswerOf Rank p (A ∷ []) text = (r : ℕ) × HasRank p A r × (text ≡ rank_text r)
-AnswerOf Rref p (A ∷ []) text = (E : Matrix) × IsRref p A E × (text ≡ text_of E)
-AnswerOf Kernel p (A ∷ []) text = (K : Matrix) × IsKernel p A K × (text ≡ text_of K)
-AnswerOf Solve p (A ∷ B ∷ []) text = SolvesTo p A (column B) text
-AnswerOf LeftKernel p (A ∷ []) text = (K : Matrix) × IsKernel p (transposed A) K × (text ≡ text_of K)
-AnswerOf Inverse p (A ∷ []) text = InvertsTo p A text
-AnswerOf task p values text = ⊥
+-- the places of pivots, a line each, counted from 1
+abbrev pub pair_lines : List Pair → List ℕ
+pair_lines qs = flat_map (λ (q : Pair). pair_line (q.row + 1) (q.col + 1)) qs
 
--- the answer to a command for matrices of the shapes that are wanted is one text
+abbrev pub pivots_text : List Pair → List ℕ
+pivots_text qs = codes "pivots " ++ decimal (length qs) ++ 10 ∷ pair_lines qs
+
+-- the text is the answer to the command by this number of workers, for these matrices modulo p
+abbrev pub AnswerOf : Task → ℕ → ℕ → List Matrix → List ℕ → Type 0
+AnswerOf Rank p workers (A ∷ []) text = (r : ℕ) × HasRank p A r × (text ≡ rank_text r)
+AnswerOf Rref p workers (A ∷ []) text = (E : Matrix) × IsRref p A E × (text ≡ text_of E)
+AnswerOf Kernel p workers (A ∷ []) text = (K : Matrix) × IsKernel p A K × (text ≡ text_of K)
+AnswerOf Solve p workers (A ∷ B ∷ []) text = SolvesTo p A (column B) text
+AnswerOf LeftKernel p workers (A ∷ []) text = (K : Matrix) × IsKernel p (transposed A) K × (text ≡ text_of K)
+AnswerOf Inverse p workers (A ∷ []) text = InvertsTo p A text
+AnswerOf Pivots p workers (A ∷ []) text = (qs : List Pair) × Selected A workers qs × (text ≡ pivots_text qs)
+AnswerOf task p workers values text = ⊥
+
+-- the answer to a command for matrices of the shapes that are wanted is one text; the pivots where one worker searches
 abbrev pub IsOneAnswer : Type 0
-IsOneAnswer = (task : Task) (p : ℕ) (values : List Matrix) (text other : List ℕ) → 2 ≤ p →
-    misfit task values ≡ None → AnswerOf task p values text → AnswerOf task p values other → text ≡ other
+IsOneAnswer = (task : Task) (p workers : ℕ) (values : List Matrix) (text other : List ℕ) → 2 ≤ p → misfit task values ≡ None →
+    (task ≡ Pivots → workers ≡ 1) → AnswerOf task p workers values text → AnswerOf task p workers values other → text ≡ other

@@ -1,7 +1,8 @@
 -- What is found for matrices and for words: an answer, or the status with which a run ends.
-use Rattle.std.specs.Prelude.{◌≡◌, ◌<◌, ℕ, List, ◌++◌, Bool, false, Some, None, Result, Ok, Err, codes}
+use Rattle.std.specs.Prelude.{◌≡◌, ◌<◌, ℕ, List, ◌++◌, Bool, false, Some, None, Result, Ok, Err, All, codes}
 use Rattle.residue_words.specs.Residues.{IsPrime}
 use Rattle.residue_words.specs.Matrix.{Matrix, IsMatrix, IsVector}
+use Rattle.residue_words.specs.declared.plain.Pair.{Pair}
 use Rattle.sparse_rows.specs.Rows.{beside}
 use Rattle.sparse_rows.specs.declared.rows.TheConstants.{LARGEST_SIZE}
 use Rattle.kernel_solve.specs.Column.{column}
@@ -15,7 +16,7 @@ use Rattle.spasm_run.specs.declared.answer.Answer.TheVariants as answer
 use Rattle.spasm_run.specs.declared.status.Status.{Status}
 use Rattle.spasm_run.specs.declared.status.Status.TheVariants as status
 use Rattle.spasm_run.specs.declared.words.Task.{Task}
-use Rattle.spasm_run.specs.Answers.{AnswerOf, misfit, rank_text}
+use Rattle.spasm_run.specs.Answers.{AnswerOf, misfit, pivots_text, rank_text}
 use Rattle.spasm_run.specs.Input.{Input, supply_behind}
 use Rattle.spasm_run.specs.Ran.{AreTooFew, HasNoAnswer, IsAnswered}
 use Rattle.spasm_run.specs.Status.{is_unread}
@@ -28,10 +29,15 @@ answer_text (answer.Solution x) = codes "solution\n" ++ text_of x.matrix
 answer_text (answer.Refutation y) = codes "no solution\n" ++ text_of y.matrix
 answer_text (answer.Inverse B) = codes "inverse\n" ++ text_of B.matrix
 answer_text (answer.Singular v) = codes "singular\n" ++ text_of v.matrix
+answer_text (answer.Pivots pairs) = pivots_text pairs.items
 
 -- the sizes of its matrix can be written
 abbrev pub HasSmallSizes : Matrix → Type 0
 HasSmallSizes A = (A.height < LARGEST_SIZE) × (A.width < LARGEST_SIZE)
+
+-- its row and its column can be written
+abbrev pub IsSmallPlace : Pair → Type 0
+IsSmallPlace q = (q.row < LARGEST_SIZE) × (q.col < LARGEST_SIZE)
 
 abbrev pub IsSmall : Answer → Type 0
 IsSmall (answer.Rank r) = Unit {0}
@@ -40,12 +46,13 @@ IsSmall (answer.Solution x) = HasSmallSizes x.matrix
 IsSmall (answer.Refutation y) = HasSmallSizes y.matrix
 IsSmall (answer.Inverse B) = HasSmallSizes B.matrix
 IsSmall (answer.Singular v) = HasSmallSizes v.matrix
+IsSmall (answer.Pivots pairs) = All IsSmallPlace pairs.items
 
 -- the answer to a task for these matrices, which are of the shapes that are wanted
-pub record IsAnswerTo (t : Task) (p : ℕ) (values : List Matrix) (a : Answer) : Type 0 where
+pub record IsAnswerTo (t : Task) (p workers : ℕ) (values : List Matrix) (a : Answer) : Type 0 where
   pub small : IsSmall a
   pub fits : misfit t values ≡ None
-  pub answers : IsPrime p → AnswerOf t p values (answer_text a)
+  pub answers : IsPrime p → AnswerOf t p workers values (answer_text a)
 
 -- what is found for the system S: for a prime modulus the solution of A x = b, or that there is none, where S is [A | B]
 -- and b the one column of B
@@ -55,12 +62,12 @@ AnswersSystem p S found =
     S ≡ beside A B → Answers p A (column B) found
 
 -- what comes of a task for these matrices: its answer; or they are refused for their shapes; or memory was wanted
-abbrev pub ComesOf : Task → ℕ → List Matrix → Result Answer Status → Type 0
-ComesOf t p values (Ok a) = IsAnswerTo t p values a
-ComesOf t p values (Err (status.Shape h w)) = misfit t values ≡ Some (status.Shape h w)
-ComesOf t p values (Err (status.Wide h w)) = misfit t values ≡ Some (status.Wide h w)
-ComesOf t p values (Err status.Memory) = Unit {0}
-ComesOf t p values (Err _) = ⊥
+abbrev pub ComesOf : Task → ℕ → ℕ → List Matrix → Result Answer Status → Type 0
+ComesOf t p workers values (Ok a) = IsAnswerTo t p workers values a
+ComesOf t p workers values (Err (status.Shape h w)) = misfit t values ≡ Some (status.Shape h w)
+ComesOf t p workers values (Err (status.Wide h w)) = misfit t values ≡ Some (status.Wide h w)
+ComesOf t p workers values (Err status.Memory) = Unit {0}
+ComesOf t p workers values (Err _) = ⊥
 
 -- whether the source failed
 abbrev pub is_unread_in : Result Answer Status → Bool

@@ -32,7 +32,7 @@ pub record HasAnswer (c : Command) (limit : ℕ) (input : Input) (text : List �
   pub values : List Matrix
   pub reads : HasMatrices (request c limit) input values
   pub fits : misfit c.task values ≡ None
-  pub answers : IsPrime c.modulus → AnswerOf c.task c.modulus values text
+  pub answers : IsPrime c.modulus → AnswerOf c.task c.modulus c.workers values text
 
 -- the input is whole, and its matrices are refused for their shapes
 pub record IsMisfit (c : Command) (limit : ℕ) (input : Input) (s : Status) : Type 0 where

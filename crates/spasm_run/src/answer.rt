@@ -3,6 +3,8 @@ ghost use Rattle.sms_text.specs.Writing.{Writes};
 ghost use Rattle.spasm_run.specs.Answers.{rank_text};
 
 use crate::numbered_text::write_with_number;
+use crate::written_pivots::write_pivots;
+use pivot_table::Pair;
 use sms_text::{Sink, WriteFault, write_rows, write_text, write_titled};
 use sparse_rows::Rows;
 
@@ -21,6 +23,8 @@ pub(crate) enum Answer {
     Inverse(Rows),
     // A null vector of a matrix without an inverse, as a row.
     Singular(Rows),
+    // Structural pivots of a matrix, in triangular order.
+    Pivots(Vec<Pair>),
 }
 
 impl Answer {
@@ -38,6 +42,7 @@ impl Answer {
             Answer::Refutation(y) => write_titled(out, "no solution\n", y),
             Answer::Inverse(b) => write_titled(out, "inverse\n", b),
             Answer::Singular(v) => write_titled(out, "singular\n", v),
+            Answer::Pivots(pairs) => write_pivots(out, pairs),
         }
     }
 }

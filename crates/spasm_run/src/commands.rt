@@ -17,10 +17,13 @@ use crate::answer::Answer;
 use crate::status::Status;
 use dense_finish::finish;
 use echelon_form::Echelon;
+use fl_pivots::leftmost;
 use kernel_solve::{Found, Inverse, refuting_system, solution};
+use optimistic_search::{Gate, search};
 use sparse_rows::{Rows, Sparse};
 use std::alloc::{AllocError, Global};
 use std::thread::Threads;
+use triangular_solve::Triangle;
 
 /// The most rows of a matrix that is inverted, 2^30.
 pub const LARGEST_INVERTED: u32 = 1_073_741_824;
@@ -40,13 +43,13 @@ pub(crate) fn find_rank<R: Threads + Sync>(
 ) -> Result<Answer, Status>
     requires some { 1 ≤ workers }
     requires few { workers ≤ 64 }
-    ensures { ComesOf task.Rank a.now.modulus (a.now.matrix ∷ []) result }
+    ensures { ComesOf task.Rank a.now.modulus workers (a.now.matrix ∷ []) result }
 {
     if rounds == 0 {
         return count_pivots(rt, alloc, a, workers);
     }
-    let form = Echelon::of(rt, alloc, a, workers)?;
-    Ok(Answer::Rank(u64::from(form.rank())))
+    let rank = echelon_form::rank(alloc, a)?;
+    Ok(Answer::Rank(u64::from(rank)))
 }
 
 // The rank of a matrix as the number of pivots of a dense elimination.
@@ -58,12 +61,34 @@ fn count_pivots<R: Threads + Sync>(
 ) -> Result<Answer, Status>
     requires some { 1 ≤ workers }
     requires few { workers ≤ 64 }
-    ensures { ComesOf task.Rank a.now.modulus (a.now.matrix ∷ []) result }
+    ensures { ComesOf task.Rank a.now.modulus workers (a.now.matrix ∷ []) result }
 {
     row_space::factors_give_rank();
     let _ = a.height();
     let factors = finish(rt, alloc, a, workers)?;
     Ok(Answer::Rank(factors.pivots.items().len() as u64))
+}
+
+// The structural pivots of a matrix in triangular order: what a search finds that begins with the leftmost ones.
+pub(crate) fn find_pivots<R: Threads + Sync, G: Gate>(
+    rt: &R,
+    alloc: Global,
+    a: &Rows,
+    workers: u32,
+    gate: &G,
+) -> Result<Answer, Status>
+    requires some { 1 ≤ workers }
+    requires few { workers ≤ 64 }
+    ensures { ComesOf task.Pivots a.now.modulus workers (a.now.matrix ∷ []) result }
+{
+    // The call tells that no row is beyond what can be written.
+    let _ = a.height();
+    let _ = a.width();
+    let book = leftmost(alloc, a)?;
+    let book = search(rt, alloc, book, workers, gate)?;
+    let triangle = Triangle::of(alloc, &book)?;
+    let pairs = Vec::from_slice(alloc, triangle.pairs())?;
+    Ok(Answer::Pivots(pairs))
 }
 
 // The echelon form of a matrix.
@@ -76,7 +101,7 @@ pub(crate) fn find_form<R: Threads + Sync>(
     requires some { 1 ≤ workers }
     requires few { workers ≤ 64 }
     requires width { a.now.matrix.width < LARGEST_SIZE }
-    ensures { ComesOf task.Rref a.now.modulus (a.now.matrix ∷ []) result }
+    ensures { ComesOf task.Rref a.now.modulus workers (a.now.matrix ∷ []) result }
 {
     let form = Echelon::of(rt, alloc, a, workers)?;
     Ok(Answer::Matrix(form.into_rows()))
@@ -92,7 +117,7 @@ pub(crate) fn find_kernel<R: Threads + Sync>(
     requires some { 1 ≤ workers }
     requires few { workers ≤ 64 }
     requires width { a.now.matrix.width < LARGEST_SIZE }
-    ensures { ComesOf task.Kernel a.now.modulus (a.now.matrix ∷ []) result }
+    ensures { ComesOf task.Kernel a.now.modulus workers (a.now.matrix ∷ []) result }
 {
     let form = Echelon::of(rt, alloc, a, workers)?;
     let basis = kernel_solve::kernel(alloc, &form)?;
@@ -109,7 +134,7 @@ pub(crate) fn find_left_kernel<R: Threads + Sync>(
     requires some { 1 ≤ workers }
     requires few { workers ≤ 64 }
     requires height { a.now.matrix.height < LARGEST_SIZE }
-    ensures { ComesOf task.LeftKernel a.now.modulus (a.now.matrix ∷ []) result }
+    ensures { ComesOf task.LeftKernel a.now.modulus workers (a.now.matrix ∷ []) result }
 {
     let basis = kernel_solve::left_kernel(rt, alloc, a, workers)?;
     Ok(Answer::Matrix(basis))
@@ -124,7 +149,7 @@ pub(crate) fn find_inverse<R: Threads + Sync>(
 ) -> Result<Answer, Status>
     requires some { 1 ≤ workers }
     requires few { workers ≤ 64 }
-    ensures { ComesOf task.Inverse a.now.modulus (a.now.matrix ∷ []) result }
+    ensures { ComesOf task.Inverse a.now.modulus workers (a.now.matrix ∷ []) result }
 {
     row_space::inverse_excludes_null();
     let height = a.height();
@@ -154,7 +179,7 @@ pub(crate) fn find_solution<R: Threads + Sync>(
     requires moduli { a.now.modulus ≡ b.now.modulus }
     requires height { a.now.matrix.height < LARGEST_SIZE }
     requires width { a.now.matrix.width < LARGEST_SIZE }
-    ensures { ComesOf task.Solve a.now.modulus (a.now.matrix ∷ b.now.matrix ∷ []) result }
+    ensures { ComesOf task.Solve a.now.modulus workers (a.now.matrix ∷ b.now.matrix ∷ []) result }
 {
     let height = b.height();
     let width = b.width();

@@ -7,13 +7,13 @@ mod numbered_text;
 mod plain_elimination;
 mod read_matrices;
 mod running;
-mod search_gate;
 mod status;
 pub mod words;
+mod written_pivots;
 
+pub use optimistic_search::{Gate, Open, Point};
 pub use commands::{LARGEST_INVERTED, at_most_one_answer};
 pub use plain_elimination::{plain_rows, rank_of};
 pub use running::{run, run_within};
-pub use search_gate::{Gate, Open, Point};
 pub use status::Status;
 pub use words::{Command, Task, accepted_words_are_plain, at_most_one_command, read_words};

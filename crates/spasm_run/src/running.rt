@@ -13,12 +13,12 @@ pub(crate) mod tests;
 
 use crate::answer::Answer;
 use crate::commands::{
-    find_form, find_inverse, find_kernel, find_left_kernel, find_rank, find_solution,
+    find_form, find_inverse, find_kernel, find_left_kernel, find_pivots, find_rank, find_solution,
 };
 use crate::read_matrices::{read_one, read_two};
-use crate::search_gate::Gate;
 use crate::status::Status;
 use crate::words::{Command, Task, read_words};
+use optimistic_search::Gate;
 use residue_words::Modulus;
 use sms_text::{LARGEST_INPUT, Sink, Source};
 use std::alloc::Global;
@@ -64,7 +64,7 @@ pub fn run_within<'a, R: Threads + Sync, S: Source, K: Sink, E: Sink, G: Gate>(
     source: &mut S,
     out: &mut K,
     err: &mut E,
-    _gate: &G,
+    gate: &G,
     limit: u64,
 ) -> Status
     requires { limit ≤ LARGEST_INPUT }
@@ -81,18 +81,19 @@ pub fn run_within<'a, R: Threads + Sync, S: Source, K: Sink, E: Sink, G: Gate>(
     ensures unwritten { is_written result ≡ false → out.new ≡ out.old }
     ensures silent { is_answered result ≡ true → err.new ≡ err.old }
 {
-    let status = answer(rt, alloc, words, source, out, limit);
+    let status = answer(rt, alloc, words, source, out, gate, limit);
     status.tell(err);
     status
 }
 
 // Reads, computes and writes the answer.
-fn answer<'a, R: Threads + Sync, S: Source, K: Sink>(
+fn answer<'a, R: Threads + Sync, S: Source, K: Sink, G: Gate>(
     rt: &R,
     alloc: Global,
     words: &'a [&'a str],
     source: &mut S,
     out: &mut K,
+    gate: &G,
     limit: u64,
 ) -> Status
     requires { limit ≤ LARGEST_INPUT }
@@ -107,7 +108,7 @@ fn answer<'a, R: Threads + Sync, S: Source, K: Sink>(
     ensures unread { AreRefused (bytes_of words.now) → source.new ≡ source.old }
     ensures unwritten { is_written result ≡ false → out.new ≡ out.old }
 {
-    match find(rt, alloc, words, source, limit) {
+    match find(rt, alloc, words, source, gate, limit) {
         Ok(answer) => match answer.write(out) {
             Ok(()) => Status::Done,
             Err(_) => Status::WriteFault,
@@ -117,11 +118,12 @@ fn answer<'a, R: Threads + Sync, S: Source, K: Sink>(
 }
 
 // The answer to what the words ask for, or how a run ends without one.
-fn find<'a, R: Threads + Sync, S: Source>(
+fn find<'a, R: Threads + Sync, S: Source, G: Gate>(
     rt: &R,
     alloc: Global,
     words: &'a [&'a str],
     source: &mut S,
+    gate: &G,
     limit: u64,
 ) -> Result<Answer, Status>
     requires { limit ≤ LARGEST_INPUT }
@@ -130,18 +132,19 @@ fn find<'a, R: Threads + Sync, S: Source>(
     ensures small { IfOk result IsSmall }
 {
     match read_words(alloc, words) {
-        Ok(Some(command)) => find_for(rt, alloc, command, source, limit),
+        Ok(Some(command)) => find_for(rt, alloc, command, source, gate, limit),
         Ok(None) => Err(Status::Usage),
         Err(_) => Err(Status::Memory),
     }
 }
 
 // The answer to a command, or how a run ends without one.
-fn find_for<R: Threads + Sync, S: Source>(
+fn find_for<R: Threads + Sync, S: Source, G: Gate>(
     rt: &R,
     alloc: Global,
     command: Command,
     source: &mut S,
+    gate: &G,
     limit: u64,
 ) -> Result<Answer, Status>
     requires limit { limit ≤ LARGEST_INPUT }
@@ -170,5 +173,8 @@ fn find_for<R: Threads + Sync, S: Source>(
             find_left_kernel(rt, alloc, &read_one(alloc, &p, source, limit)?, workers)
         }
         Task::Inverse => find_inverse(rt, alloc, &read_one(alloc, &p, source, limit)?, workers),
+        Task::Pivots => {
+            find_pivots(rt, alloc, &read_one(alloc, &p, source, limit)?, workers, gate)
+        }
     }
 }

@@ -29,6 +29,11 @@ returns-in_ok-read_one-in-Inverse-clause-found g c = λ words accepted.
     let a = c.in_ok-read_one-in-Inverse in
     found_given words c.args.command task.Inverse c.new-p.result a.field-0.modulus c.args.limit _ _ (a.field-0.matrix ∷ []) _ c.in-Inverse.is c.new-p.ensures a.ensures.matrix.modulus accepted a.ensures.did c.find_inverse-in-Inverse.ensures
 
+pub returns-in_ok-read_one-in-Pivots-clause-found : goal.returns-in_ok-read_one-in-Pivots-clause-found
+returns-in_ok-read_one-in-Pivots-clause-found g c = λ words accepted.
+    let a = c.in_ok-read_one-in-Pivots in
+    found_given words c.args.command task.Pivots c.new-p.result a.field-0.modulus c.args.limit _ _ (a.field-0.matrix ∷ []) _ c.in-Pivots.is c.new-p.ensures a.ensures.matrix.modulus accepted a.ensures.did c.find_pivots-in-Pivots.ensures
+
 pub returns-in_ok-a-in-Solve-clause-found : goal.returns-in_ok-a-in-Solve-clause-found
 returns-in_ok-a-in-Solve-clause-found g c = λ words accepted.
     let both = c.in_ok-a-in-Solve in
@@ -57,3 +62,7 @@ returns-in_err-read_one-in-LeftKernel-clause-found g c = λ words accepted.
 pub returns-in_err-read_one-in-Inverse-clause-found : goal.returns-in_err-read_one-in-Inverse-clause-found
 returns-in_err-read_one-in-Inverse-clause-found g c = λ words accepted.
     found_unread words c.args.command task.Inverse c.new-p.result c.args.limit _ _ c.in_err-read_one-in-Inverse.field-0.0 _ c.in-Inverse.is c.new-p.ensures c.from_residual-in_err-read_one-in-Inverse.ensures.1 accepted c.in_err-read_one-in-Inverse.ensures.did
+
+pub returns-in_err-read_one-in-Pivots-clause-found : goal.returns-in_err-read_one-in-Pivots-clause-found
+returns-in_err-read_one-in-Pivots-clause-found g c = λ words accepted.
+    found_unread words c.args.command task.Pivots c.new-p.result c.args.limit _ _ c.in_err-read_one-in-Pivots.field-0.0 _ c.in-Pivots.is c.new-p.ensures c.from_residual-in_err-read_one-in-Pivots.ensures.1 accepted c.in_err-read_one-in-Pivots.ensures.did
