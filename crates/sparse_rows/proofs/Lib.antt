@@ -7,6 +7,7 @@ pub mod Grouping
 pub mod Loops
 pub mod Occurring
 pub mod Renaming
+pub mod Renumbering
 pub mod Spread
 pub mod Stored
 pub mod Summing
