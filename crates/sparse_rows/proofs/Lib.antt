@@ -8,6 +8,7 @@ pub mod Loops
 pub mod Marking
 pub mod Occurring
 pub mod Renaming
+pub mod Renumbering
 pub mod Spread
 pub mod Stored
 pub mod Summing

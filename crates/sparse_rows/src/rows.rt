@@ -12,8 +12,8 @@ ghost use Rattle.sparse_rows.specs.Rows.{AreEnough, AreFilled, AreOccupied, AreR
 ghost use Rattle.sparse_rows.specs.Stored.{IsSparse, spread, with_row};
 
 use crate::builder::RowsBuilder;
-use crate::cells::Cell;
-use crate::column_lists::{first_from, place_of};
+use crate::cells::{Cell, renumbered, row_numbers};
+use crate::column_lists::{first_from, occurring, place_of, places_among};
 use crate::sparse::Sparse;
 use crate::stored_rows::StoredRows;
 use residue_words::Modulus;
@@ -164,11 +164,23 @@ impl Rows {
         ensures modulus { IfOk result (λ rows. rows.modulus ≡ modulus) }
         ensures matrix { IfOk result (λ rows. rows.matrix ≡ matrix_by height width (λ i j. weight (place_of i j) cells.now)) }
     {
+        if stores_every_row(height, cells.len()) {
+            return Ok(Rows {
+                height,
+                stored: StoredRows::from_cells(alloc, modulus, height, width, cells)?,
+                every_row: true,
+                rows: Vec::new(alloc),
+            });
+        }
+        let numbers = row_numbers(alloc, cells)?;
+        let rows = occurring(alloc, height, &numbers)?;
+        let places = places_among(alloc, &rows, &numbers)?;
+        let cells = renumbered(alloc, &places, cells)?;
         Ok(Rows {
             height,
-            stored: StoredRows::from_cells(alloc, modulus, height, width, cells)?,
-            every_row: true,
-            rows: Vec::new(alloc),
+            stored: StoredRows::from_cells(alloc, modulus, rows.len() as u32, width, &cells)?,
+            every_row: false,
+            rows,
         })
     }
 
@@ -546,7 +558,7 @@ impl Rows {
 // Whether a matrix of this height with so many entries stores each of its rows: where the rows are at most four times as many as
 // the entries and a few thousand. Each row then costs 8 bytes and is found at once, and the index takes less than 32 bytes an
 // entry; else only the rows that have an entry are stored, which cost 12 bytes and a search.
-fn stores_every_row(height: u32, entries: usize) -> bool {
+pub(crate) fn stores_every_row(height: u32, entries: usize) -> bool {
     height as usize / 4 <= entries.saturating_add(1024)
 }
 
