@@ -155,9 +155,9 @@ fn panels_follow_one_another(rt: HostRuntime) -> Result<(), Fail> {
     assert_factors(&rt, alloc, &a, 67)
 }
 
-const HUGE: u32 = 1_000_000;
+const HUGE: u32 = 2_147_483_647;
 
-const STEP: u32 = 100_000;
+const STEP: u32 = 200_000_000;
 
 // Ten entries of a huge matrix, in rows and columns of their own, cost what ten entries cost.
 #[test]

@@ -8,10 +8,10 @@ use Rattle.pivot_table.specs.Example.{example, other_history}
 use Rattle.pivot_table.specs.Order.IsParted.{nothing, right}
 use Rattle.pivot_table.proofs.Reaching.{decide_reach}
 use Rattle.optimistic_search.specs.Cost.{IsCost, TakesItsCost, TakesTheRise}
-use Rattle.optimistic_search.specs.Example.{IsWorked}
+use Rattle.optimistic_search.specs.Example.{IsWorkedCost}
 use Rattle.optimistic_search.specs.Walked.{Walked, extended, open_after}
 
-pub worked : IsWorked
+pub worked : IsWorkedCost
 worked = record {
   begun = record {
     others = [];
