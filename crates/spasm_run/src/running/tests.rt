@@ -307,6 +307,9 @@ const ANSWERS: &[(&str, &str, &str, &str)] = &[
     ),
     ("inverse", "7", X, "singular\n1 3 M\n1 1 5\n1 2 1\n0 0 0\n"),
     ("inverse", "7", "0 0 M\n0 0 0\n", "inverse\n0 0 M\n0 0 0\n"),
+    ("pivots", "7", X, "pivots 2\n1 3\n2 1\n"),
+    ("pivots", "7", Y, "pivots 2\n2 2\n1 1\n"),
+    ("pivots", "7", "0 5 M\n0 0 0\n", "pivots 0\n"),
     ("rank", "7", X, "rank 2\n"),
     ("rref", "7", X, "2 3 M\n1 1 1\n1 2 2\n2 3 1\n0 0 0\n"),
 ];
