@@ -83,3 +83,48 @@ flint() {
     gcc -O2 -o bench/out/flint bench/flint.c -lflint -lgmp -lm 2> /dev/null || { echo "FLINT isn't installed: no comparison" >&2; return 0; }
     best 2 "$2" bench/out/flint "$1" 42013
 }
+
+# chessboard_text M N K FILE: the boundary map of the chessboard complex of M x N squares, from K + 1 rooks to K.
+chessboard_text() {
+    python3 - "$@" <<'P'
+import itertools, sys
+m, n, k, path = int(sys.argv[1]), int(sys.argv[2]), int(sys.argv[3]), sys.argv[4]
+def placed(count):
+    for rows in itertools.combinations(range(m), count):
+        for cols in itertools.permutations(range(n), count):
+            yield tuple(zip(rows, cols))
+faces = {face: j for j, face in enumerate(sorted(placed(k)), 1)}
+rows = list(placed(k + 1))
+with open(path, "w") as f:
+    f.write(f"{len(rows)} {len(faces)} M\n")
+    for i, facet in enumerate(rows, 1):
+        row = sorted((faces[facet[:t] + facet[t + 1:]], 1 if t % 2 == 0 else -1) for t in range(k + 1))
+        f.writelines(f"{i} {j} {v}\n" for j, v in row)
+    f.write("0 0 0\n")
+P
+}
+
+# matching_text N K FILE: the boundary map of the matching complex of the complete graph on N vertices, from K + 1 edges to K.
+matching_text() {
+    python3 - "$@" <<'P'
+import itertools, sys
+n, k, path = int(sys.argv[1]), int(sys.argv[2]), sys.argv[3]
+edges = list(itertools.combinations(range(n), 2))
+def matchings(count, start=0, used=()):
+    if count == 0:
+        yield ()
+        return
+    for e in range(start, len(edges)):
+        if edges[e][0] not in used and edges[e][1] not in used:
+            for rest in matchings(count - 1, e + 1, used + edges[e]):
+                yield (e,) + rest
+faces = {face: j for j, face in enumerate(sorted(matchings(k)), 1)}
+rows = list(matchings(k + 1))
+with open(path, "w") as f:
+    f.write(f"{len(rows)} {len(faces)} M\n")
+    for i, facet in enumerate(rows, 1):
+        row = sorted((faces[facet[:t] + facet[t + 1:]], 1 if t % 2 == 0 else -1) for t in range(k + 1))
+        f.writelines(f"{i} {j} {v}\n" for j, v in row)
+    f.write("0 0 0\n")
+P
+}
