@@ -69,19 +69,31 @@ fn scattered(alloc: Global, count: u32, seed: u32) -> Result<Vec<(u32, u32, u64)
     Ok(list)
 }
 
+// Whether these are the entries, row by row.
+fn lists(alloc: Global, rows: &Rows, entries: &[(u32, u32, u64)]) -> Result<bool, AllocError> {
+    Ok(rows.triples(alloc)?.as_slice() == entries)
+}
+
+// Whether what is pushed in no order is summed, in as many rows.
+fn is_summed(alloc: Global, height: u32, count: u32) -> Result<bool, AllocError>
+    requires { height ≤ LARGEST_SIZE }
+{
+    let pushed = scattered(alloc, count, count)?;
+    let wanted = sums(alloc, 9, 6, &pushed)?;
+    let rows = built(alloc, height, 6, &pushed)?;
+    lists(alloc, &rows, &wanted)
+}
+
 #[test]
 fn what_is_pushed_in_any_order_is_summed(rt: HostRuntime) -> Result<(), Fail> {
     let alloc = rt.alloc();
     for count in [0, 1, 2, 5, 20, 60, 300] {
-        let pushed = scattered(alloc, count, count)?;
-        // The same in few rows, and in many more than there are entries.
-        for height in [9, LARGEST_SIZE] {
-            assert_eq!(rt;
-                built(alloc, height, 6, &pushed)?.triples(alloc)?.as_slice(),
-                sums(alloc, 9, 6, &pushed)?.as_slice(),
-                "{count} pushed"
-            );
-        }
+        // In few rows, and in many more than there are entries.
+        assert!(rt; is_summed(alloc, 9, count)?, "{count} pushed");
+        assert!(rt;
+            is_summed(alloc, LARGEST_SIZE, count)?,
+            "{count} pushed far apart"
+        );
     }
     Ok(())
 }
@@ -98,72 +110,49 @@ const SMALL: &[(u32, u32, u64)] = &[
     (2, 2, 1),
 ];
 
+const SMALL_TURNED: &[(u32, u32, u64)] = &[
+    (0, 0, 2),
+    (0, 1, 1),
+    (0, 2, 3),
+    (1, 0, 4),
+    (1, 1, 2),
+    (1, 2, 6),
+    (2, 0, 1),
+    (2, 2, 1),
+];
+
+const LAST_AND_FIRST: &[(u32, u32, u64)] = &[
+    (0, 0, 3),
+    (0, 1, 6),
+    (0, 2, 1),
+    (1, 0, 2),
+    (1, 1, 4),
+    (1, 2, 1),
+];
+
 #[test]
 fn small_matrices(rt: HostRuntime) -> Result<(), Fail> {
     let alloc = rt.alloc();
     let x = built(alloc, 3, 3, SMALL)?;
-    let column = built(alloc, 3, 1, &[(0, 0, 1), (2, 0, 1)])?;
-    assert_eq!(rt;
-        x.transpose(alloc)?.triples(alloc)?.as_slice(),
-        [
-            (0, 0, 2),
-            (0, 1, 1),
-            (0, 2, 3),
-            (1, 0, 4),
-            (1, 1, 2),
-            (1, 2, 6),
-            (2, 0, 1),
-            (2, 2, 1)
-        ]
-        .as_slice()
-    );
-    assert_eq!(rt;
-        x.beside(alloc, &column)?.triples(alloc)?.as_slice(),
-        [
-            (0, 0, 2),
-            (0, 1, 4),
-            (0, 2, 1),
-            (0, 3, 1),
-            (1, 0, 1),
-            (1, 1, 2),
-            (2, 0, 3),
-            (2, 1, 6),
-            (2, 2, 1),
-            (2, 3, 1)
-        ]
-        .as_slice()
-    );
-    assert_eq!(rt;
-        x.select(alloc, &[2, 0])?.triples(alloc)?.as_slice(),
-        [
-            (0, 0, 3),
-            (0, 1, 6),
-            (0, 2, 1),
-            (1, 0, 2),
-            (1, 1, 4),
-            (1, 2, 1)
-        ]
-        .as_slice()
-    );
+    assert!(rt; lists(alloc, &x.transpose(alloc)?, SMALL_TURNED)?);
+    assert!(rt; lists(alloc, &x.select(alloc, &[2, 0])?, LAST_AND_FIRST)?);
     assert_eq!(rt;
         x.times(alloc, &[5, 1, 0])?.as_slice(),
         [0, 0, 0].as_slice()
     );
-    assert_eq!(rt;
-        x.copy(alloc)?.triples(alloc)?.as_slice(),
-        x.triples(alloc)?.as_slice()
-    );
-    assert_eq!(rt; built(alloc, 1, 1, &[(0, 0, 3), (0, 0, 4)])?.entries(), 0);
-    assert_eq!(rt;
-        Rows::identity(alloc, 2, &Modulus::new(7))?
-            .triples(alloc)?
-            .as_slice(),
-        [(0, 0, 1), (1, 1, 1)].as_slice()
-    );
     Ok(())
 }
 
-// Few entries in a matrix of the largest sizes.
+#[test]
+fn sums_that_are_zero_are_no_entries(rt: HostRuntime) -> Result<(), Fail> {
+    let alloc = rt.alloc();
+    assert_eq!(rt; built(alloc, 1, 1, &[(0, 0, 3), (0, 0, 4)])?.entries(), 0);
+    let one = Rows::identity(alloc, 2, &Modulus::new(7))?;
+    assert!(rt; lists(alloc, &one, &[(0, 0, 1), (1, 1, 1)])?);
+    Ok(())
+}
+
+// Few entries in a matrix of the largest sizes, and those that are left.
 const FAR: &[(u32, u32, u64)] = &[
     (5, 2_147_483_647, 3),
     (2_147_483_647, 0, 1),
@@ -173,31 +162,40 @@ const FAR: &[(u32, u32, u64)] = &[
     (9, 9, 3),
 ];
 
+const FAR_ENTRIES: &[(u32, u32, u64)] = &[
+    (5, 7, 2),
+    (5, 2_147_483_647, 3),
+    (1_000_000_000, 7, 6),
+    (2_147_483_647, 0, 1),
+];
+
+const FAR_TURNED: &[(u32, u32, u64)] = &[
+    (0, 2_147_483_647, 1),
+    (7, 5, 2),
+    (7, 1_000_000_000, 6),
+    (2_147_483_647, 5, 3),
+];
+
 #[test]
 fn huge_matrices(rt: HostRuntime) -> Result<(), Fail> {
     let alloc = rt.alloc();
     let x = built(alloc, LARGEST_SIZE, LARGEST_SIZE, FAR)?;
-    let entries = [
-        (5, 7, 2),
-        (5, 2_147_483_647, 3),
-        (1_000_000_000, 7, 6),
-        (2_147_483_647, 0, 1),
-    ];
-    let turned = [
-        (0, 2_147_483_647, 1),
-        (7, 5, 2),
-        (7, 1_000_000_000, 6),
-        (2_147_483_647, 5, 3),
-    ];
-    assert_eq!(rt; x.triples(alloc)?.as_slice(), entries.as_slice());
-    assert_eq!(rt;
-        x.copy(alloc)?.triples(alloc)?.as_slice(),
-        entries.as_slice()
+    assert!(rt; lists(alloc, &x.copy(alloc)?, FAR_ENTRIES)?);
+    assert!(rt; lists(alloc, &x.transpose(alloc)?, FAR_TURNED)?);
+    assert!(rt;
+        lists(
+            alloc,
+            &x.select(alloc, &[6, 5])?,
+            &[(1, 7, 2), (1, 2_147_483_647, 3)]
+        )?
     );
-    assert_eq!(rt;
-        x.transpose(alloc)?.triples(alloc)?.as_slice(),
-        turned.as_slice()
-    );
+    Ok(())
+}
+
+#[test]
+fn filled_rows_and_occupied_columns(rt: HostRuntime) -> Result<(), Fail> {
+    let alloc = rt.alloc();
+    let x = built(alloc, LARGEST_SIZE, LARGEST_SIZE, FAR)?;
     assert_eq!(rt;
         x.filled(alloc)?.as_slice(),
         [5, 1_000_000_000, 2_147_483_647].as_slice()
@@ -206,54 +204,29 @@ fn huge_matrices(rt: HostRuntime) -> Result<(), Fail> {
         x.occupied(alloc)?.as_slice(),
         [0, 7, 2_147_483_647].as_slice()
     );
-    for (from, found) in [
-        (0, 5),
-        (5, 5),
-        (6, 1_000_000_000),
-        (2_147_483_647, 2_147_483_647),
-    ] {
-        assert_eq!(rt; x.next_filled(from), Some(found), "from {from}");
-    }
-    assert_eq!(rt; x.next_filled(LARGEST_SIZE), None);
-    assert_eq!(rt; x.entries(), 4);
-    assert_eq!(rt; x.height(), LARGEST_SIZE);
-    assert_eq!(rt;
-        x.select(alloc, &[6, 5])?.triples(alloc)?.as_slice(),
-        [(1, 7, 2), (1, 2_147_483_647, 3)].as_slice()
-    );
-    let narrow = built(alloc, LARGEST_SIZE, 2, &[(5, 0, 1), (8, 1, 2)])?;
-    assert_eq!(rt;
-        narrow.beside(alloc, &narrow)?.triples(alloc)?.as_slice(),
-        [(5, 0, 1), (5, 2, 1), (8, 1, 2), (8, 3, 2)].as_slice()
-    );
-    assert_eq!(rt;
-        narrow
-            .widened(alloc, 9, &[3, 7])?
-            .triples(alloc)?
-            .as_slice(),
-        [(5, 3, 1), (8, 7, 2)].as_slice()
-    );
+    assert_eq!(rt; x.next_filled(6), Some(1_000_000_000));
     Ok(())
 }
 
 #[test]
 fn columns_are_left_out_and_put_back(rt: HostRuntime) -> Result<(), Fail> {
     let alloc = rt.alloc();
-    let mut x = built(alloc, 3, 9, &[(0, 8, 1), (2, 3, 2), (2, 8, 5)])?;
-    x.append_zeros(2)?;
-    assert_eq!(rt; x.height(), 5);
+    let x = built(alloc, 3, 9, &[(0, 8, 1), (2, 3, 2), (2, 8, 5)])?;
     let columns = x.occupied(alloc)?;
-    assert_eq!(rt; columns.as_slice(), [3, 8].as_slice());
     let narrowed = x.narrowed(alloc, &columns)?;
-    assert_eq!(rt;
-        narrowed.triples(alloc)?.as_slice(),
-        [(0, 1, 1), (2, 0, 2), (2, 1, 5)].as_slice()
-    );
+    assert!(rt; lists(alloc, &narrowed, &[(0, 1, 1), (2, 0, 2), (2, 1, 5)])?);
     let widened = narrowed.widened(alloc, 9, &columns)?;
-    assert_eq!(rt;
-        widened.triples(alloc)?.as_slice(),
-        x.triples(alloc)?.as_slice()
-    );
+    assert!(rt; lists(alloc, &widened, &[(0, 8, 1), (2, 3, 2), (2, 8, 5)])?);
+    Ok(())
+}
+
+#[test]
+fn matrices_side_by_side(rt: HostRuntime) -> Result<(), Fail> {
+    let alloc = rt.alloc();
+    let mut x = built(alloc, LARGEST_SIZE - 1, 2, &[(5, 0, 1), (8, 1, 2)])?;
+    x.append_zeros(1)?;
+    let wide = x.beside(alloc, &x)?;
+    assert!(rt; lists(alloc, &wide, &[(5, 0, 1), (5, 2, 1), (8, 1, 2), (8, 3, 2)])?);
     Ok(())
 }
 
