@@ -57,6 +57,16 @@ write_basis_row-requires-clause-leads c = λ k l.
       c.loop-f.invariant.row_length,
     )
 
+pub write_basis_row-requires-clause-rising : goal.write_basis_row-requires-clause-rising
+write_basis_row-requires-clause-rising c = λ k t a b.
+    let sound = c.leads-leads.ensures.sound in
+    omega (
+      arith,
+      sound.leads.1.rising k t a (omega (arith, b, sound.rank, ap length c.leads-leads.ensures.value)),
+      ap (λ xs. slice_index xs k) c.leads-leads.ensures.value,
+      ap (λ xs. slice_index xs t) c.leads-leads.ensures.value,
+    )
+
 pub write_basis_row-requires-clause-before : goal.write_basis_row-requires-clause-before
 write_basis_row-requires-clause-before c =
     let form = c.args.form.now in
