@@ -113,11 +113,13 @@ fn is_chosen(alloc: Global, case: &Case) -> Result<bool, AllocError>
     let rows = built(alloc, case)?;
     let book = leftmost(alloc, &rows)?;
     let pairs = book.pairs();
-    Ok(pairs.len() == case.pairs.len()
-        && pairs
-            .iter()
-            .zip(case.pairs)
-            .all(|(found, wanted)| (found.row, found.col) == *wanted))
+    Ok(
+        pairs.len() == case.pairs.len()
+            && pairs
+                .iter()
+                .zip(case.pairs)
+                .all(|(found, wanted)| (found.row, found.col) == *wanted),
+    )
 }
 
 #[test]

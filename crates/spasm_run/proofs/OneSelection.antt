@@ -28,7 +28,7 @@ place_among A qs rs k a b l =
 leftmost_one : (A : Matrix) (qs rs : List Pair) → IsLeftmost A qs → IsLeftmost A rs → qs ≡ rs
 leftmost_one A qs rs a b =
     let same : (length qs ≡ length rs) × ((k : ℕ) → k < length qs → col_at qs k ≡ col_at rs k) =
-      rising_equal (length qs) (length rs) (col_at qs) (col_at rs) a.ascending b.ascending (λ k l. place_among A qs rs k a b l) (λ k l. place_among A rs qs k b a l) in
+    rising_equal (length qs) (length rs) (col_at qs) (col_at rs) a.ascending b.ascending (λ k l. place_among A qs rs k a b l) (λ k l. place_among A rs qs k b a l) in
     ext_get_or no_pair qs rs same.0 (λ k l.
     let m : k < length rs = omega (arith, same.0) in
     let cols : (get_or qs k no_pair).col ≡ (get_or rs k no_pair).col = col_is qs k l ∙ same.1 k l ∙ sym (col_is rs k m) in

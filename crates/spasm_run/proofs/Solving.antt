@@ -68,8 +68,7 @@ module _ (p : ℕ) (A B : Matrix) (ma : IsMatrix p A) (mb : IsMatrix p B) (heigh
       let law = system p A b y prime.two_or_more ma side_is in
       let at = subst (λ q. AnswersSystem q S found) modulus tells in
       let side : List ℕ = refuting_side A.width in
-      let long = side_vector p A.width prime.two_or_more in
-      (
+      let long = side_vector p A.width prime.two_or_more in (
         law,
         subst (λ s. Answers p (refuting_rows A b) s found) (column_again side)
             (at prime (refuting_rows A b) (column_of side) (refuting_matrix p A b ma side_is) (column_matrix (subst (λ n. IsVector p n side) (sym long.len) long)) (sym long.len) refl matrix),

@@ -11,8 +11,8 @@ mod status;
 pub mod words;
 mod written_pivots;
 
-pub use optimistic_search::{Gate, Open, Point};
 pub use commands::{LARGEST_INVERTED, at_most_one_answer};
+pub use optimistic_search::{Gate, Open, Point};
 pub use plain_elimination::{plain_rows, rank_of};
 pub use running::{run, run_within};
 pub use status::Status;

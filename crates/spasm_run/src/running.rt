@@ -174,7 +174,13 @@ fn find_for<R: Threads + Sync, S: Source, G: Gate>(
         }
         Task::Inverse => find_inverse(rt, alloc, &read_one(alloc, &p, source, limit)?, workers),
         Task::Pivots => {
-            find_pivots(rt, alloc, &read_one(alloc, &p, source, limit)?, workers, gate)
+            find_pivots(
+                rt,
+                alloc,
+                &read_one(alloc, &p, source, limit)?,
+                workers,
+                gate,
+            )
         }
     }
 }
