@@ -45,7 +45,7 @@ fn follow(walk: &mut LeveledWalk, pairs: &[Pair])
     }
 }
 
-// Tries each row in ascending order.
+// Tries each row that has an entry, in ascending order; the others are dead.
 fn try_all(book: &mut Book, walk: &mut LeveledWalk)
     requires rows { walk.old.rows ≡ book.old.rows }
     requires pairs { walk.old.pairs ≡ book.old.pairs }
@@ -53,8 +53,13 @@ fn try_all(book: &mut Book, walk: &mut LeveledWalk)
     ensures rows { book.new.rows ≡ book.old.rows }
     ensures greedy { IsGreedy book.old.rows.matrix book.old.pairs book.new.pairs }
 {
-    for row in 0..book.rows().height() {
+    let rows = book.rows();
+    // The call tells how high a matrix is: the next row's number is no overflow.
+    let _ = rows.height();
+    let mut from = 0;
+    while let Some(row) = rows.next_filled(from) {
         try_row(book, walk, row);
+        from = row + 1;
     }
 }
 

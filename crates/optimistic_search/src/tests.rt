@@ -161,3 +161,52 @@ fn both_searches_agree(rt: HostRuntime) -> Result<(), Fail> {
     }
     Ok(())
 }
+
+// These places with their columns far apart, so that most columns have no entry.
+fn spread(alloc: Global, places: &[(u32, u32)]) -> Result<Vec<(u32, u32)>, AllocError> {
+    let mut apart = Vec::new(alloc);
+    for (row, col) in places {
+        apart.push((*row, col.wrapping_mul(97).wrapping_add(5)))?;
+    }
+    Ok(apart)
+}
+
+#[test]
+fn both_searches_agree_on_wide_matrices(rt: HostRuntime) -> Result<(), Fail> {
+    let alloc = rt.alloc();
+    for count in &[0u32, 3, 60, 150] {
+        let places = spread(alloc, &scattered(alloc, *count, *count)?)?;
+        assert!(rt; agreed(&rt, alloc, &ones(alloc, 32, 4096, &places)?)?.is_some());
+    }
+    Ok(())
+}
+
+// Ten entries, each in a row and a column of its own, by ascending rows.
+const APART: [(u32, u32); 10] = [
+    (0, 2_147_483_646),
+    (3, 70_000),
+    (65_536, 0),
+    (1_000_000, 12),
+    (1_000_001, 1_999_999_999),
+    (77_777_777, 4),
+    (1_073_741_824, 1_073_741_824),
+    (2_000_000_000, 900),
+    (2_147_483_645, 33),
+    (2_147_483_646, 1),
+];
+
+#[test]
+fn the_largest_matrix_costs_by_its_entries(rt: HostRuntime) -> Result<(), Fail> {
+    let alloc = rt.alloc();
+    let rows = ones(alloc, 2_147_483_647, 2_147_483_647, &APART)?;
+    let book = search(&rt, alloc, Book::empty(alloc, &rows)?, 1, &Open)?;
+    let mut wanted = Vec::new(alloc);
+    for (row, col) in &APART {
+        wanted.push(Pair {
+            row: *row,
+            col: *col,
+        })?;
+    }
+    assert_eq!(rt; book.pairs(), wanted.as_slice());
+    Ok(())
+}

@@ -4,7 +4,7 @@ ghost use Rattle.pivot_table.specs.History.{Maximal, StartsWith};
 ghost use Rattle.optimistic_search.specs.Search.{IsGreedyFrom};
 
 use crate::gate::Gate;
-use crate::greedy::search_greedily;
+use crate::narrow::search_by_entries;
 use pivot_table::Book;
 use std::alloc::{AllocError, Global};
 use std::thread::Threads;
@@ -19,7 +19,9 @@ use std::thread::Threads;
 ///
 /// Each column has a level, the longest path of steps that leads to it. A walk leaves out the columns whose level is above that of
 /// every candidate, and a candidate of level 0 is alive without a walk. It takes 13 bytes a column and 16 bytes a pair that there
-/// can be, all before the first row. The book is gone where memory was refused.
+/// can be, all before the first row. Where the matrix is much wider than it has entries, columns without an entry cost nothing,
+/// and a copy of the matrix without them is searched; rows without an entry never cost memory. The book is gone where memory
+/// was refused.
 pub fn search<'a, R: Threads + Sync, G: Gate>(
     rt: &R,
     alloc: Global,
@@ -34,5 +36,5 @@ pub fn search<'a, R: Threads + Sync, G: Gate>(
     ensures maximal { IfOk result (λ b. Maximal book.entry.rows.matrix b.pairs) }
     ensures greedy { workers ≡ 1 → IfOk result (IsGreedyFrom book.entry) }
 {
-    search_greedily(alloc, book)
+    search_by_entries(alloc, book)
 }

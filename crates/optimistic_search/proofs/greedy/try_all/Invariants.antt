@@ -1,4 +1,4 @@
-use Rattle.std.proofs.Common.{◌≡◌}
+use Rattle.std.proofs.Common.{◌≡◌, ◌≤◌, ◌-◌}
 use Rattle.pivot_table.specs.Greedy.{IsGreedyBelow}
 use Rattle.optimistic_search.specs.Search.{HasRoom}
 use Rattle.optimistic_search.proofs.greedy.try_all.Given as goal
@@ -6,4 +6,8 @@ use Rattle.optimistic_search.proofs.greedy.try_all.Given as goal
 abbrev pub invariant-loop-row : goal.invariant-loop-row
 invariant-loop-row l = (l.book.rows ≡ l.fn.book.rows) × (l.walk.rows ≡ l.fn.book.rows) × (l.walk.pairs ≡ l.book.pairs)
     × HasRoom l.fn.book.rows.matrix l.book
-    × IsGreedyBelow l.fn.book.rows.matrix l.fn.book.pairs l.row l.book.pairs
+    × (l.from ≤ l.fn.book.rows.matrix.height)
+    × IsGreedyBelow l.fn.book.rows.matrix l.fn.book.pairs l.from l.book.pairs
+
+abbrev pub decreases-loop-row : goal.decreases-loop-row
+decreases-loop-row l = l.fn.book.rows.matrix.height - l.from
