@@ -1,50 +1,23 @@
 #!/usr/bin/env bash
 # Times `spasm rref` on random sparse matrices modulo 42013, the whole run from text to text, and prints seconds (best of three), the peak
 # memory and the rank. Where FLINT's library is installed (Debian: libflint-dev), also the ratio to its dense `nmod_mat_rref` on the first
-# matrix in the same run, elimination alone.
+# matrix, elimination alone.
 set -eu
 cd "$(dirname "$0")/.."
-mkdir -p bench/out
-make_text() {
-    python3 - "$@" <<'P'
-import random, sys
-m, n, per, path = int(sys.argv[1]), int(sys.argv[2]), int(sys.argv[3]), sys.argv[4]
-random.seed(3)
-with open(path, "w") as f:
-    f.write(f"{m} {n} M\n")
-    for i in range(1, m + 1):
-        for j in sorted(random.sample(range(1, n + 1), per)):
-            f.write(f"{i} {j} {random.randrange(1, 42013)}\n")
-    f.write("0 0 0\n")
-P
-}
-make_text 2000 2000 3 bench/out/square.sms
-make_text 20000 30000 2 bench/out/wide.sms
+. bench/common.sh
+random_text 2000 2000 3 bench/out/square.sms 3
+random_text 20000 30000 2 bench/out/wide.sms 3
 ./spasm rank < examples/x.sms > /dev/null
-time_spasm() {
-    python3 - "$@" <<'P'
-import resource, subprocess, sys, time
-path, words = sys.argv[1], sys.argv[2:]
-best = None
-for _ in range(3):
-    with open(path) as f:
-        start = time.perf_counter()
-        answer = subprocess.run(["./spasm"] + words, stdin=f, capture_output=True, check=True).stdout
-        seconds = time.perf_counter() - start
-    best = seconds if best is None else min(best, seconds)
-peak = resource.getrusage(resource.RUSAGE_CHILDREN).ru_maxrss / 1024
-lines = answer.count(b"\n")
-print(f"spasm {' '.join(words)} < {path}: {best:.3f} s, peak {peak:.0f} MB, rank {answer.split(None, 1)[0].decode()}, {lines - 2} entries", file=sys.stderr)
-print(best)
-P
-}
-ours=$(time_spasm bench/out/square.sms rref)
-time_spasm bench/out/square.sms rref --workers 4 > /dev/null
-time_spasm bench/out/wide.sms rref > /dev/null
-time_spasm bench/out/wide.sms rref --workers 4 > /dev/null
-if gcc -O2 -o bench/out/flint bench/flint.c -lflint -lgmp -lm 2> /dev/null; then
-    for _ in 1 2 3; do bench/out/flint rref 42013 < bench/out/square.sms; done | sort -n -k 2 | head -n 1 |
-        awk -v ours="$ours" '{ printf "FLINT nmod_mat_rref on the first: %.3f s, rank %d; spasm takes %.2f times as long, reading and writing included\n", $2, $1, ours / $2 }'
-else
-    echo "FLINT isn't installed: no comparison"
-fi
+for text in bench/out/square.sms bench/out/wide.sms; do
+    rank=$(./spasm rank < "$text")
+    for workers in 1 4; do
+        seconds=$(best 1 "$text" seconds_and_peak ./spasm rref --workers "$workers")
+        peak=$(best 2 "$text" seconds_and_peak ./spasm rref --workers "$workers")
+        awk -v t="$text" -v w="$workers" -v s="$seconds" -v k="$peak" -v r="$rank" \
+            'BEGIN { printf "spasm rref --workers %d < %s: %.2f s, peak %.0f MB, %s\n", w, t, s, k / 1024, r }'
+    done
+done
+ours=$(best 1 bench/out/square.sms seconds_and_peak ./spasm rref)
+flint=$(flint rref bench/out/square.sms)
+test -z "$flint" || awk -v f="$flint" -v o="$ours" \
+    'BEGIN { printf "FLINT nmod_mat_rref on the first: %.2f s; spasm takes %.2f times as long, reading and writing included\n", f, o / f }'

@@ -7,18 +7,18 @@ use Rattle.std.proofs.lemmas.Bool.{cases_lt}
 use Rattle.std.proofs.lemmas.List.{length-take-le, take_rest, get_or_append_left, get_or-append_right, get_or-take, get_or-drop}
 use Rattle.residue_words.specs.Matrix.{list_of}
 use Rattle.residue_words.proofs.Vectors.{list_equal, length_list_of, at_list_of}
-use Rattle.dense_finish.specs.Lanes.{IsAddedBelow}
+use Rattle.dense_finish.specs.Multiples.{IsAddedBelow, plus_at}
 
 -- all entries
-pub added_all : (p a : ℕ) (x y new : List ℕ) (n : ℕ) → n ≡ length x → IsAddedBelow p a x y n new →
+pub added_all : (p a : ℕ) (x y new : List ℕ) (n : ℕ) → n ≡ length x → IsAddedBelow (plus_at p a x y) x n new →
     new ≡ list_of (length x) (λ k. (get_or x k 0 + a * get_or y k 0) % p)
 added_all p a x y new n e h =
     let f = λ (k : ℕ). (get_or x k 0 + a * get_or y k 0) % p in
     list_equal (length x) new (list_of (length x) f) h.long (length_list_of (length x) f) (λ k l. h.added k (omega arith) ∙ sym (at_list_of (length x) f k l))
 
 -- the entry at k
-pub added_one : (p a : ℕ) (x y mid : List ℕ) (k v : ℕ) → IsAddedBelow p a x y k mid → k < length x →
-    v ≡ (get_or mid k 0 + a * get_or y k 0) % p → IsAddedBelow p a x y (k + 1) (set mid k v)
+pub added_one : (p a : ℕ) (x y mid : List ℕ) (k v : ℕ) → IsAddedBelow (plus_at p a x y) x k mid → k < length x →
+    v ≡ (get_or mid k 0 + a * get_or y k 0) % p → IsAddedBelow (plus_at p a x y) x (k + 1) (set mid k v)
 added_one p a x y mid k v h inside is = record {
   long = length-set mid k v ∙ h.long;
   added = below_more (λ j. get_or (set mid k v) j 0 ≡ (get_or x j 0 + a * get_or y j 0) % p) k
@@ -28,8 +28,8 @@ added_one p a x y mid k v h inside is = record {
 }
 
 -- n entries from `at` on
-pub added_more : (p a : ℕ) (x y mid v : List ℕ) (at n : ℕ) → IsAddedBelow p a x y at mid → at + n ≤ length x → length v ≡ n →
-    ((k : ℕ) → k < n → get_or v k 0 ≡ (get_or mid (at + k) 0 + a * get_or y (at + k) 0) % p) → IsAddedBelow p a x y (at + n) (put_chunk at mid v)
+pub added_more : (p a : ℕ) (x y mid v : List ℕ) (at n : ℕ) → IsAddedBelow (plus_at p a x y) x at mid → at + n ≤ length x → length v ≡ n →
+    ((k : ℕ) → k < n → get_or v k 0 ≡ (get_or mid (at + k) 0 + a * get_or y (at + k) 0) % p) → IsAddedBelow (plus_at p a x y) x (at + n) (put_chunk at mid v)
 added_more p a x y mid v at n h room long lanes = record {
   long = length-put_chunk at mid v ∙ h.long;
   added = λ k l. elim (cases_lt k at) [
@@ -45,8 +45,8 @@ added_more p a x y mid v at n h room long lanes = record {
 }
 
 -- the entries from n on, as a part of their own
-pub added_rest : (p a : ℕ) (x y mid part : List ℕ) (n : ℕ) → n ≤ length x → length y ≡ length x → IsAddedBelow p a x y n mid →
-    IsAddedBelow p a (take (length mid - n) (drop n mid)) (take (length y - n) (drop n y)) (length (take (length mid - n) (drop n mid))) part →
+pub added_rest : (p a : ℕ) (x y mid part : List ℕ) (n : ℕ) → n ≤ length x → length y ≡ length x → IsAddedBelow (plus_at p a x y) x n mid →
+    IsAddedBelow (plus_at p a (take (length mid - n) (drop n mid)) (take (length y - n) (drop n y))) (take (length mid - n) (drop n mid)) (length (take (length mid - n) (drop n mid))) part →
     put_mid n (length mid - n) mid part ≡ list_of (length x) (λ k. (get_or x k 0 + a * get_or y k 0) % p)
 added_rest p a x y mid part n within long_y h rest =
     let f = λ (k : ℕ). (get_or x k 0 + a * get_or y k 0) % p in

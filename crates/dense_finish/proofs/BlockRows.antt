@@ -4,7 +4,8 @@ use Rattle.std.proofs.Math.ListN.{get_or-append}
 use Rattle.std.proofs.Math.Seq.{get_or-append_seam}
 use Rattle.std.proofs.lemmas.Bool.{cases_eq}
 use Rattle.std.proofs.lemmas.List.{get_or_default, get_or-set_same, get_or-set_other}
-use Rattle.dense_finish.specs.Elimination.{Reduces, block_row}
+use Rattle.dense_finish.specs.Block.{block_row}
+use Rattle.dense_finish.specs.Panel.{PanelReduces, PanelRows}
 
 -- what holds of the rows before k and of v, holds with v put at k
 pub each_more : (P : List ℕ → List ℕ → Type 0) (xs ys : List (List ℕ)) (k : ℕ) (v : List ℕ) → k < length ys → P (block_row xs k) v →
@@ -29,5 +30,5 @@ appended P xs v here before t l =
     ]
 
 -- a row that was read and reduced
-pub reduced_row : (p n : ℕ) (columns : List ℕ) (rows block : List (List ℕ)) (i : ℕ) (d v : List ℕ) → i < length block → Reduces p n columns rows (slice_index_or block i d) v → Reduces p n columns rows (block_row block i) v
-reduced_row p n columns rows block i d v l h = subst (λ u. Reduces p n columns rows u v) (read_row block i d l) h
+pub reduced_row : (p : ℕ) (panel : PanelRows) (block : List (List ℕ)) (i : ℕ) (d v : List ℕ) → i < length block → PanelReduces p panel (slice_index_or block i d) v → PanelReduces p panel (block_row block i) v
+reduced_row p panel block i d v l h = subst (λ u. PanelReduces p panel u v) (read_row block i d l) h

@@ -1,5 +1,5 @@
 -- A row that is divided by its first entry, and cleared behind it.
-use Rattle.std.proofs.Common.{ℕ, ◌≡◌, ◌≢◌, ◌+◌, ◌*◌, ◌%◌, ◌<◌, ◌≤◌, Bool, true, false, inl, inr, List, slice_index, slice_index_or, slice_set, sym, refl, ap, ◌∙◌, arith, one-mul, mul-zero, mod-eq_of_lt}
+use Rattle.std.proofs.Common.{ℕ, ◌≡◌, ◌≢◌, ◌+◌, ◌*◌, ◌%◌, ◌<◌, ◌≤◌, Bool, true, false, inl, inr, List, length, slice_index, slice_index_or, slice_set, sym, refl, ap, ◌∙◌, arith, one-mul, mul-zero, mod-eq_of_lt}
 use Rattle.std.proofs.lemmas.Bool.{cases_eq, cases_lt}
 use Rattle.std.proofs.lemmas.List.{get_or-set_same, get_or-set_other}
 use Rattle.std.proofs.lemmas.Nat.{mul-mod_second}
@@ -7,7 +7,7 @@ use Rattle.residue_words.specs.Matrix.{IsVector, zeros}
 use Rattle.residue_words.specs.Residues.{IsPrime}
 use Rattle.residue_words.proofs.Residues.{mul_same}
 use Rattle.residue_words.proofs.Vectors.{at_zeros, zeros_vector}
-use Rattle.dense_finish.specs.Elimination.{IsFirstLeft, IsPivotOf, KeepsCoefficients}
+use Rattle.dense_finish.specs.Dense.{IsFirstFree, IsPivotOf, KeepsCoefficients}
 use Rattle.dense_finish.proofs.TakingOut.{vector_set}
 
 -- w is v, cleared before column j
@@ -17,7 +17,7 @@ pub record IsClearing (p n c : ℕ) (taken : List Bool) (v : List ℕ) (j : ℕ)
   pub kept : (x : ℕ) → x < n → slice_index_or taken x false ≡ true → slice_index w x ≡ slice_index v x
   pub clear : (x : ℕ) → x < j → x ≢ c → slice_index_or taken x false ≡ false → slice_index w x ≡ 0
 
-pub clearing_none : {p n c : ℕ} {taken : List Bool} {v : List ℕ} → IsVector p n v → IsFirstLeft v taken c → IsClearing p n c taken v (c + 1) v
+pub clearing_none : {p n c : ℕ} {taken : List Bool} {v : List ℕ} → IsVector p n v → IsFirstFree v taken c → IsClearing p n c taken v (c + 1) v
 clearing_none vector first = record {
   vector = vector;
   lead = refl;
@@ -50,7 +50,7 @@ clearing_over {p} {n} {c} {taken} {v} {j} {w} h taken_here = record {
   ];
 }
 
-pub clearing_all : {p n c : ℕ} {taken : List Bool} {v : List ℕ} {j : ℕ} {w : List ℕ} → n ≤ j → IsClearing p n c taken v j w → KeepsCoefficients p n c taken v w
+pub clearing_all : {p c : ℕ} {taken : List Bool} {v : List ℕ} {j : ℕ} {w : List ℕ} → length v ≤ j → IsClearing p (length v) c taken v j w → KeepsCoefficients p c taken v w
 clearing_all le h = record {
   vector = h.vector;
   lead = h.lead;
@@ -107,9 +107,9 @@ divided_back p a f x two one =
     let turn : a * (f * x) ≡ (a * f) * x = omega arith in
     sym (mul-mod_second a (f * x) p ∙ ap (λ t. t % p) turn ∙ mul_same p (a * f) 1 x x (one ∙ sym (mod-eq_of_lt (omega arith))) refl ∙ ap (λ t. t % p) (one-mul x))
 
-pub dividing_all : {p n c factor : ℕ} {taken : List Bool} {v q : List ℕ} {j : ℕ} → 2 ≤ p → n ≤ j → IsFirstLeft v taken c → (IsPrime p → (slice_index v c * factor) % p ≡ 1) →
-    IsDividing p n c factor taken v j q → IsPivotOf p n c taken v q
-dividing_all {p} {n} {c} {factor} {taken} {v} {q} {j} two le first inverse h = record {
+pub dividing_all : {p c factor : ℕ} {taken : List Bool} {v q : List ℕ} {j : ℕ} → 2 ≤ p → length v ≤ j → IsFirstFree v taken c → (IsPrime p → (slice_index v c * factor) % p ≡ 1) →
+    IsDividing p (length v) c factor taken v j q → IsPivotOf p c taken v q
+dividing_all {p} {c} {factor} {taken} {v} {q} {j} two le first inverse h = record {
   vector = h.vector;
   one = h.one;
   before = h.before;

@@ -4,11 +4,10 @@ use Rattle.std.proofs.lemmas.Bool.{cases_eq, cases_lt}
 use Rattle.std.proofs.lemmas.List.{get_or-set_same, get_or-set_other, get_or-take, length-take, take_all, take_more}
 use Rattle.residue_words.specs.Matrix.{Matrix, IsVector, entry, row, zeros}
 use Rattle.residue_words.proofs.Vectors.{at_zeros}
-use Rattle.sparse_rows.specs.Rows.{nonzeros, support}
+use Rattle.sparse_rows.specs.Rows.{AreOccupied, nonzeros, support}
 use Rattle.sparse_rows.specs.Stored.{entry_at}
 use Rattle.sparse_rows.proofs.Spread.{entry_here, entry_push_other, entry_push_same, entry_support}
-use Rattle.dense_finish.specs.Elimination.{AreColumnNames}
-use Rattle.dense_finish.proofs.Naming.{named_or_not}
+use Rattle.dense_finish.proofs.Indexing.{stands_at}
 use Rattle.dense_finish.proofs.TakingOut.{vector_set}
 
 -- the first k entries stand in the row
@@ -58,14 +57,11 @@ pub filling_all : {p : ℕ} {names cols vals : List ℕ} {k : ℕ} {v : List ℕ
 filling_all {p} {names} {cols} {vals} {k} {v} same le h j l =
     h.entries j l ∙ ap₂ (λ cs vs. entry_at cs vs (slice_index names j)) (take_all k cols le) (take_all k vals (omega arith))
 
--- each column of a row has a name
-pub column_named : (A : Matrix) (names : List ℕ) (i : ℕ) → AreColumnNames A names → i < A.height → (cols vals : List ℕ) → cols ≡ support (row A i) → vals ≡ nonzeros (row A i) →
+-- each column of a row is one of the occupied ones
+pub column_known : (A : Matrix) (columns : List ℕ) (i : ℕ) → AreOccupied A columns → i < A.height → (cols vals : List ℕ) → cols ≡ support (row A i) → vals ≡ nonzeros (row A i) →
     length cols ≡ length vals → ((s t : ℕ) → s < t → t < length cols → slice_index cols s < slice_index cols t) → ((k : ℕ) → k < length vals → 0 < slice_index vals k) →
-    ((k : ℕ) → k < length cols → slice_index cols k < A.width) → (k : ℕ) → k < length cols → (j : ℕ) × (j < length names) × (slice_index names j ≡ slice_index cols k)
-column_named A names i h li cols vals cols-is vals-is even ascending positive below k l = elim (named_or_not (length names) (slice_index names) (slice_index cols k)) [
-  | inl w ↦ w
-  | inr none ↦
-      let value : entry A i (slice_index cols k) ≡ slice_index vals k =
-      sym (entry_support (row A i) (slice_index cols k)) ∙ ap₂ (λ cs vs. entry_at cs vs (slice_index cols k)) (sym cols-is) (sym vals-is) ∙ entry_here cols vals even ascending k l in
-      absurd (omega (arith, positive k (omega arith), h.others (slice_index cols k) (below k l) none i li))
-]
+    ((k : ℕ) → k < length cols → slice_index cols k < A.width) → (k : ℕ) → k < length cols → (j : ℕ) × (j < length columns) × (slice_index columns j ≡ slice_index cols k)
+column_known A columns i h li cols vals cols-is vals-is even ascending positive below k l =
+    let value : entry A i (slice_index cols k) ≡ slice_index vals k =
+    sym (entry_support (row A i) (slice_index cols k)) ∙ ap₂ (λ cs vs. entry_at cs vs (slice_index cols k)) (sym cols-is) (sym vals-is) ∙ entry_here cols vals even ascending k l in
+    stands_at columns (slice_index cols k) (h.enough.all i (slice_index cols k) li (below k l) (λ z. omega (arith, positive k (omega arith))))

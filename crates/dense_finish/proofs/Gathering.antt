@@ -1,18 +1,21 @@
 -- The factors that are gathered from an eliminated block.
-use Rattle.std.proofs.Common.{ℕ, ◌≡◌, ◌≢◌, ◌+◌, ◌<◌, ◌≤◌, inl, inr, List, [], ◌∷◌, ◌++◌, length, map, slice_index, take, sym, refl, ap, ap₂, ◌∙◌, arith, length-append}
+use Rattle.std.proofs.Common.{ℕ, ◌≡◌, ◌≢◌, ◌+◌, ◌-◌, ◌<◌, ◌≤◌, inl, inr, List, [], ◌∷◌, ◌++◌, length, map, replicate, slice_index, take, sym, refl, ap, ap₂, subst, ◌∙◌, arith, length-append}
 use Rattle.std.proofs.Math.ListN.{get_or-append}
 use Rattle.std.proofs.Math.Seq.{get_or-append_seam}
 use Rattle.std.proofs.lemmas.Bool.{cases_eq, cases_lt}
-use Rattle.std.proofs.lemmas.List.{get_or-take, length-map, length-take, map-append}
+use Rattle.std.proofs.lemmas.List.{get_or_append_left, get_or-append_right, get_or-replicate, get_or-take, length-map, length-replicate, length-take, map-append}
 use Rattle.residue_words.specs.declared.plain.Pair.{Pair}
-use Rattle.residue_words.specs.Matrix.{IsMatrix, IsVector, entry}
-use Rattle.sparse_rows.specs.Rows.{ResidueMatrix}
+use Rattle.residue_words.specs.Matrix.{Matrix, IsMatrix, IsVector, entry, row, zeros}
+use Rattle.residue_words.proofs.Vectors.{at_zeros, zeros_vector}
+use Rattle.sparse_rows.specs.Rows.{AreRising, ResidueMatrix, with_zeros}
 use Rattle.sparse_rows.specs.Stored.{with_row}
-use Rattle.dense_finish.specs.Elimination.{ArePlaces, IsLeft, entry_of}
+use Rattle.dense_finish.specs.Block.{entry_of}
+use Rattle.dense_finish.specs.Factors.{IsLeft}
+use Rattle.dense_finish.specs.Pivots.{ArePlaces}
 use Rattle.sparse_rows.proofs.Loops.{matrix_more, row_before, row_last}
 
-pub places_none : (rows columns row_names names : List ℕ) {pivots : List Pair} → pivots ≡ [] → ArePlaces (take 0 rows) columns row_names names pivots
-places_none rows columns row_names names {pivots} is = record { long = ap length is; row = λ k l. absurd (omega arith); column = λ k l. absurd (omega arith) }
+pub places_none : (rows columns row_indices names : List ℕ) {pivots : List Pair} → pivots ≡ [] → ArePlaces (take 0 rows) columns row_indices names pivots
+places_none rows columns row_indices names {pivots} is = record { long = ap length is; row = λ k l. absurd (omega arith); column = λ k l. absurd (omega arith) }
 
 -- an item behind a list, by a field
 seen_last : (f : Pair → ℕ) (pivots : List Pair) (x : Pair) (k : ℕ) → k ≡ length pivots → slice_index (map f (pivots ++ x ∷ [])) k ≡ f x
@@ -22,17 +25,17 @@ seen_last f pivots x k e =
 seen_before : (f : Pair → ℕ) (pivots : List Pair) (x : Pair) (k : ℕ) → k < length pivots → slice_index (map f (pivots ++ x ∷ [])) k ≡ slice_index (map f pivots) k
 seen_before f pivots x k l = ap (λ l. slice_index l k) (map-append f pivots (x ∷ [])) ∙ get_or-append (map f pivots) (f x ∷ []) 0 k (omega (arith, length-map pivots f))
 
-pub places_more : (rows columns row_names names : List ℕ) {pivots : List Pair} (k : ℕ) → k < length rows → ArePlaces (take k rows) columns row_names names pivots →
-    ArePlaces (take (k + 1) rows) columns row_names names
-    (pivots ++ record { row = slice_index row_names (slice_index rows k); col = slice_index names (slice_index columns k) } ∷ [])
-places_more rows columns row_names names {pivots} k l h = record {
+pub places_more : (rows columns row_indices names : List ℕ) {pivots : List Pair} (k : ℕ) → k < length rows → ArePlaces (take k rows) columns row_indices names pivots →
+    ArePlaces (take (k + 1) rows) columns row_indices names
+    (pivots ++ record { row = slice_index row_indices (slice_index rows k); col = slice_index names (slice_index columns k) } ∷ [])
+places_more rows columns row_indices names {pivots} k l h = record {
   long = length-append pivots (last ∷ []) ∙ omega (arith, h.long, fewer, more);
   row = λ t lt. elim (cases_eq t k) [
-    | inl e ↦ seen_last (λ q. q.row) pivots last t (omega (arith, h.long, fewer)) ∙ ap (λ s. slice_index row_names (slice_index rows s)) (sym e) ∙ ap (slice_index row_names) (sym (read t lt))
+    | inl e ↦ seen_last (λ q. q.row) pivots last t (omega (arith, h.long, fewer)) ∙ ap (λ s. slice_index row_indices (slice_index rows s)) (sym e) ∙ ap (slice_index row_indices) (sym (read t lt))
     | inr d ↦
         let less : t < k = omega (arith, more) in
         seen_before (λ q. q.row) pivots last t (omega (arith, h.long, fewer)) ∙ h.row t (omega (arith, fewer))
-        ∙ ap (slice_index row_names) (get_or-take k rows t 0 less ∙ sym (read t lt))
+        ∙ ap (slice_index row_indices) (get_or-take k rows t 0 less ∙ sym (read t lt))
   ];
   column = λ t lt. elim (cases_eq t k) [
     | inl e ↦ seen_last (λ q. q.col) pivots last t (omega (arith, h.long, fewer)) ∙ ap (λ s. slice_index names (slice_index columns s)) (sym e)
@@ -41,7 +44,7 @@ places_more rows columns row_names names {pivots} k l h = record {
 }
   where
     last : Pair
-    last = record { row = slice_index row_names (slice_index rows k); col = slice_index names (slice_index columns k) }
+    last = record { row = slice_index row_indices (slice_index rows k); col = slice_index names (slice_index columns k) }
 
     fewer : length (take k rows) ≡ k
     fewer = omega (arith, length-take k rows)
@@ -52,98 +55,108 @@ places_more rows columns row_names names {pivots} k l h = record {
     read : (t : ℕ) → t < length (take (k + 1) rows) → slice_index (take (k + 1) rows) t ≡ slice_index rows t
     read t lt = get_or-take (k + 1) rows t 0 (omega (arith, more))
 
--- the first i rows of the left factor, of which `next` are named
-pub record IsLeftSoFar (p : ℕ) (row_names columns : List ℕ) (rows : List (List ℕ)) (i next : ℕ) (L : ResidueMatrix) : Type 0 where
-  pub modulus : L.modulus ≡ p
-  pub matrix : IsMatrix p L.matrix
-  pub height : L.matrix.height ≡ i
-  pub width : L.matrix.width ≡ length columns
-  pub passed : (t : ℕ) → t < next → slice_index row_names t < i
-  pub coming : (t : ℕ) → next ≤ t → t < length row_names → i ≤ slice_index row_names t
-  pub named : (t k : ℕ) → t < next → k < length columns → entry L.matrix (slice_index row_names t) k ≡ entry_of rows t (slice_index columns k)
-  pub others : (x k : ℕ) → x < i → k < length columns → ((t : ℕ) → t < length row_names → slice_index row_names t ≢ x) → entry L.matrix x k ≡ 0
+-- rows of zeros behind a matrix
+zeros_before : {p : ℕ} {A : Matrix} (count : ℕ) → IsMatrix p A → (i : ℕ) → i < A.height → row (with_zeros A count) i ≡ row A i
+zeros_before {p} {A} count m i l = get_or_append_left A.rows (replicate count (zeros A.width)) [] i (omega (arith, m.len))
 
-pub left_none : {p : ℕ} (row_names columns : List ℕ) (rows : List (List ℕ)) {L : ResidueMatrix} → L.modulus ≡ p → L.matrix ≡ record { height = 0; width = length columns; rows = [] } →
-    IsLeftSoFar p row_names columns rows 0 0 L
-left_none {p} row_names columns rows {L} modulus is = record {
-  modulus = modulus;
-  matrix = rw is record { len = refl; each = λ i l. absurd (omega arith) };
-  height = ap (λ A. A.height) is;
-  width = ap (λ A. A.width) is;
-  passed = λ t l. absurd (omega arith);
-  coming = λ t a l. omega arith;
-  named = λ t k l. absurd (omega arith);
-  others = λ x k l. absurd (omega arith);
+zeros_behind : {p : ℕ} {A : Matrix} (count : ℕ) → IsMatrix p A → (i : ℕ) → A.height ≤ i → i < A.height + count → row (with_zeros A count) i ≡ zeros A.width
+zeros_behind {p} {A} count m i low l =
+    get_or-append_right A.rows (replicate count (zeros A.width)) A.height i [] m.len low ∙ get_or-replicate count (i - A.height) (zeros A.width) [] (omega arith)
+
+matrix_zeros : {p : ℕ} {A : Matrix} (count : ℕ) → 0 < p → IsMatrix p A → IsMatrix p (with_zeros A count)
+matrix_zeros {p} {A} count pos m = record {
+  len = length-append A.rows (replicate count (zeros A.width)) ∙ omega (arith, m.len, length-replicate count (zeros A.width));
+  each = λ i l. elim (cases_lt i A.height) [
+    | inl less ↦ subst (IsVector p A.width) (sym (zeros_before count m i less)) (m.each i less)
+    | inr more ↦ subst (IsVector p A.width) (sym (zeros_behind count m i more l)) (zeros_vector p A.width pos)
+  ];
 }
 
-module _ {p i next : ℕ} {row_names columns v : List ℕ} {rows : List (List ℕ)} {L M : ResidueMatrix} (h : IsLeftSoFar p row_names columns rows i next L)
-    (rising : (s t : ℕ) → s < t → t < length row_names → slice_index row_names s < slice_index row_names t) (vector : IsVector p (length columns) v)
-    (modulus : M.modulus ≡ L.modulus) (is : M.matrix ≡ with_row L.matrix v) where
-  old : (x k : ℕ) → x < i → entry M.matrix x k ≡ entry L.matrix x k
-  old x k l = ap (λ A. entry A x k) is ∙ ap (λ u. slice_index u k) (row_before v h.matrix x (omega (arith, h.height)))
+-- the left factor's first rows, of which the first `next` with entries are there
+pub record IsLeftSoFar (p : ℕ) (row_indices columns : List ℕ) (rows : List (List ℕ)) (next : ℕ) (L : ResidueMatrix) : Type 0 where
+  pub modulus : L.modulus ≡ p
+  pub matrix : IsMatrix p L.matrix
+  pub width : L.matrix.width ≡ length columns
+  pub passed : (t : ℕ) → t < next → slice_index row_indices t < L.matrix.height
+  pub coming : (t : ℕ) → next ≤ t → t < length row_indices → L.matrix.height ≤ slice_index row_indices t
+  pub filled : (t k : ℕ) → t < next → k < length columns → entry L.matrix (slice_index row_indices t) k ≡ entry_of rows t (slice_index columns k)
+  pub others : (x k : ℕ) → x < L.matrix.height → k < length columns → ((t : ℕ) → t < length row_indices → slice_index row_indices t ≢ x) → entry L.matrix x k ≡ 0
 
-  last : (x k : ℕ) → x ≡ i → entry M.matrix x k ≡ slice_index v k
-  last x k e = ap (λ A. entry A x k) is ∙ ap (λ t. entry (with_row L.matrix v) t k) (e ∙ sym h.height) ∙ ap (λ u. slice_index u k) (row_last v h.matrix)
+pub left_none : {p : ℕ} (row_indices columns : List ℕ) (rows : List (List ℕ)) {L : ResidueMatrix} → L.modulus ≡ p → L.matrix ≡ record { height = 0; width = length columns; rows = [] } →
+    IsLeftSoFar p row_indices columns rows 0 L
+left_none {p} row_indices columns rows {L} modulus is = record {
+  modulus = modulus;
+  matrix = rw is record { len = refl; each = λ i l. absurd (omega arith) };
+  width = ap (λ A. A.width) is;
+  passed = λ t l. absurd (omega arith);
+  coming = λ t a l. omega (arith, ap (λ A. A.height) is);
+  filled = λ t k l. absurd (omega arith);
+  others = λ x k l. absurd (omega (arith, ap (λ A. A.height) is));
+}
 
-  grown : IsMatrix p M.matrix
-  grown = rw is (matrix_more h.matrix (rw h.width vector))
+-- rows of zeros are appended, up to the next row with entries
+pub left_zeros : (count : ℕ) → {p next : ℕ} {row_indices columns : List ℕ} {rows : List (List ℕ)} {L M : ResidueMatrix} → 0 < p → IsLeftSoFar p row_indices columns rows next L →
+    ((t : ℕ) → next ≤ t → t < length row_indices → L.matrix.height + count ≤ slice_index row_indices t) →
+    M.modulus ≡ L.modulus → M.matrix ≡ with_zeros L.matrix count → IsLeftSoFar p row_indices columns rows next M
+left_zeros count {p} {next} {row_indices} {columns} {rows} {L} {M} pos h room modulus is = record {
+  modulus = modulus ∙ h.modulus;
+  matrix = rw is (matrix_zeros count pos h.matrix);
+  width = ap (λ A. A.width) is ∙ h.width;
+  passed = λ t l. omega (arith, high, h.passed t l);
+  coming = λ t a l. omega (arith, high, room t a l);
+  filled = λ t k l lk. before (slice_index row_indices t) k (h.passed t l) ∙ h.filled t k l lk;
+  others = λ x k l lk none. elim (cases_lt x L.matrix.height) [
+    | inl less ↦ before x k less ∙ h.others x k less lk none
+    | inr more ↦
+        ap (λ A. entry A x k) is ∙ ap (λ u. slice_index u k) (zeros_behind count h.matrix x more (omega (arith, high)))
+        ∙ at_zeros L.matrix.width k (omega (arith, h.width))
+  ];
+}
+  where
+    high : M.matrix.height ≡ L.matrix.height + count
+    high = ap (λ A. A.height) is
 
-  -- row i is the next that has a name
-  pub left_named : next < length row_names → slice_index row_names next ≡ i → ((k : ℕ) → k < length columns → slice_index v k ≡ entry_of rows next (slice_index columns k)) →
-      IsLeftSoFar p row_names columns rows (i + 1) (next + 1) M
-  left_named some at read = record {
-    modulus = modulus ∙ h.modulus;
-    matrix = grown;
-    height = ap (λ A. A.height) is ∙ ap (λ t. t + 1) h.height;
-    width = ap (λ A. A.width) is ∙ h.width;
-    passed = λ t l. elim (cases_eq t next) [ inl e ↦ omega (arith, ap (slice_index row_names) e) | inr d ↦ omega (arith, h.passed t (omega arith)) ];
-    coming = λ t a l. omega (arith, rising next t (omega arith) l);
-    named = λ t k l lk. elim (cases_eq t next) [
-      | inl e ↦ last (slice_index row_names t) k (ap (slice_index row_names) e ∙ at) ∙ read k lk ∙ ap (λ s. entry_of rows s (slice_index columns k)) (sym e)
-      | inr d ↦ old (slice_index row_names t) k (h.passed t (omega arith)) ∙ h.named t k (omega arith) lk
-    ];
-    others = λ x k l lk none. elim (cases_eq x i) [
-      | inl e ↦ absurd (none next some (at ∙ sym e))
-      | inr d ↦ old x k (omega arith) ∙ h.others x k (omega arith) lk none
-    ];
-  }
+    before : (x k : ℕ) → x < L.matrix.height → entry M.matrix x k ≡ entry L.matrix x k
+    before x k l = ap (λ A. entry A x k) is ∙ ap (λ u. slice_index u k) (zeros_before count h.matrix x l)
 
-  -- or has none
-  pub left_other : ((t : ℕ) → t < length row_names → slice_index row_names t ≢ i) → ((k : ℕ) → k < length columns → slice_index v k ≡ 0) → IsLeftSoFar p row_names columns rows (i + 1) next M
-  left_other none zero = record {
-    modulus = modulus ∙ h.modulus;
-    matrix = grown;
-    height = ap (λ A. A.height) is ∙ ap (λ t. t + 1) h.height;
-    width = ap (λ A. A.width) is ∙ h.width;
-    passed = λ t l. omega (arith, h.passed t l);
-    coming = λ t a l. omega (arith, h.coming t a l, none t l);
-    named = λ t k l lk. old (slice_index row_names t) k (h.passed t l) ∙ h.named t k l lk;
-    others = λ x k l lk out. elim (cases_eq x i) [
-      | inl e ↦ last x k e ∙ zero k lk
-      | inr d ↦ old x k (omega arith) ∙ h.others x k (omega arith) lk out
-    ];
-  }
+-- the next row with entries is appended
+pub left_filled : {p next : ℕ} {row_indices columns v : List ℕ} {rows : List (List ℕ)} {L M : ResidueMatrix} → IsLeftSoFar p row_indices columns rows next L → AreRising row_indices →
+    IsVector p (length columns) v → M.modulus ≡ L.modulus → M.matrix ≡ with_row L.matrix v → next < length row_indices → slice_index row_indices next ≡ L.matrix.height →
+    ((k : ℕ) → k < length columns → slice_index v k ≡ entry_of rows next (slice_index columns k)) → IsLeftSoFar p row_indices columns rows (next + 1) M
+left_filled {p} {next} {row_indices} {columns} {v} {rows} {L} {M} h rising vector modulus is some at read = record {
+  modulus = modulus ∙ h.modulus;
+  matrix = rw is (matrix_more h.matrix (rw h.width vector));
+  width = ap (λ A. A.width) is ∙ h.width;
+  passed = λ t l. elim (cases_eq t next) [
+    | inl e ↦ omega (arith, high, at, ap (slice_index row_indices) e)
+    | inr d ↦ omega (arith, high, h.passed t (omega arith))
+  ];
+  coming = λ t a l. omega (arith, high, at, rising next t (omega arith) l);
+  filled = λ t k l lk. elim (cases_eq t next) [
+    | inl e ↦ last (slice_index row_indices t) k (ap (slice_index row_indices) e ∙ at) ∙ read k lk ∙ ap (λ s. entry_of rows s (slice_index columns k)) (sym e)
+    | inr d ↦ before (slice_index row_indices t) k (h.passed t (omega arith)) ∙ h.filled t k (omega arith) lk
+  ];
+  others = λ x k l lk none. elim (cases_eq x L.matrix.height) [
+    | inl e ↦ absurd (none next some (at ∙ sym e))
+    | inr d ↦ let less : x < L.matrix.height = omega (arith, high) in before x k less ∙ h.others x k less lk none
+  ];
+}
+  where
+    high : M.matrix.height ≡ L.matrix.height + 1
+    high = ap (λ A. A.height) is
 
--- a row that is not the next named one has no name
-pub unnamed_row : {p i next : ℕ} {row_names columns : List ℕ} {rows : List (List ℕ)} {L : ResidueMatrix} → IsLeftSoFar p row_names columns rows i next L →
-    ((s t : ℕ) → s < t → t < length row_names → slice_index row_names s < slice_index row_names t) → (next < length row_names → slice_index row_names next ≢ i) →
-    (t : ℕ) → t < length row_names → slice_index row_names t ≢ i
-unnamed_row {p} {i} {next} {row_names} h rising other t l = elim (cases_lt t next) [
-  | inl less ↦ λ e. omega (arith, h.passed t less)
-  | inr more ↦ elim (cases_eq t next) [
-    | inl e ↦ λ same. other (omega arith) (ap (slice_index row_names) (sym e) ∙ same)
-    | inr d ↦ λ same. omega (arith, rising next t (omega arith) l, h.coming next (omega arith) (omega arith))
-  ]
-]
+    before : (x k : ℕ) → x < L.matrix.height → entry M.matrix x k ≡ entry L.matrix x k
+    before x k l = ap (λ A. entry A x k) is ∙ ap (λ u. slice_index u k) (row_before v h.matrix x l)
+
+    last : (x k : ℕ) → x ≡ L.matrix.height → entry M.matrix x k ≡ slice_index v k
+    last x k e = ap (λ A. entry A x k) is ∙ ap (λ t. entry (with_row L.matrix v) t k) e ∙ ap (λ u. slice_index u k) (row_last v h.matrix)
 
 -- all rows are there
-pub left_all : {p i m next : ℕ} {row_names columns : List ℕ} {rows : List (List ℕ)} {L : ResidueMatrix} → i ≡ m → ((t : ℕ) → t < length row_names → slice_index row_names t < m) →
-    IsLeftSoFar p row_names columns rows i next L → IsLeft p m row_names columns rows L
-left_all {p} {i} {m} {next} {row_names} end inside h = record {
-  modulus = h.modulus;
-  matrix = h.matrix;
-  height = h.height ∙ end;
+pub left_all : {p m next : ℕ} {row_indices columns : List ℕ} {rows : List (List ℕ)} {L : ResidueMatrix} → L.matrix.height ≡ m → length row_indices ≤ next →
+    IsLeftSoFar p row_indices columns rows next L → IsLeft m row_indices columns rows L.matrix
+left_all end le h = record {
+  height = end;
   width = h.width;
-  named = λ t k l lk. elim (cases_lt t next) [ inl less ↦ h.named t k less lk | inr more ↦ absurd (omega (arith, h.coming t more l, inside t l)) ];
+  filled = λ t k l lk. h.filled t k (omega arith) lk;
   others = λ x k l lk none. h.others x k (omega arith) lk none;
 }

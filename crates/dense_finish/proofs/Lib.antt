@@ -5,7 +5,7 @@ pub mod Dividing
 pub mod Filling
 pub mod Gathering
 pub mod Growing
-pub mod Naming
+pub mod Indexing
 pub mod Parts
 pub mod Progress
 pub mod Putting

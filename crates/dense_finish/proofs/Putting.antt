@@ -4,7 +4,7 @@ use Rattle.std.proofs.lemmas.Bool.{cases_eq}
 use Rattle.std.proofs.lemmas.List.{get_or-set_same, get_or-set_other, length-set}
 use Rattle.residue_words.specs.Matrix.{zeros}
 use Rattle.residue_words.proofs.Vectors.{at_zeros, length_list_of}
-use Rattle.dense_finish.specs.Elimination.{IsPut}
+use Rattle.dense_finish.specs.Dense.{IsPut}
 
 pub put_none : {n : ℕ} (name value : ℕ → ℕ) {v : List ℕ} → v ≡ zeros n → IsPut n 0 name value v
 put_none {n} name value {v} is = record {

@@ -1,12 +1,12 @@
 -- A pivot's row that is taken out of a row.
-use Rattle.std.proofs.Common.{ℕ, ◌≡◌, ◌≢◌, ◌+◌, ◌-◌, ◌*◌, ◌%◌, ◌<◌, inl, inr, List, slice_index, slice_set, sym, refl, ap, ap₂, ◌∙◌, arith, mod-eq_of_lt, mod-lt}
+use Rattle.std.proofs.Common.{ℕ, ◌≡◌, ◌≢◌, ◌+◌, ◌-◌, ◌*◌, ◌%◌, ◌<◌, inl, inr, List, slice_index, slice_set, sym, refl, ap, ap₂, ◌∙◌, arith, length, mod-eq_of_lt, mod-lt}
 use native.Mathlib.Nat.{mod-mod}
 use Rattle.std.proofs.lemmas.Bool.{cases_eq}
 use Rattle.std.proofs.lemmas.List.{get_or-set_same, get_or-set_other, length-set}
 use Rattle.residue_words.specs.Matrix.{IsVector, list_of}
 use Rattle.residue_words.proofs.Residues.{add_same, multiple_zero, product_zero_left, right_zero}
 use Rattle.residue_words.proofs.Vectors.{at_list_of, length_list_of}
-use Rattle.dense_finish.specs.Elimination.{TakesOut}
+use Rattle.dense_finish.specs.Dense.{TakesOut}
 
 -- v less a q, and a q, is v
 added_back : (p v q a : ℕ) → a < p → v < p → v ≡ ((v + ((p - a) % p) * q) % p + a * q) % p
@@ -36,9 +36,10 @@ vector_by {p} {n} f pos = record {
 }
 
 -- the pivot's multiple is taken out, and the coefficient put at its column
-pub taken_out : {p n c : ℕ} {q v w x : List ℕ} (a : ℕ) → c < n → IsVector p n v → a ≡ slice_index v c → w ≡ list_of n (λ j. (slice_index v j + ((p - a) % p) * slice_index q j) % p) →
-    x ≡ slice_set w c a → TakesOut p n c q v x
-taken_out {p} {n} {c} {q} {v} {w} {x} a inside h coefficient added set =
+pub taken_out : {p c : ℕ} {q v w x : List ℕ} (a : ℕ) → c < length v → IsVector p (length v) v → a ≡ slice_index v c → w ≡ list_of (length v) (λ j. (slice_index v j + ((p - a) % p) * slice_index q j) % p) →
+    x ≡ slice_set w c a → TakesOut p c q v x
+taken_out {p} {c} {q} {v} {w} {x} a inside h coefficient added set =
+    let n = length v in
     let small : a < p = omega (arith, h.residues c inside) in
     let f : ℕ → ℕ = λ j. slice_index v j + ((p - a) % p) * slice_index q j in
     let made : x ≡ slice_set (list_of n (λ j. f j % p)) c a = set ∙ ap (λ l. slice_set l c a) added in

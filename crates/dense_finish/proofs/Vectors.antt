@@ -97,22 +97,22 @@ wrapped_difference : (x b : ℕ) → b ≤ x → x < b + 4294967296 → (x % 429
 wrapped_difference x b low near = omega arith
 
 -- what a prepared product leaves in 32 bits is below 2p, and has the product's residue
-pub record IsRest (p a y r : ℕ) : Type 0 where
+pub record IsLaneRest (p a y r : ℕ) : Type 0 where
   pub near : r < 2 * p
   pub same : r % p ≡ a * y % p
 
 wrapped_rest : (p a m y e : ℕ) → a < p → p < 2147483648 → m ≡ a * 4294967296 / p → y < 4294967296 → e ≡ m * y / 4294967296 →
-    IsRest p a y ((y * a % 4294967296 + (4294967296 - e * p % 4294967296)) % 4294967296)
+    IsLaneRest p a y ((y * a % 4294967296 + (4294967296 - e * p % 4294967296)) % 4294967296)
 wrapped_rest p a m y e residue small m_is y_small e_is =
     let low : e * p ≤ a * y = prepared_low 4294967296 a y p m e (lit< tt) m_is e_is in
     let near : a * y < e * p + 2 * p = prepared_near 4294967296 a y p m e (lit< tt) (omega arith) y_small m_is e_is in
     let is : (y * a % 4294967296 + (4294967296 - e * p % 4294967296)) % 4294967296 ≡ a * y - e * p =
     ap (λ t. (t % 4294967296 + (4294967296 - e * p % 4294967296)) % 4294967296) (mul_comm y a) ∙ wrapped_difference (a * y) (e * p) low (omega arith) in
-    let rest : IsRest p a y (a * y - e * p) = record {
+    let rest : IsLaneRest p a y (a * y - e * p) = record {
       near = omega arith;
       same = sym (add-mul-mod_self_right (a * y - e * p) e p) ∙ ap (λ t. t % p) (omega arith);
     } in
-    subst (IsRest p a y) (sym is) rest
+    subst (IsLaneRest p a y) (sym is) rest
 
 -- the products with a, less multiples of p, in 32 bits
 abbrev pub differences : ℕ → ℕ → ℕ → List ℕ → List ℕ → List ℕ
@@ -122,7 +122,7 @@ differences n a p y e =
 
 pub lane_of_differences : (n p a m : ℕ) (y e : List ℕ) (k : ℕ) → length y ≡ n → Each1 (Fits w32) y → length e ≡ n → a < p → p < 2147483648 →
     m ≡ a * 4294967296 / p → ((k : ℕ) → k < n → get_or e k 0 ≡ m * get_or y k 0 / 4294967296) → k < n →
-    IsRest p a (get_or y k 0) (get_or (differences n a p y e) k 0)
+    IsLaneRest p a (get_or y k 0) (get_or (differences n a p y e) k 0)
 lane_of_differences n p a m y e k long fits long_e residue small m_is e_is l =
     let times = λ (a b : ℕ). a * b % 4294967296 in
     let less = λ (a b : ℕ). (a + (4294967296 - b)) % 4294967296 in
@@ -132,7 +132,7 @@ lane_of_differences n p a m y e k long fits long_e residue small m_is e_is l =
     let is : get_or (differences n a p y e) k 0 ≡ less (times (get_or y k 0) a) (times (get_or e k 0) p) =
     lane_of_two less n (zip2 times y (replicate n a)) (zip2 times e (replicate n p)) k long_left long_right l
     ∙ (λ i. less (lane_of_splat times n y a k long l i) (lane_of_splat times n e p k long_e l i)) in
-    subst (IsRest p a (get_or y k 0)) (sym is) (wrapped_rest p a m (get_or y k 0) (get_or e k 0) residue small m_is lane.fits (e_is k l))
+    subst (IsLaneRest p a (get_or y k 0)) (sym is) (wrapped_rest p a m (get_or y k 0) (get_or e k 0) residue small m_is lane.fits (e_is k l))
 
 -- the sums of residues in 32 bits
 pub lane_of_sums : (n p : ℕ) (x z : List ℕ) (k : ℕ) → length x ≡ n → length z ≡ n → p < 2147483648 → k < n → get_or x k 0 < p → get_or z k 0 < p →

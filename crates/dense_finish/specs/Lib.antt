@@ -1,3 +1,8 @@
-pub mod Elimination
-pub mod Factoring
-pub mod Lanes
+pub mod Block
+pub mod Dense
+pub mod Factors
+pub mod Indices
+pub mod Multiples
+pub mod Panel
+pub mod Pivots
+pub mod Splitting

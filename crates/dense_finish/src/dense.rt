@@ -1,9 +1,15 @@
 // One dense row.
-ghost use Rattle.std.specs.Prelude.{◌≡◌, ◌<◌, ◌≤◌, ◌+◌, ◌*◌, ◌%◌, ℕ, length, slice_index, slice_set, IfOk};
-ghost use Rattle.residue_words.specs.Matrix.{IsVector, list_of, zeros};
+ghost use Rattle.std.specs.Prelude.{◌≡◌, ◌<◌, ◌≤◌, ℕ, length, slice_index, slice_set, IfOk, OnOk, IfSome, IfNone};
+ghost use Rattle.residue_words.specs.Matrix.{IsVector, zeros};
+ghost use Rattle.sparse_rows.specs.Rows.{AreRising};
+ghost use Rattle.sparse_rows.specs.declared.rows.TheConstants.{LARGEST_SIZE};
+ghost use Rattle.dense_finish.specs.Dense.{AreEntriesAt, Gathers, IsClear, IsFirstFree, IsPivotOf, KeepsCoefficients, Scatters, TakesOut};
+ghost use Rattle.dense_finish.specs.Indices.{AreBelow};
+ghost use Rattle.dense_finish.specs.Multiples.{plus_multiple};
 
 use crate::residue::Residue;
 use residue_words::Modulus;
+use sparse_rows::Sparse;
 use std::alloc::{AllocError, Global};
 use std::marker::Model;
 
@@ -35,6 +41,33 @@ impl<W: Residue> Dense<W> {
             places.push(W::of(0, p))?;
         }
         Ok(Dense { places })
+    }
+
+    // The entries, at the block's columns, of the row that `cols` and `vals` stand for.
+    pub(crate) fn of_entries(
+        alloc: Global,
+        cols: &[u32],
+        vals: &[u64],
+        columns: &[u32],
+        p: &Modulus,
+    ) -> Result<Dense<W>, AllocError>
+        requires modulus { W.serves p.now }
+        requires long { length vals.now ≡ length cols.now }
+        requires residues { (k : ℕ) → k < length vals.now → slice_index vals.now k < p.now }
+        requires ascending { AreRising cols.now }
+        requires rising { AreRising columns.now }
+        requires known { (k : ℕ) → k < length cols.now → (j : ℕ) × (j < length columns.now)
+            × (slice_index columns.now j ≡ slice_index cols.now k) }
+        ensures vector { IfOk result (IsVector p.now (length columns.now)) }
+        ensures entries { IfOk result (AreEntriesAt cols.now vals.now columns.now) }
+    {
+        let mut row = Dense::zeros(alloc, columns.len(), p)?;
+        for k in 0..cols.len() {
+            if let Ok(j) = columns.binary_search(&cols[k]) {
+                row.set(j, vals[k], p);
+            }
+        }
+        Ok(row)
     }
 
     // How many residues.
@@ -70,8 +103,116 @@ impl<W: Residue> Dense<W> {
         requires residues { IsVector p.now (length self.old) self.old }
         requires multiple { IsVector p.now (length self.old) y.now }
         requires before { (j : ℕ) → j < from → slice_index y.now j ≡ 0 }
-        ensures { self.new ≡ list_of (length self.old) (λ j. (slice_index self.old j + a * slice_index y.now j) % p.now) }
+        ensures { self.new ≡ plus_multiple p.now a self.old y.now }
     {
         W::add_multiple(&mut self.places[from..], a, &y.places[from..], p);
+    }
+
+    // Takes a pivot's row out as often as this row has it, but for the pivot's column, where the coefficient stays.
+    pub(crate) fn take_out(&mut self, column: usize, pivot: &Dense<W>, p: &Modulus)
+        requires modulus { W.serves p.now }
+        requires inside { column < length self.old }
+        requires residues { IsVector p.now (length self.old) self.old }
+        requires pivot { IsVector p.now (length self.old) pivot.now }
+        requires before { (j : ℕ) → j < column → slice_index pivot.now j ≡ 0 }
+        ensures { TakesOut p.now column pivot.now self.old self.new }
+    {
+        let a = self.get(column);
+        if a != 0 {
+            self.add_multiple(p.neg(a), pivot, column, p);
+            self.set(column, a, p);
+        }
+    }
+
+    // The first free column with an entry that is not 0.
+    pub(crate) fn first_free(&self, taken: &[bool]) -> Option<usize>
+        requires { length taken.now ≡ length self.now }
+        ensures some { IfSome result (IsFirstFree self.now taken.now) }
+        ensures none { IfNone result (IsClear taken.now self.now) }
+    {
+        for j in 0..taken.len() {
+            if !taken[j] && self.get(j) != 0 {
+                return Some(j);
+            }
+        }
+        None
+    }
+
+    // The pivot's row that this row gives: its entries at the free columns, divided by the first, which stands at c.
+    pub(crate) fn pivot_row(
+        &self,
+        alloc: Global,
+        c: usize,
+        taken: &[bool],
+        p: &Modulus,
+    ) -> Result<Dense<W>, AllocError>
+        requires modulus { W.serves p.now }
+        requires residues { IsVector p.now (length self.now) self.now }
+        requires marks { length taken.now ≡ length self.now }
+        requires first { IsFirstFree self.now taken.now c }
+        ensures { IfOk result (IsPivotOf p.now c taken.now self.now) }
+    {
+        let factor = p.inv(self.get(c));
+        let mut pivot = Dense::zeros(alloc, self.len(), p)?;
+        pivot.set(c, 1, p);
+        for j in c + 1..self.len() {
+            if !taken[j] {
+                pivot.set(j, p.mul(factor, self.get(j)), p);
+            }
+        }
+        Ok(pivot)
+    }
+
+    // Clears the free columns behind c.
+    pub(crate) fn keep_coefficients(&mut self, c: usize, taken: &[bool], p: &Modulus)
+        requires modulus { W.serves p.now }
+        requires residues { IsVector p.now (length self.old) self.old }
+        requires marks { length taken.now ≡ length self.old }
+        requires first { IsFirstFree self.old taken.now c }
+        ensures { KeepsCoefficients p.now c taken.now self.old self.new }
+    {
+        for j in c + 1..taken.len() {
+            if !taken[j] {
+                self.set(j, 0, p);
+            }
+        }
+    }
+
+    // Sets the zero row `to` to the entries, the j-th at `columns[j]`.
+    pub(crate) fn scatter(&self, columns: &[u32], to: &mut Sparse) -> Result<(), AllocError>
+        requires long { length self.now ≡ length columns.now }
+        requires residues { IsVector to.old.modulus (length columns.now) self.now }
+        requires zero { to.old.row ≡ zeros (length to.old.row) }
+        requires inside { AreBelow (length to.old.row) columns.now }
+        requires rising { AreRising columns.now }
+        ensures modulus { to.new.modulus ≡ to.old.modulus }
+        ensures row { OnOk result (Scatters (length to.old.row) columns.now self.now to.new.row) }
+    {
+        for j in 0..columns.len() {
+            let v = self.get(j);
+            if v > 0 {
+                to.push(columns[j], v)?;
+            }
+        }
+        Ok(())
+    }
+
+    // Sets the zero row `to` to the entries at these columns, one beside the other.
+    pub(crate) fn gather(&self, columns: &[u32], to: &mut Sparse) -> Result<(), AllocError>
+        requires long { length to.old.row ≡ length columns.now }
+        requires few { length columns.now ≤ LARGEST_SIZE }
+        requires residues { IsVector to.old.modulus (length self.now) self.now }
+        requires zero { to.old.row ≡ zeros (length to.old.row) }
+        requires inside { AreBelow (length self.now) columns.now }
+        ensures modulus { to.new.modulus ≡ to.old.modulus }
+        ensures row { OnOk result (Gathers (length to.old.row) columns.now self.now to.new.row) }
+    {
+        for k in 0..columns.len() {
+            let v = self.get(columns[k] as usize);
+            if v > 0 {
+                to.push(k as u32, v)?;
+            }
+        }
+        Ok(())
     }
 }

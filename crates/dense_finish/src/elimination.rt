@@ -1,34 +1,33 @@
 // The factors of a matrix by dense elimination.
-ghost use Rattle.std.specs.Prelude.{◌≡◌, ◌<◌, ◌≤◌, ℕ, List, length, slice_index, IfOk};
+ghost use Rattle.std.specs.Prelude.{◌≡◌, ◌<◌, ◌≤◌, ℕ, length, IfOk, OnOk};
 ghost use Rattle.residue_words.specs.Matrix.{IsVector};
 ghost use Rattle.residue_words.specs.Residues.{IsPrime};
-ghost use Rattle.dense_finish.specs.Elimination.{AreEliminated, AreSplit, IsFound, IsPanel, block_row};
-ghost use Rattle.dense_finish.specs.Factoring.{IsFactored};
+ghost use Rattle.sparse_rows.specs.Rows.{AreRising};
+ghost use Rattle.sparse_rows.specs.declared.rows.TheConstants.{LARGEST_SIZE};
+ghost use Rattle.dense_finish.specs.Block.{AreVectors};
+ghost use Rattle.dense_finish.specs.Dense.{IsFirstFree, IsPivotOf, KeepsCoefficients};
+ghost use Rattle.dense_finish.specs.Factors.{IsFactored};
+ghost use Rattle.dense_finish.specs.Indices.{AreBelow};
+ghost use Rattle.dense_finish.specs.Pivots.{AddsPivot, AreEliminated, AreFound, IsPanelFrom, KeepsSplit, SplitBy, count, pivot_at, stage};
 
 use crate::block::block_of;
 use crate::dense::Dense;
-use crate::factors::Factors;
-use crate::gather::{left_factor, places};
-use crate::names::{columns_of, rows_of};
-use crate::panel::{Panel, no_pivots, reduce, update};
-use crate::pivots::Found;
+use crate::factors::{Factors, left_factor};
+use crate::panel::Panel;
+use crate::pivots::Pivots;
 use crate::residue::Residue;
-use crate::taking::{first_left, none_found, take_pivot};
-use residue_words::Modulus;
+use residue_words::{LANE_BOUND, Modulus};
 use sparse_rows::Rows;
 use std::alloc::{AllocError, Global};
 use std::thread::Threads;
 
-// Residues below this fit 32 bits, and with lanes their sums too.
-const NARROW: u64 = 0x8000_0000;
-
-// How many rows are searched for pivots before these are taken from all rows behind.
+// How many rows are searched for pivots before these are taken out of all rows behind.
 const PANEL: usize = 64;
 
 /// Factors of a matrix, by so many workers: the same for every number of them.
 ///
 /// The rows and columns that have an entry make a dense block, of 4 bytes a place where the modulus is below 2^31 and of 8 elsewhere.
-/// It is eliminated row by row, in panels: the pivots of some rows are taken from all rows behind them at once, by the workers.
+/// It is eliminated row by row, in panels: the pivots of some rows are taken out of all rows behind them at once, by the workers.
 /// The time is that of a dense elimination of the block, less where its rank is small.
 pub fn finish<R: Threads + Sync>(
     rt: &R,
@@ -41,7 +40,7 @@ pub fn finish<R: Threads + Sync>(
     ensures { IfOk result (IsFactored rows.now.modulus rows.now.matrix) }
 {
     let p = rows.modulus();
-    if p.p() < NARROW {
+    if p.p() < LANE_BOUND {
         finish_in::<R, u32>(rt, alloc, rows, &p, workers as usize)
     } else {
         finish_in::<R, u64>(rt, alloc, rows, &p, workers as usize)
@@ -62,14 +61,26 @@ fn finish_in<R: Threads + Sync, W: Residue>(
     ensures { IfOk result (IsFactored rows.now.modulus rows.now.matrix) }
 {
     let height = rows.height();
-    let row_names = rows_of(alloc, rows)?;
-    let names = columns_of(alloc, rows)?;
-    let mut block = block_of::<W>(alloc, rows, &row_names, &names, p)?;
-    let found = eliminate(rt, alloc, &mut block, &names, rows.width(), p, workers)?;
-    let l = left_factor(alloc, height, &block, &row_names, &found.columns, p)?;
-    let pivots = places(alloc, &found.rows, &found.columns, &row_names, &names)?;
-    let Found { u, .. } = found;
-    Ok(Factors { pivots, l, u })
+    let filled = rows.filled(alloc)?;
+    let columns = rows.occupied(alloc)?;
+    let mut block = block_of::<W>(alloc, rows, &filled, &columns, p)?;
+    let pivots = eliminate(rt, alloc, &mut block, &columns, rows.width(), p, workers)?;
+    let l = left_factor(
+        alloc,
+        height,
+        &block,
+        columns.len(),
+        &filled,
+        &pivots.columns,
+        p,
+    )?;
+    let places = pivots.places(alloc, &filled, &columns)?;
+    let Pivots { u, .. } = pivots;
+    Ok(Factors {
+        pivots: places,
+        l,
+        u,
+    })
 }
 
 // Eliminates the block, panel by panel.
@@ -77,32 +88,34 @@ fn eliminate<R: Threads + Sync, W: Residue>(
     rt: &R,
     alloc: Global,
     block: &mut [Dense<W>],
-    names: &[u32],
+    columns: &[u32],
     width: u32,
     p: &Modulus,
     workers: usize,
-) -> Result<Found, AllocError>
+) -> Result<Pivots, AllocError>
     requires modulus { W.serves p.now }
     requires some { 1 ≤ workers }
-    requires narrow { width ≤ 2147483648 }
-    requires low { length block.old ≤ 2147483648 }
-    requires few { length names.now ≤ 2147483648 }
-    requires inside { (j : ℕ) → j < length names.now → slice_index names.now j < width }
-    requires rising { (j k : ℕ) → j < k → k < length names.now → slice_index names.now j < slice_index names.now k }
-    requires residues { (t : ℕ) → t < length block.old → IsVector p.now (length names.now) (block_row block.old t) }
-    ensures found { IfOk result (IsFound p.now names.now width (length block.old)) }
-    ensures eliminated { IfOk result (λ found. AreEliminated p.now (length names.now) (length block.old) found block.new) }
-    ensures split { IsPrime p.now → IfOk result (λ found. AreSplit p.now names.now (length found.columns.items) (length block.old) block.old found block.new) }
+    requires narrow { width ≤ LARGEST_SIZE }
+    requires low { length block.old ≤ LARGEST_SIZE }
+    requires few { length columns.now ≤ LARGEST_SIZE }
+    requires inside { AreBelow width columns.now }
+    requires rising { AreRising columns.now }
+    requires residues { AreVectors p.now (length columns.now) block.old }
+    ensures found { IfOk result (AreFound p.now columns.now width (length block.old)) }
+    ensures eliminated { IfOk result (λ pivots.
+        AreEliminated p.now (length columns.now) (length block.old) pivots block.new) }
+    ensures split { IsPrime p.now → IfOk result (λ pivots.
+        SplitBy p.now columns.now pivots block.old block.new) }
 {
-    let mut found = none_found(alloc, names, width, p)?;
+    let mut pivots = Pivots::new(alloc, columns, width, p)?;
     let mut start = 0;
     while start < block.len() {
         let end = block.len().min(start + PANEL);
-        let panel = find_pivots(alloc, block, start, end, names, p, &mut found)?;
-        update(rt, block, end, &panel, p, workers);
+        let panel = find_pivots(alloc, block, start, end, columns, p, &mut pivots)?;
+        panel.reduce_behind(rt, block, end, p, workers);
         start = end;
     }
-    Ok(found)
+    Ok(pivots)
 }
 
 // Finds the pivots of the rows from start to end, each reduced by those before it.
@@ -111,40 +124,62 @@ fn find_pivots<W: Residue>(
     block: &mut [Dense<W>],
     start: usize,
     end: usize,
-    names: &[u32],
+    columns: &[u32],
     p: &Modulus,
-    found: &mut Found,
+    pivots: &mut Pivots,
 ) -> Result<Panel<W>, AllocError>
     requires modulus { W.serves p.now }
     requires order { start ≤ end }
     requires end { end ≤ length block.old }
-    requires low { length block.old ≤ 2147483648 }
-    requires few { length names.now ≤ 2147483648 }
-    requires inside { (j : ℕ) → j < length names.now → slice_index names.now j < found.old.u.matrix.width }
-    requires rising { (j k : ℕ) → j < k → k < length names.now → slice_index names.now j < slice_index names.now k }
-    requires found { IsFound p.now names.now found.old.u.matrix.width start found.old }
-    requires eliminated { AreEliminated p.now (length names.now) start found.old block.old }
-    ensures found { IfOk result (λ _. IsFound p.now names.now found.old.u.matrix.width end found.new) }
-    ensures eliminated { IfOk result (λ _. AreEliminated p.now (length names.now) end found.new block.new) }
-    ensures panel { IfOk result (λ panel. IsPanel p.now names.now (length found.old.columns.items) found.new panel.width panel.columns.items panel.rows.items) }
-    ensures split { IsPrime p.now → (from : List (List ℕ)) → AreSplit p.now names.now (length found.old.columns.items) start from found.old block.old
-        → IfOk result (λ _. AreSplit p.now names.now (length found.old.columns.items) end from found.new block.new) }
+    requires low { length block.old ≤ LARGEST_SIZE }
+    requires few { length columns.now ≤ LARGEST_SIZE }
+    requires inside { AreBelow pivots.old.u.matrix.width columns.now }
+    requires rising { AreRising columns.now }
+    requires found { AreFound p.now columns.now pivots.old.u.matrix.width start pivots.old }
+    requires eliminated { AreEliminated p.now (length columns.now) start pivots.old block.old }
+    ensures found { IfOk result (λ _. AreFound p.now columns.now pivots.old.u.matrix.width end pivots.new) }
+    ensures eliminated { IfOk result (λ _.
+        AreEliminated p.now (length columns.now) end pivots.new block.new) }
+    ensures panel { IfOk result (IsPanelFrom p.now columns.now (count pivots.old) pivots.new) }
+    ensures split { IsPrime p.now → IfOk result (λ _. KeepsSplit p.now columns.now
+        (stage pivots.old block.old start) (stage pivots.new block.new end)) }
 {
-    let mut panel = no_pivots(alloc, names.len());
+    let mut panel = Panel::new(alloc, columns.len());
     for i in start..end {
-        reduce(&mut block[i], &panel, p);
-        if let Some(c) = first_left(&block[i], &found.taken) {
-            take_pivot(
-                alloc,
-                &mut block[i],
-                i as u32,
-                c,
-                names,
-                p,
-                found,
-                &mut panel,
-            )?;
+        panel.reduce(&mut block[i], p);
+        if let Some(c) = block[i].first_free(&pivots.taken) {
+            let pivot = take_pivot(alloc, &mut block[i], i as u32, c, columns, p, pivots)?;
+            panel.push(c as u32, pivot)?;
         }
     }
     Ok(panel)
+}
+
+// Makes what is left of row i, from its entry at column c on, the next pivot's row: the row itself keeps its coefficients
+// alone.
+fn take_pivot<W: Residue>(
+    alloc: Global,
+    row: &mut Dense<W>,
+    i: u32,
+    c: usize,
+    columns: &[u32],
+    p: &Modulus,
+    pivots: &mut Pivots,
+) -> Result<Dense<W>, AllocError>
+    requires modulus { W.serves p.now }
+    requires row { i < LARGEST_SIZE }
+    requires few { length columns.now ≤ LARGEST_SIZE }
+    requires residues { IsVector p.now (length columns.now) row.old }
+    requires first { IsFirstFree row.old pivots.old.taken.items c }
+    requires found { AreFound p.now columns.now pivots.old.u.matrix.width i pivots.old }
+    requires inside { AreBelow pivots.old.u.matrix.width columns.now }
+    requires rising { AreRising columns.now }
+    ensures pivot { IfOk result (IsPivotOf p.now c pivots.old.taken.items row.old) }
+    ensures added { IfOk result (λ pivot. AddsPivot columns.now (pivot_at i c pivot) pivots.old pivots.new) }
+    ensures kept { OnOk result (KeepsCoefficients p.now c pivots.old.taken.items row.old row.new) }
+{
+    let pivot = row.pivot_row(alloc, c, &pivots.taken, p)?;
+    row.keep_coefficients(c, &pivots.taken, p);
+    pivots.push(alloc, i, c, &pivot, columns, p)?;
+    Ok(pivot)
 }

@@ -5,17 +5,15 @@ mod block;
 mod dense;
 mod elimination;
 mod factors;
-mod gather;
-mod lanes;
-mod multiples;
-mod names;
+mod lane_addition;
+mod multiplier;
 mod panel;
 mod pivots;
 mod residue;
-mod taking;
+mod row_addition;
 #[cfg(test)]
 mod tests;
 
 pub use elimination::finish;
 pub use factors::Factors;
-pub use multiples::{axpy, axpy_plainly};
+pub use row_addition::{axpy, axpy_plainly};

@@ -1,19 +1,98 @@
 // The pivots that an elimination finds.
-ghost use Rattle.std.specs.Prelude.{◌≡◌, ◌<◌, ◌≤◌, ℕ, List, [], false, length, slice_index, slice_index_or, IfOk, OnOk, IfSome, IfNone};
+ghost use Rattle.std.specs.Prelude.{◌≡◌, ◌<◌, ◌≤◌, length, IfOk, OnOk};
 ghost use Rattle.residue_words.specs.Matrix.{IsVector};
+ghost use Rattle.sparse_rows.specs.Rows.{AreRising};
+ghost use Rattle.sparse_rows.specs.declared.rows.TheConstants.{LARGEST_SIZE};
+ghost use Rattle.dense_finish.specs.Indices.{AreBelow};
 
 use crate::dense::Dense;
 use crate::residue::Residue;
 use residue_words::Modulus;
-use sparse_rows::{Rows, Sparse};
+use residue_words::plain::Pair;
+use sparse_rows::{List, Rows, Sparse};
 use std::alloc::{AllocError, Global};
 
 // Of each pivot its row and its column in the block, and its row of U, in the matrix's columns; and which columns of the
 // block are pivots'.
 #[derive(Drop)]
-pub(crate) struct Found {
+pub(crate) struct Pivots {
     pub rows: Vec<u32>,
     pub columns: Vec<u32>,
     pub u: Rows,
     pub taken: Vec<bool>,
+}
+
+impl Pivots {
+    ghost use Rattle.dense_finish.specs.Pivots.{AddsPivot, AreFound, ArePlaces, count, pivot_at};
+
+    // No pivot of a block with these columns of a matrix of this width.
+    pub(crate) fn new(
+        alloc: Global,
+        columns: &[u32],
+        width: u32,
+        p: &Modulus,
+    ) -> Result<Pivots, AllocError>
+        requires { width ≤ LARGEST_SIZE }
+        ensures found { IfOk result (AreFound p.now columns.now width 0) }
+        ensures none { IfOk result (λ pivots. count pivots ≡ 0) }
+    {
+        // The call's contract tells the range of the modulus.
+        let _ = p.p();
+        Ok(Pivots {
+            rows: Vec::new(alloc),
+            columns: Vec::new(alloc),
+            u: Rows::with_room(alloc, *p, width, 0, 0)?,
+            taken: vec![in alloc; false; columns.len()]?,
+        })
+    }
+
+    // Puts behind these the pivot of row i at column c, which has this row in the block.
+    pub(crate) fn push<W: Residue>(
+        &mut self,
+        alloc: Global,
+        i: u32,
+        c: usize,
+        row: &Dense<W>,
+        columns: &[u32],
+        p: &Modulus,
+    ) -> Result<(), AllocError>
+        requires row { i < LARGEST_SIZE }
+        requires column { c < length columns.now }
+        requires few { length columns.now ≤ LARGEST_SIZE }
+        requires residues { IsVector p.now (length columns.now) row.now }
+        requires found { AreFound p.now columns.now self.old.u.matrix.width i self.old }
+        requires inside { AreBelow self.old.u.matrix.width columns.now }
+        requires rising { AreRising columns.now }
+        ensures { OnOk result (AddsPivot columns.now (pivot_at i c row.now) self.old self.new) }
+    {
+        let mut entries = Sparse::new(alloc, self.u.width(), *p);
+        row.scatter(columns, &mut entries)?;
+        self.u.append(&entries)?;
+        self.rows.push(i)?;
+        self.columns.push(c as u32)?;
+        self.taken[c] = true;
+        Ok(())
+    }
+
+    // The pivots' places in the matrix, whose rows and columns with entries are these.
+    pub(crate) fn places(
+        &self,
+        alloc: Global,
+        rows: &[u32],
+        columns: &[u32],
+    ) -> Result<List<Pair>, AllocError>
+        requires long { length self.now.rows.items ≡ count self.now }
+        requires rows { AreBelow (length rows.now) self.now.rows.items }
+        requires columns { AreBelow (length columns.now) self.now.columns.items }
+        ensures { IfOk result (ArePlaces self.now.rows.items self.now.columns.items rows.now columns.now) }
+    {
+        let mut places = List::new(alloc);
+        for k in 0..self.rows.len() {
+            places.push(Pair {
+                row: rows[self.rows[k] as usize],
+                col: columns[self.columns[k] as usize],
+            })?;
+        }
+        Ok(places)
+    }
 }

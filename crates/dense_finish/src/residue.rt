@@ -1,9 +1,11 @@
 // How dense rows keep residues.
-ghost use Rattle.std.specs.Prelude.{◌≡◌, ◌<◌, ◌+◌, ◌*◌, ◌%◌, ℕ, length, map, slice_index};
+ghost use Rattle.std.specs.Prelude.{◌≡◌, ◌<◌, ℕ, length, map, slice_index};
 ghost use Rattle.residue_words.specs.Matrix.{list_of};
+ghost use Rattle.residue_words.specs.declared.shoup.TheConstants.{LANE_BOUND};
+ghost use Rattle.dense_finish.specs.Multiples.{plus_at};
 
-use crate::lanes::add_multiple_32;
-use crate::multiples::axpy;
+use crate::lane_addition::add_multiple_32;
+use crate::row_addition::axpy;
 use residue_words::Modulus;
 use std::marker::{Send, Sync};
 
@@ -32,7 +34,8 @@ pub(crate) trait Residue: Copy + Send + Sync {
         requires factor { a < p.now }
         requires out_residues { (k : ℕ) → k < length out.old → slice_index (map value out.old) k < p.now }
         requires residues { (k : ℕ) → k < length y.now → slice_index (map value y.now) k < p.now }
-        ensures { map value out.new ≡ list_of (length out.old) (λ k. (slice_index (map value out.old) k + a * slice_index (map value y.now) k) % p.now) };
+        ensures { map value out.new ≡
+            list_of (length out.old) (plus_at p.now a (map value out.old) (map value y.now)) };
 }
 
 impl Residue for u64 {
@@ -54,9 +57,11 @@ impl Residue for u64 {
 }
 
 impl Residue for u32 {
+    ghost use Rattle.residue_words.specs.declared.shoup.TheConstants.{LANE_BOUND};
+
     ghost value = { λ x. x };
 
-    ghost serves = { λ p. p < 2147483648 };
+    ghost serves = { λ p. p < LANE_BOUND };
 
     fn of(v: u64, _p: &Modulus) -> u32 {
         v as u32

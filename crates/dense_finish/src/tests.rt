@@ -1,10 +1,11 @@
 // Factors of small matrices, multiplied out.
-ghost use Rattle.std.specs.Prelude.{◌≡◌, ◌≢◌, ◌<◌, ◌≤◌, ◌^◌, IfOk};
+ghost use Rattle.std.specs.Prelude.{◌≡◌, ◌≢◌, ◌≤◌, IfOk};
+ghost use Rattle.sparse_rows.specs.declared.rows.TheConstants.{LARGEST_SIZE};
 
-use crate::finish;
-use residue_words::Modulus;
+use crate::{Factors, finish};
 use residue_words::plain::Pair;
-use sparse_rows::{Rows, RowsBuilder};
+use residue_words::{MODULUS_BOUND, Modulus};
+use sparse_rows::{LARGEST_SIZE, Rows, RowsBuilder};
 use std::alloc::{AllocError, Global};
 use std::process::Abort;
 use std::test::Fail;
@@ -12,8 +13,8 @@ use std::thread::Threads;
 
 // The matrix with these entries, row after row.
 fn matrix(alloc: Global, p: Modulus, m: u32, n: u32, entries: &[u64]) -> Result<Rows, AllocError>
-    requires height { m ≤ 2147483648 }
-    requires width { n ≤ 2147483648 }
+    requires height { m ≤ LARGEST_SIZE }
+    requires width { n ≤ LARGEST_SIZE }
     ensures { IfOk result (λ rows. rows.modulus ≡ p) }
 {
     let modulus = p.p();
@@ -34,7 +35,7 @@ fn matrix(alloc: Global, p: Modulus, m: u32, n: u32, entries: &[u64]) -> Result<
 
 // The triangular matrix of n rows with ones in the first column and on the diagonal, and twos beside it.
 fn triangular(alloc: Global, p: Modulus, n: u32) -> Result<Rows, AllocError>
-    requires height { n ≤ 2147483648 }
+    requires height { n ≤ LARGEST_SIZE }
     requires large { 3 ≤ p }
 {
     let mut builder = RowsBuilder::new(alloc, n, n, p)?;
@@ -73,35 +74,15 @@ fn product(left: &Rows, right: &Rows, i: u32, j: u32, p: u64) -> u128
     sum
 }
 
-// Whether two matrices have the same entries.
-fn is_same(left: &Rows, right: &Rows) -> bool {
-    if left.height() != right.height() || left.width() != right.width() {
-        return false;
-    }
-    for i in 0..left.height() {
-        if left.cols(i) != right.cols(i) || left.vals(i) != right.vals(i) {
-            return false;
-        }
-    }
-    true
-}
-
-// The factors by so many workers have so many pivots, multiply to the matrix, and are those by one worker.
-fn check<R: Threads + Sync + Abort>(
+// The factors have so many pivots, multiply to the matrix, and are the same by any number of workers.
+fn assert_factors<R: Threads + Sync + Abort>(
     rt: &R,
     alloc: Global,
     a: &Rows,
-    workers: u32,
-    pivots: usize,
-) -> Result<(), Fail>
-    requires some { 1 ≤ workers }
-    requires few { workers ≤ 64 }
-{
-    let f = finish(rt, alloc, a, workers)?;
-    assert_eq!(rt; f.pivots.items().len(), pivots);
-    let by_one = finish(rt, alloc, a, 1)?;
-    assert_eq!(rt; f.pivots.items(), by_one.pivots.items());
-    assert!(rt; is_same(&f.l, &by_one.l) && is_same(&f.u, &by_one.u));
+    rank: usize,
+) -> Result<(), Fail> {
+    let f = finish(rt, alloc, a, 1)?;
+    assert_eq!(rt; f.pivots.items().len(), rank);
     for i in 0..a.height() {
         for j in 0..a.width() {
             assert_eq!(rt;
@@ -111,6 +92,25 @@ fn check<R: Threads + Sync + Abort>(
             );
         }
     }
+    assert_same(rt, alloc, a, &f, 2)?;
+    assert_same(rt, alloc, a, &f, 8)
+}
+
+// The factors by so many workers are these.
+fn assert_same<R: Threads + Sync + Abort>(
+    rt: &R,
+    alloc: Global,
+    a: &Rows,
+    f: &Factors,
+    workers: u32,
+) -> Result<(), Fail>
+    requires some { 1 ≤ workers }
+    requires few { workers ≤ 64 }
+{
+    let g = finish(rt, alloc, a, workers)?;
+    assert_eq!(rt; g.pivots.items(), f.pivots.items());
+    assert_eq!(rt; g.l.triples(alloc)?, f.l.triples(alloc)?);
+    assert_eq!(rt; g.u.triples(alloc)?, f.u.triples(alloc)?);
     Ok(())
 }
 
@@ -140,11 +140,9 @@ const CASES: [(u64, u32, u32, &[u64], usize); 9] = [
 fn factors_multiply_to_the_matrix(rt: HostRuntime) -> Result<(), Fail> {
     let alloc = rt.alloc();
     for (p, m, n, entries, rank) in CASES {
-        assert!(rt; 2 <= p && p < 0x1_0000_0000_0000 && m <= 8 && n <= 8);
+        assert!(rt; 2 <= p && p < MODULUS_BOUND && m <= LARGEST_SIZE && n <= LARGEST_SIZE);
         let a = matrix(alloc, Modulus::new(p), m, n, entries)?;
-        check(&rt, alloc, &a, 1, rank)?;
-        check(&rt, alloc, &a, 2, rank)?;
-        check(&rt, alloc, &a, 8, rank)?;
+        assert_factors(&rt, alloc, &a, rank)?;
     }
     Ok(())
 }
@@ -154,31 +152,33 @@ fn factors_multiply_to_the_matrix(rt: HostRuntime) -> Result<(), Fail> {
 fn panels_follow_one_another(rt: HostRuntime) -> Result<(), Fail> {
     let alloc = rt.alloc();
     let a = triangular(alloc, Modulus::new(42013), 67)?;
-    check(&rt, alloc, &a, 1, 67)?;
-    check(&rt, alloc, &a, 3, 67)?;
-    Ok(())
+    assert_factors(&rt, alloc, &a, 67)
 }
 
-// Nothing is done for each column of a wide matrix, or for each pair of rows of a high one.
+const HUGE: u32 = 2_147_483_647;
+
+const STEP: u32 = 200_000_000;
+
+// Ten entries of a huge matrix, in rows and columns of their own, cost what ten entries cost.
 #[test]
-fn one_entry_costs_little(rt: HostRuntime) -> Result<(), Fail> {
+fn entries_cost_and_not_sizes(rt: HostRuntime) -> Result<(), Fail> {
     let alloc = rt.alloc();
-    let mut builder = RowsBuilder::new(alloc, 1000000, 1000000, Modulus::new(42013))?;
-    builder.push(999999, 123456, 1)?;
+    let mut builder = RowsBuilder::new(alloc, HUGE, HUGE, Modulus::new(42013))?;
+    for k in 0..10u32 {
+        builder.push(HUGE - 1 - k * STEP, k * STEP, 1)?;
+    }
     let f = finish(&rt, alloc, &builder.finish()?, 2)?;
+    assert_eq!(rt; f.pivots.items().len(), 10);
     assert_eq!(rt;
-        f.pivots.items(),
-        [Pair {
-            row: 999999,
-            col: 123456
-        }]
-        .as_slice()
+        f.pivots.items().first(),
+        Some(&Pair {
+            row: HUGE - 1 - 9 * STEP,
+            col: 9 * STEP
+        })
     );
-    assert_eq!(rt; f.l.height(), 1000000);
-    assert_eq!(rt; f.u.width(), 1000000);
-    assert_eq!(rt; entry(&f.l, 999999, 0), 1);
-    assert_eq!(rt; entry(&f.u, 0, 123456), 1);
-    assert_eq!(rt; f.l.entries(), 1);
-    assert_eq!(rt; f.u.entries(), 1);
+    assert_eq!(rt; (f.l.height(), f.l.entries()), (HUGE, 10));
+    assert_eq!(rt; (f.u.width(), f.u.entries()), (HUGE, 10));
+    assert_eq!(rt; entry(&f.l, HUGE - 1, 9), 1);
+    assert_eq!(rt; entry(&f.u, 9, 0), 1);
     Ok(())
 }

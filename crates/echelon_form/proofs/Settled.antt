@@ -30,13 +30,13 @@ settled_none kept order E e = record {
 pub settled_more : {kept : KeptRows} {order : List (ℕ × ℕ)} {t : ℕ} {E : Matrix} (s : ResidueRow) → AreSettled kept order t E →
     ((c : ℕ × ℕ) → IsSettledRow kept (slice_index_or order t c).1 s) → AreSettled kept order (t + 1) (with_row E s.row)
 settled_more {kept} {order} {t} {E} s before here = record {
-  matrix = matrix_more before.matrix (subst (λ n. IsVector kept.modulus n s.row) (sym before.width) (here (0, 0)).vector);
+  matrix = matrix_more before.matrix (subst (λ n. IsVector kept.modulus n s.row) (sym before.width) (here (0, 0)).settled.vector);
   height = ap (λ n. n + 1) before.height;
   width = before.width;
   each = λ k c l. elim (cases_eq k t) [
-    | inl e ↦ subst (λ i. IsSettled kept.modulus kept.matrix kept.leads (slice_index_or order i c).1 (row (with_row E s.row) k)) (sym e)
-        (subst (IsSettled kept.modulus kept.matrix kept.leads (slice_index_or order t c).1) (sym (last k e)) (here c).settled)
-    | inr d ↦ let less : k < t = omega arith in subst (IsSettled kept.modulus kept.matrix kept.leads (slice_index_or order k c).1) (sym (old k less)) (before.each k c less)
+    | inl e ↦ subst (λ i. IsSettled kept (slice_index_or order i c).1 (row (with_row E s.row) k)) (sym e)
+        (subst (IsSettled kept (slice_index_or order t c).1) (sym (last k e)) (here c).settled)
+    | inr d ↦ let less : k < t = omega arith in subst (IsSettled kept (slice_index_or order k c).1) (sym (old k less)) (before.each k c less)
   ];
 }
   where

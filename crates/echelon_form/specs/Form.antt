@@ -1,8 +1,9 @@
 -- What callers see of an echelon form.
-use Rattle.std.specs.Prelude.{◌≡◌, ◌≤◌, ℕ, List, length}
+use Rattle.std.specs.Prelude.{◌≡◌, ◌≤◌, ℕ, List, length, map, slice_index}
 use Rattle.residue_words.specs.Residues.{IsPrime}
 use Rattle.residue_words.specs.Matrix.{Matrix, IsMatrix}
 use Rattle.row_space.specs.Echelon.{HasLeads, IsRref}
+use Rattle.sparse_rows.specs.Rows.{widened}
 
 -- the rows of the form with their modulus, and the leads
 pub record Form : Type 0 where
@@ -25,3 +26,11 @@ pub record IsEchelon (f : Form) : Type 0 where
   pub matrix : IsMatrix f.modulus f.matrix
   pub rank : length f.leads ≡ f.matrix.height
   pub leads : HasLeads f.matrix f.leads
+
+-- the form whose columns stand at these columns of n
+abbrev pub widened_form : Form → ℕ → List ℕ → Form
+widened_form f n columns = record {
+  modulus = f.modulus;
+  matrix = widened f.matrix n columns;
+  leads = map (slice_index columns) f.leads;
+}

@@ -1,9 +1,11 @@
 // The form, as callers see it.
-ghost use Rattle.std.specs.Prelude.{◌≡◌, ◌≤◌, IfOk};
-ghost use Rattle.echelon_form.specs.Form.{IsEchelon, IsFormOf};
+ghost use Rattle.std.specs.Prelude.{◌≡◌, ◌<◌, ◌≤◌, ℕ, length, slice_index, IfOk};
+ghost use Rattle.sparse_rows.specs.Rows.{AreRising};
+ghost use Rattle.sparse_rows.specs.declared.rows.TheConstants.{LARGEST_SIZE};
+ghost use Rattle.echelon_form.specs.Form.{IsEchelon, IsFormOf, widened_form};
 
-use crate::kept::kept_rows;
-use crate::order::{leads_of, order_of};
+use crate::elimination::{eliminated, is_wide};
+use crate::order::{leads_of, named, order_of};
 use crate::settle::{merged, shares_of};
 use sparse_rows::Rows;
 use std::alloc::{AllocError, Global};
@@ -33,8 +35,8 @@ impl Echelon {
     /// some rows of that width.
     ///
     /// The rows are eliminated one after another by the caller, in the time of the entries that this makes; then each
-    /// worker settles a share of the rows that are left, each with 8 bytes a column. Where a thread cannot be started the
-    /// caller does its work.
+    /// worker settles a share of the rows that are left, each with 8 bytes a column. Columns without an entry cost nothing
+    /// where there are many. Where a thread cannot be started the caller does its work.
     pub fn of<R: Threads + Sync>(
         rt: &R,
         alloc: Global,
@@ -45,12 +47,50 @@ impl Echelon {
         requires few { workers ≤ 64 }
         ensures { IfOk result (λ e. IsFormOf rows.now.modulus rows.now.matrix e) }
     {
-        let kept = kept_rows(alloc, rows)?;
+        // The call's contract tells that the entries are residues.
+        let _ = rows.modulus();
+        if is_wide(rows) {
+            let columns = rows.occupied(alloc)?;
+            let narrow = rows.narrowed(alloc, &columns)?;
+            Echelon::settled(rt, alloc, &narrow, workers)?.widened(alloc, rows.width(), &columns)
+        } else {
+            Echelon::settled(rt, alloc, rows, workers)
+        }
+    }
+
+    // The form, with memory for each column.
+    fn settled<R: Threads + Sync>(
+        rt: &R,
+        alloc: Global,
+        rows: &Rows,
+        workers: u32,
+    ) -> Result<Echelon, AllocError>
+        requires some { 1 ≤ workers }
+        requires few { workers ≤ 64 }
+        ensures { IfOk result (λ e. IsFormOf rows.now.modulus rows.now.matrix e) }
+    {
+        let kept = eliminated(alloc, rows)?;
         let order = order_of(alloc, &kept)?;
         let shares = shares_of(rt, alloc, &kept, &order, workers as usize)?;
         Ok(Echelon {
-            rows: merged(alloc, &kept, rows.modulus(), &order, &shares)?,
+            rows: merged(alloc, &kept, &order, &shares)?,
             leads: leads_of(alloc, &order)?,
+        })
+    }
+
+    // The form with its columns at these columns of so many, which ascend.
+    fn widened(self, alloc: Global, width: u32, columns: &[u32]) -> Result<Echelon, AllocError>
+        requires width { width ≤ LARGEST_SIZE }
+        requires many { length columns.now ≡ self.matrix.width }
+        requires rising { AreRising columns.now }
+        requires below { (k : ℕ) → k < length columns.now → slice_index columns.now k < width }
+        ensures { IfOk result (λ e. e ≡ widened_form self width columns.now) }
+    {
+        // The call's contract tells that a modulus is not 0.
+        let _ = self.rows.modulus();
+        Ok(Echelon {
+            rows: self.rows.widened(alloc, width, columns)?,
+            leads: named(alloc, columns, &self.leads)?,
         })
     }
 

@@ -1,11 +1,12 @@
-//! The reduced row echelon form of a sparse matrix, in memory proportional to its rows' entries and the width.
+//! The reduced row echelon form of a sparse matrix and its rank, in time and memory of the entries that elimination makes.
 #![tactic(auto)]
 
 mod echelon;
-mod kept;
+mod elimination;
 mod order;
 mod settle;
 #[cfg(test)]
 mod tests;
 
 pub use echelon::Echelon;
+pub use elimination::rank;

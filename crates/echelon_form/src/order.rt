@@ -1,5 +1,5 @@
 // The kept rows by ascending leads.
-ghost use Rattle.std.specs.Prelude.{◌≡◌, map, IfOk};
+ghost use Rattle.std.specs.Prelude.{◌≡◌, ◌<◌, ℕ, length, map, slice_index, IfOk};
 ghost use Rattle.triangular_solve.specs.Leads.{IsSound};
 ghost use Rattle.echelon_form.specs.Settling.{IsOrder};
 
@@ -28,4 +28,16 @@ pub(crate) fn leads_of(alloc: Global, order: &[(u32, u32)]) -> Result<Vec<u32>, 
         leads.push(c.0)?;
     }
     Ok(leads)
+}
+
+// The columns at these places.
+pub(crate) fn named(alloc: Global, columns: &[u32], places: &[u32]) -> Result<Vec<u32>, AllocError>
+    requires { (k : ℕ) → k < length places.now → slice_index places.now k < length columns.now }
+    ensures { IfOk result (λ named. named.items ≡ map (slice_index columns.now) places.now) }
+{
+    let mut named = Vec::with_capacity(alloc, places.len())?;
+    for place in places {
+        named.push(columns[*place as usize])?;
+    }
+    Ok(named)
 }

@@ -3,12 +3,11 @@ ghost use Rattle.std.specs.Prelude.{◌≡◌, ◌<◌, ◌≤◌, length, IfOk}
 ghost use Rattle.triangular_solve.specs.Leads.{IsSound};
 ghost use Rattle.echelon_form.specs.Settling.{AreSettled, AreShares, IsOrder, IsShare};
 
-use residue_words::Modulus;
 use sparse_rows::{Rows, Sparse};
 use std::alloc::{AllocError, Global};
 use std::thread;
 use std::thread::Threads;
-use triangular_solve::{Leads, Scratch};
+use triangular_solve::{Accumulator, Leads};
 
 // What each worker makes, or that memory ran out for it.
 type Share = Result<Vec<Sparse>, AllocError>;
@@ -48,11 +47,11 @@ fn share_of(
     requires order { IsOrder kept.now order.now }
     ensures { IfOk result (λ share. IsShare kept.now order.now worker workers share.items) }
 {
-    let mut scratch = Scratch::new(alloc, kept.width())?;
+    let mut accumulator = Accumulator::new(alloc, kept.width(), &kept.modulus())?;
     let mut share = Vec::new(alloc);
     let mut at = worker;
     while at < order.len() {
-        share.push(kept.settle_with(alloc, order[at].1, &mut scratch)?)?;
+        share.push(kept.settle_with(alloc, order[at].1, &mut accumulator)?)?;
         at += workers;
     }
     Ok(share)
@@ -62,21 +61,19 @@ fn share_of(
 pub(crate) fn merged(
     alloc: Global,
     kept: &Leads,
-    modulus: Modulus,
     order: &[(u32, u32)],
     shares: &[Share],
 ) -> Result<Rows, AllocError>
-    requires modulus { modulus ≡ kept.now.modulus }
     requires sound { IsSound kept.now }
     requires order { IsOrder kept.now order.now }
     requires some { 1 ≤ length shares.now }
     requires shares { AreShares kept.now order.now shares.now }
-    ensures modulus { IfOk result (λ rows. rows.modulus ≡ modulus) }
+    ensures modulus { IfOk result (λ rows. rows.modulus ≡ kept.now.modulus) }
     ensures settled { IfOk result (λ rows. AreSettled kept.now order.now (length order.now) rows.matrix) }
 {
     let mut rows = Rows::with_room(
         alloc,
-        modulus,
+        kept.modulus(),
         kept.width(),
         kept.height(),
         entries_of(shares),

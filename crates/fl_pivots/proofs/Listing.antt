@@ -15,7 +15,7 @@ use Rattle.sparse_rows.proofs.Supports.{at_support, in_support, row_sparse}
 use Rattle.pivot_table.specs.History.{row_weight}
 use Rattle.fl_pivots.specs.declared.beginning.Beginning.{Beginning}
 use Rattle.fl_pivots.specs.Beginnings.{AreBeginnings, AreSorted, IsBeginning, IsNoLater}
-use Rattle.fl_pivots.specs.Leftmost.{BeginsAt}
+use Rattle.pivot_table.specs.Leftmost.{BeginsAt}
 
 module _ {p : ℕ} {A : Matrix} (m : IsMatrix p A) (r : ℕ) (l : r < A.height) where
   pub begins : 0 < row_weight A r → BeginsAt A r (slice_index (support (row A r)) 0)

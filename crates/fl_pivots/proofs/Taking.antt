@@ -11,7 +11,7 @@ use Rattle.row_space.specs.Factors.{col_at}
 use Rattle.pivot_table.specs.History.{HasCol, Alive, row_weight}
 use Rattle.fl_pivots.specs.declared.beginning.Beginning.{Beginning}
 use Rattle.fl_pivots.specs.Beginnings.{AreBeginnings, AreSorted, IsNoLater}
-use Rattle.fl_pivots.specs.Leftmost.{BeginsAt, IsSparsest, IsLeftmost}
+use Rattle.pivot_table.specs.Leftmost.{BeginsAt, IsSparsest, IsLeftmost}
 use Rattle.fl_pivots.proofs.Listing.{begins_one}
 
 -- the pairs of the columns below c

@@ -4,7 +4,7 @@ use Rattle.std.specs.List.{Contains}
 use Rattle.residue_words.specs.Matrix.{Matrix}
 use Rattle.pivot_table.specs.History.{row_weight}
 use Rattle.fl_pivots.specs.declared.beginning.Beginning.{Beginning}
-use Rattle.fl_pivots.specs.Leftmost.{BeginsAt}
+use Rattle.pivot_table.specs.Leftmost.{BeginsAt}
 
 -- b says where row r begins
 pub record IsBeginning (A : Matrix) (r : ℕ) (b : Beginning) : Type 0 where

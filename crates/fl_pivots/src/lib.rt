@@ -11,7 +11,7 @@ mod tests;
 
 ghost use Rattle.std.specs.Prelude.{◌≡◌, [], IfOk, OnOk};
 ghost use Rattle.fl_pivots.specs.Beginnings.{AreBeginnings, AreSorted};
-ghost use Rattle.fl_pivots.specs.Leftmost.{IsLeftmost};
+ghost use Rattle.pivot_table.specs.Leftmost.{IsLeftmost};
 
 use beginning::{Beginning, beginnings};
 use pivot_table::{Book, Pair};

@@ -1,76 +1,163 @@
--- The inverse is read off the form of the transposed matrix beside the identity.
+-- The inverse is read off the form of [A | I].
 use Rattle.std.proofs.Common.{ℕ, zero, suc, ◌≡◌, ◌≢◌, ◌+◌, ◌-◌, ◌*◌, ◌%◌, ◌<◌, ◌≤◌, inl, inr, List, length, slice_index, sym, refl, ap, ap₂, subst, ◌∙◌, arith, mod-eq_of_lt, mul-one, mul-zero, mul_comm}
 use Rattle.std.proofs.lemmas.Bool.{cases_eq, cases_lt}
 use Rattle.residue_words.specs.Residues.{sum_below}
-use Rattle.residue_words.specs.Matrix.{Matrix, IsMatrix, IsVector, combine, entry, list_of, row, zeros}
+use Rattle.residue_words.specs.Matrix.{Matrix, IsMatrix, IsVector, apply, combine, dot, entry, list_of, row, zeros}
 use native.Mathlib.Nat.{zero-mod}
-use Rattle.residue_words.proofs.Sums.{sum_equal, sum_none, sum_single}
-use Rattle.residue_words.proofs.Vectors.{at_combine, at_list_of, at_zeros, delta, delta_other, delta_same, entry_residue, length_list_of, list_equal, list_of_equal, row_combination}
-use Rattle.sparse_rows.specs.Rows.{beside, identity, transposed}
+use Rattle.residue_words.proofs.Sums.{sum_equal, sum_more, sum_none, sum_single}
+use Rattle.residue_words.proofs.Vectors.{at_combine, at_list_of, at_zeros, combination_vector, combine_single, delta, delta_other, delta_same, dot_combine, entry_matrix_of, entry_residue, is_matrix_of, length_list_of, list_equal, list_of_equal, matrix_of, row_combination, sum_delta, vector_of}
+use Rattle.sparse_rows.specs.Rows.{beside, entry_count, identity, matrix_by, support, transposed}
 use Rattle.row_space.specs.Echelon.{HasLeads, IsIndependent, IsRref}
 use Rattle.row_space.specs.Inverse.{IsInverse, unit}
 use Rattle.row_space.specs.Kernel.{IsKernel, IsNull}
-use Rattle.row_space.proofs.Counting.{span_height}
+use Rattle.row_space.proofs.Counting.{span_height, spanned_back}
+use Rattle.row_space.proofs.KernelLaws.{dot_zeros, identity_spans}
 use Rattle.row_space.proofs.Spans.{places_independent}
 use Rattle.echelon_form.specs.Form.{Form, IsFormOf}
-use Rattle.kernel_solve.specs.Columns.{right_half}
-use Rattle.kernel_solve.proofs.Matrices.{beside_left, beside_matrix, beside_right, identity_matrix, identity_other, identity_same, selected_entry, selected_matrix, transposed_entry, transposed_matrix}
+use Rattle.kernel_solve.proofs.AtLeads.{entry_absent}
+use Rattle.kernel_solve.proofs.Matrices.{beside_left, beside_matrix, beside_right, identity_matrix, identity_other, identity_same, transposed_entry}
+
+-- a square matrix with a left null vector y that is 1 at a place
+module _ (p : ℕ) (A : Matrix) (y : List ℕ) (at : ℕ) (two : 2 ≤ p) (square : A.height ≡ A.width) (inside : at < A.width) (zero_sum : combine p y A ≡ zeros A.width) (one_there : slice_index y at ≡ 1) where
+  -- if only zero were null, the columns of A would span each vector, that with a 1 there too; but y refutes it
+  never_trivial : ((x : List ℕ) → IsNull p A x → x ≡ zeros A.width) → ⊥
+  never_trivial trivial =
+      let n : ℕ = A.width in
+      let pos : 0 < p = omega arith in
+      let turned : (x : List ℕ) → combine p x (transposed A) ≡ apply p A x = λ x. list_of_equal A.height _ _ (λ i l.
+      ap (λ t. t % p) (sum_equal n (λ j. slice_index x j * entry (transposed A) j i) (λ j. entry A i j * slice_index x j) (λ j o.
+      ap (λ t. slice_index x j * t) (transposed_entry A j i o l) ∙ mul_comm (slice_index x j) (entry A i j)))) in
+      let independent : IsIndependent p (transposed A) = λ x v e. trivial x (v, sym (turned x) ∙ e) in
+      let e : List ℕ = list_of n (delta at) in
+      let vector : IsVector p n e = vector_of p n (delta at) (λ j o. elim (cases_eq j at) [
+        | inl q ↦ omega (arith, ap (delta at) q, delta_same at)
+        | inr d ↦ omega (arith, delta_other at j d)
+      ]) in
+      let wide_enough : (v : List ℕ) → IsVector p A.height v → IsVector p n v = λ v h. subst (λ k. IsVector p k v) square h in
+      let c = spanned_back p (transposed A) (matrix_of n n delta) two independent
+      (λ v c. identity_spans p n v pos (wide_enough v (combination_vector p (transposed A) v pos c))) (omega arith) e (identity_spans p n e pos vector) in
+      let product : dot p A.height y (apply p A c.0) ≡ 0 =
+      sym (dot_combine p y A c.0) ∙ ap (λ u. dot p n u c.0) zero_sum ∙ dot_zeros p n c.0 in
+      let one : dot p n y e ≡ 1 =
+      ap (λ t. t % p) (sum_equal n (λ k. slice_index y k * slice_index e k) (λ k. delta at k * slice_index y k) (λ k o.
+      ap (λ t. slice_index y k * t) (at_list_of n (delta at) k o) ∙ mul_comm (slice_index y k) (delta at k))
+      ∙ sum_delta n at (slice_index y) inside ∙ one_there)
+      ∙ mod-eq_of_lt two in
+      let same : dot p n y e ≡ dot p A.height y (apply p A c.0) = ap₂ (λ h u. dot p h y u) (sym square) (c.2 ∙ turned c.0) in
+      omega (arith, one, same, product)
+
+  -- so the kernel basis has a row
+  pub kernel_some : (K : Matrix) → IsKernel p A K → 0 < K.height
+  kernel_some K k = elim (cases_lt 0 K.height) [
+    | inl l ↦ l
+    | inr none ↦
+        let empty : K.height ≡ 0 = omega arith in
+        absurd (never_trivial (λ x null.
+        let c = k.every x null in
+        list_equal A.width x (zeros A.width) null.0.len (length_list_of A.width (λ j. 0)) (λ j l.
+        ap (λ u. slice_index u j) c.2 ∙ at_combine p c.0 K j (omega (arith, k.width)) ∙ ap (λ h. sum_below h (λ i. slice_index c.0 i * entry K i j) % p) empty
+        ∙ zero_none (λ i. slice_index c.0 i * entry K i j) ∙ sym (at_zeros A.width j l))))
+  ]
+    where
+      zero_none : (f : ℕ → ℕ) → sum_below 0 f % p ≡ 0
+      zero_none f = ap (λ t. t % p) (sum_none f) ∙ zero-mod p
+
+-- of n numbers with a sum below n one is 0
+zero_term : (n : ℕ) (f : ℕ → ℕ) → sum_below n f < n → (i : ℕ) × (i < n) × (f i ≡ 0)
+zero_term zero f l = absurd (omega arith)
+zero_term (suc n) f l = elim (cases_eq (f n) 0) [
+  | inl z ↦ (n, omega arith, z)
+  | inr d ↦
+      let next : suc n ≡ n + 1 = omega arith in
+      let more : sum_below (suc n) f ≡ sum_below n f + f n = ap (λ k. sum_below k f) next ∙ sum_more n f in
+      let found = zero_term n f (omega arith) in
+      (found.0, omega (arith, found.1), found.2)
+]
+
+-- a square matrix with fewer entries than rows has a row of zeros, so its kernel basis has a row
+pub few_entries : (p : ℕ) (A : Matrix) → 2 ≤ p → IsMatrix p A → A.height ≡ A.width → entry_count A < A.width → (K : Matrix) → IsKernel p A K → 0 < K.height
+few_entries p A two m square few =
+    let found = zero_term A.height (λ i. length (support (row A i))) (omega arith) in
+    let i : ℕ = found.0 in
+    let inside : i < A.height = found.1 in
+    let y : List ℕ = list_of A.height (delta i) in
+    let one : slice_index y i ≡ 1 = at_list_of A.height (delta i) i inside ∙ delta_same i in
+    let zero_row : row A i ≡ zeros A.width = list_equal A.width _ _ (m.each i inside).len (length_list_of A.width (λ j. 0)) (λ j l.
+    sym (entry_absent (row A i) j (λ k o e. omega (arith, found.2))) ∙ sym (at_zeros A.width j l)) in
+    let combined : combine p y A ≡ row A i = combine_single p y A i two m inside one (λ k l d. at_list_of A.height (delta i) k l ∙ delta_other i k d) in
+    kernel_some p A y i two square (omega arith) (combined ∙ zero_row) one
+
+-- the n columns from n on of n rows
+abbrev pub half_of : ℕ → Matrix → Matrix
+half_of n F = matrix_by n n (λ i j. entry F i (n + j))
 
 module _ (p : ℕ) (A F : Matrix) (leads : List ℕ) (two : 2 ≤ p) (m : IsMatrix p A) (square : A.height ≡ A.width)
-    (rref : IsRref p (beside (transposed A) (identity A.width)) F) (has : HasLeads F leads) where
+    (rref : IsRref p (beside A (identity A.width)) F) (has : HasLeads F leads) where
   abbrev n : ℕ
   n = A.width
 
   abbrev whole : Matrix
-  whole = beside (transposed A) (identity n)
+  whole = beside A (identity n)
 
   whole_matrix : IsMatrix p whole
-  whole_matrix = beside_matrix (transposed_matrix m) (identity_matrix p n two) refl
+  whole_matrix = beside_matrix m (identity_matrix p n two) square
 
-  whole_left : (i j : ℕ) → i < n → j < n → entry whole i j ≡ entry A j i
-  whole_left i j a b = beside_left (transposed_matrix m) (identity n) i j a (omega arith) ∙ transposed_entry A i j a (omega arith)
+  whole_left : (i j : ℕ) → i < n → j < n → entry whole i j ≡ entry A i j
+  whole_left i j a b = beside_left m (identity n) i j (omega arith) b
 
   whole_right : (i j : ℕ) → i < n → entry whole i (n + j) ≡ entry (identity n) i j
-  whole_right i j a = ap (λ w. entry whole i (w + j)) (sym square) ∙ beside_right (transposed_matrix m) (identity n) i j a
+  whole_right i j a = beside_right m (identity n) i j (omega arith)
 
   wide : F.width ≡ n + n
-  wide = omega (arith, rref.width)
+  wide = rref.width
 
-  -- a combination of these rows ends with its coefficients, and begins with the products of the rows of A with them
+  -- a combination of these rows ends with its coefficients, and begins with the combination of the rows of A
   combined_right : (y : List ℕ) → IsVector p n y → (j : ℕ) → j < n → slice_index (combine p y whole) (n + j) ≡ slice_index y j
   combined_right y v j l =
       at_combine p y whole (n + j) (omega arith)
+      ∙ ap (λ h. sum_below h (λ i. slice_index y i * entry whole i (n + j)) % p) square
       ∙ ap (λ t. t % p) (sum_single n (λ i. slice_index y i * entry whole i (n + j)) j l
       (λ i b d. ap (λ t. slice_index y i * t) (whole_right i j b ∙ identity_other n i j b l d) ∙ mul-zero (slice_index y i))
       ∙ ap (λ t. slice_index y j * t) (whole_right j j l ∙ identity_same n j l) ∙ mul-one (slice_index y j))
       ∙ mod-eq_of_lt (v.residues j l)
 
-  combined_left : (y : List ℕ) (j : ℕ) → j < n → slice_index (combine p y whole) j ≡ sum_below n (λ i. slice_index y i * entry A j i) % p
+  combined_left : (y : List ℕ) (j : ℕ) → j < n → slice_index (combine p y whole) j ≡ sum_below n (λ i. slice_index y i * entry A i j) % p
   combined_left y j l =
       at_combine p y whole j (omega arith)
-      ∙ ap (λ t. t % p) (sum_equal n (λ i. slice_index y i * entry whole i j) (λ i. slice_index y i * entry A j i) (λ i b. ap (λ t. slice_index y i * t) (whole_left i j b l)))
+      ∙ ap (λ h. sum_below h (λ i. slice_index y i * entry whole i j) % p) square
+      ∙ ap (λ t. t % p) (sum_equal n (λ i. slice_index y i * entry whole i j) (λ i. slice_index y i * entry A i j) (λ i b. ap (λ t. slice_index y i * t) (whole_left i j b l)))
 
   -- they are independent
   whole_independent : IsIndependent p whole
-  whole_independent y v e = list_equal n y (zeros n) v.len (length_list_of n (λ j. 0)) (λ j l.
-      sym (combined_right y v j l) ∙ ap (λ u. slice_index u (n + j)) e ∙ at_zeros whole.width (n + j) (omega arith) ∙ sym (at_zeros n j l))
+  whole_independent y v e =
+      let vector : IsVector p n y = subst (λ h. IsVector p h y) square v in
+      list_equal A.height y (zeros A.height) v.len (length_list_of A.height (λ j. 0)) (λ j l.
+      let b : j < n = omega arith in
+      sym (combined_right y vector j b) ∙ ap (λ u. slice_index u (n + j)) e ∙ at_zeros whole.width (n + j) (omega arith) ∙ sym (at_zeros A.height j l))
 
   -- so the form has n rows
   tall : F.height ≡ n
-  tall = sym (span_height p whole F two whole_matrix rref.matrix (sym rref.width) whole_independent (places_independent p _ F (slice_index leads) (omega arith) has.1) rref.span)
+  tall =
+      sym (span_height p whole F two whole_matrix rref.matrix (sym rref.width) whole_independent (places_independent p _ F (slice_index leads) (omega arith) has.1) rref.span) ∙ square
 
   -- the coefficients of a row of the form stand in its right half
   coefficients : (k : ℕ) → k < n → (y : List ℕ) × IsVector p n y × (row F k ≡ combine p y whole)
-  coefficients k l = (rref.span (row F k)).1 (row_combination p F k two rref.matrix (omega (arith, tall)))
+  coefficients k l =
+      let c = (rref.span (row F k)).1 (row_combination p F k two rref.matrix (omega (arith, tall))) in
+      (c.0, subst (λ h. IsVector p h c.0) square c.1, c.2)
 
   row_right : (k : ℕ) (l : k < n) (j : ℕ) → j < n → entry F k (n + j) ≡ slice_index (coefficients k l).0 j
   row_right k l j b = let c = coefficients k l in ap (λ u. slice_index u (n + j)) c.2 ∙ combined_right c.0 c.1 j b
 
-  row_left : (k : ℕ) → k < n → (j : ℕ) → j < n → entry F k j ≡ sum_below n (λ i. entry F k (n + i) * entry A j i) % p
+  row_left : (k : ℕ) → k < n → (j : ℕ) → j < n → entry F k j ≡ sum_below n (λ i. entry F k (n + i) * entry A i j) % p
   row_left k l j b =
       let c = coefficients k l in
       ap (λ u. slice_index u j) c.2 ∙ combined_left c.0 j b
-      ∙ ap (λ t. t % p) (sum_equal n (λ i. slice_index c.0 i * entry A j i) (λ i. entry F k (n + i) * entry A j i) (λ i o. ap (λ t. t * entry A j i) (sym (row_right k l i o))))
+      ∙ ap (λ t. t % p) (sum_equal n (λ i. slice_index c.0 i * entry A i j) (λ i. entry F k (n + i) * entry A i j) (λ i o. ap (λ t. t * entry A i j) (sym (row_right k l i o))))
+
+  -- the rows of the whole are combinations of the form's rows
+  weights : (i : ℕ) → i < n → (z : List ℕ) × IsVector p F.height z × (row whole i ≡ combine p z F)
+  weights i l = (rref.span (row whole i)).0 (row_combination p whole i two whole_matrix (omega arith))
 
   module _ (last : 0 < n → slice_index leads (n - 1) < n) where
     -- the leads are the first n columns
@@ -99,32 +186,30 @@ module _ (p : ℕ) (A F : Matrix) (leads : List ℕ) (two : 2 ≤ p) (m : IsMatr
     ]
 
     abbrev B : Matrix
-    B = right_half n F
+    B = half_of n F
 
-    B_entry : (t k : ℕ) → t < n → k < n → entry B t k ≡ entry F k (n + t)
-    B_entry t k a b =
-        selected_entry (transposed F) (list_of n (λ k. n + k)) t k (omega (arith, length_list_of n (λ k. n + k)))
-        ∙ ap (λ i. entry (transposed F) i k) (at_list_of n (λ k. n + k) t a) ∙ transposed_entry F (n + t) k (omega (arith, wide)) (omega (arith, tall))
-
-    B_height : B.height ≡ n
-    B_height = length_list_of n (λ k. n + k)
+    B_entry : (i j : ℕ) → i < n → j < n → entry B i j ≡ entry F i (n + j)
+    B_entry i j a b = entry_matrix_of n n (λ i j. entry F i (n + j)) i j a b
 
     B_matrix : IsMatrix p B
-    B_matrix = selected_matrix (transposed_matrix rref.matrix) (list_of n (λ k. n + k)) (λ i l. let b : i < n = omega (arith, length_list_of n (λ k. n + k)) in omega (arith, at_list_of n (λ k. n + k) i b, wide))
+    B_matrix = is_matrix_of p n n (λ i j. entry F i (n + j)) (λ i j a b. entry_residue p F rref.matrix i (n + j) (omega (arith, tall)) (omega (arith, wide)))
 
-    -- A B is the identity
-    B_right : (i : ℕ) → i < n → combine p (row A i) B ≡ unit n i
-    B_right i l = list_equal n _ _ (length_list_of B.width _ ∙ tall) (length_list_of n _) (λ j b.
-        at_combine p (row A i) B j (omega (arith, tall))
-        ∙ ap (λ h. sum_below h (λ k. entry A i k * entry B k j) % p) B_height
-        ∙ ap (λ t. t % p) (sum_equal n (λ k. entry A i k * entry B k j) (λ k. entry F j (n + k) * entry A i k) (λ k o. ap (λ t. entry A i k * t) (B_entry k j o b) ∙ mul_comm (entry A i k) (entry F j (n + k))))
-        ∙ sym (row_left j b i l) ∙ left_unit j i b l ∙ sym (at_list_of n (delta i) j b))
+    -- B A is the identity
+    B_left : (i : ℕ) → i < n → combine p (row B i) A ≡ unit n i
+    B_left i l = list_equal n _ _ (length_list_of n _) (length_list_of n _) (λ j b.
+        at_combine p (row B i) A j b
+        ∙ ap (λ h. sum_below h (λ k. entry B i k * entry A k j) % p) square
+        ∙ ap (λ t. t % p) (sum_equal n (λ k. entry B i k * entry A k j) (λ k. entry F i (n + k) * entry A k j) (λ k o. ap (λ t. t * entry A k j) (B_entry i k l o)))
+        ∙ sym (row_left i l j b) ∙ left_unit i j l b ∙ delta_turned i j ∙ sym (at_list_of n (delta i) j b))
+      where
+        delta_turned : (i j : ℕ) → delta j i ≡ delta i j
+        delta_turned i j = elim (cases_eq i j) [
+          | inl e ↦ ap (delta j) e ∙ delta_same j ∙ sym (ap (delta i) (sym e) ∙ delta_same i)
+          | inr d ↦ delta_other j i d ∙ sym (delta_other i j (λ e. d (sym e)))
+        ]
 
-    -- the rows of the whole are combinations of the form's rows with A's columns
-    weights : (i : ℕ) → i < n → (z : List ℕ) × IsVector p F.height z × (row whole i ≡ combine p z F)
-    weights i l = (rref.span (row whole i)).0 (row_combination p whole i two whole_matrix l)
-
-    weight_is : (i : ℕ) (l : i < n) (k : ℕ) → k < n → slice_index (weights i l).0 k ≡ entry A k i
+    -- the coefficients of a row of the whole are the row of A
+    weight_is : (i : ℕ) (l : i < n) (k : ℕ) → k < n → slice_index (weights i l).0 k ≡ entry A i k
     weight_is i l k b =
         let w = weights i l in
         let read : entry whole i k ≡ slice_index w.0 k =
@@ -135,29 +220,27 @@ module _ (p : ℕ) (A F : Matrix) (leads : List ℕ) (two : 2 ≤ p) (m : IsMatr
         ∙ mod-eq_of_lt (w.1.residues k (omega (arith, tall))) in
         sym read ∙ whole_left i k l b
 
-    -- B A is the identity
-    B_left : (i : ℕ) → i < n → combine p (row B i) A ≡ unit n i
-    B_left i l = list_equal n _ _ (length_list_of n _) (length_list_of n _) (λ j b.
-        let w = weights j b in
-        at_combine p (row B i) A j b
-        ∙ ap (λ h. sum_below h (λ k. entry B i k * entry A k j) % p) (square ∙ sym tall)
-        ∙ ap (λ t. t % p) (sum_equal F.height (λ k. entry B i k * entry A k j) (λ k. slice_index w.0 k * entry F k (n + i)) (λ k o.
-        let c : k < n = omega (arith, tall) in
-        ap₂ (λ s t. s * t) (B_entry i k l c) (sym (weight_is j b k c)) ∙ mul_comm (entry F k (n + i)) (slice_index w.0 k)))
-        ∙ sym (ap (λ u. slice_index u (n + i)) w.2 ∙ at_combine p w.0 F (n + i) (omega (arith, wide)))
-        ∙ whole_right j i b ∙ identity_unit j i b l ∙ sym (at_list_of n (delta i) j b))
+    -- A B is the identity
+    B_right : (i : ℕ) → i < n → combine p (row A i) B ≡ unit n i
+    B_right i l = list_equal n _ _ (length_list_of n _) (length_list_of n _) (λ j b.
+        let w = weights i l in
+        at_combine p (row A i) B j b
+        ∙ ap (λ t. t % p) (sum_equal n (λ k. entry A i k * entry B k j) (λ k. slice_index w.0 k * entry F k (n + j)) (λ k o. ap₂ (λ s t. s * t) (sym (weight_is i l k o)) (B_entry k j o b)))
+        ∙ ap (λ h. sum_below h (λ k. slice_index w.0 k * entry F k (n + j)) % p) (sym tall)
+        ∙ sym (ap (λ u. slice_index u (n + j)) w.2 ∙ at_combine p w.0 F (n + j) (omega (arith, wide)))
+        ∙ whole_right i j l ∙ identity_unit i j l b ∙ sym (at_list_of n (delta i) j b))
       where
-        identity_unit : (j i : ℕ) → j < n → i < n → entry (identity n) j i ≡ delta i j
-        identity_unit j i a c = elim (cases_eq j i) [
-          | inl e ↦ ap (entry (identity n) j) (sym e) ∙ identity_same n j a ∙ sym (ap (delta i) e ∙ delta_same i)
-          | inr d ↦ identity_other n j i a c d ∙ sym (delta_other i j d)
+        identity_unit : (i j : ℕ) → i < n → j < n → entry (identity n) i j ≡ delta i j
+        identity_unit i j a c = elim (cases_eq i j) [
+          | inl e ↦ ap (entry (identity n) i) (sym e) ∙ identity_same n i a ∙ sym (ap (delta i) (sym e) ∙ delta_same i)
+          | inr d ↦ identity_other n i j a c d ∙ sym (delta_other i j (λ e. d (sym e)))
         ]
 
-    pub half_inverts : IsInverse p A (right_half A.width F)
+    pub half_inverts : IsInverse p A (half_of n F)
     half_inverts = record {
       matrix = B_matrix;
-      height = B_height ∙ sym square;
-      width = tall;
+      height = sym square;
+      width = refl;
       right = λ i l. B_right i (omega arith);
       left = λ i l. B_left i (omega arith);
     }
@@ -169,54 +252,39 @@ module _ (p : ℕ) (A F : Matrix) (leads : List ℕ) (two : 2 ≤ p) (m : IsMatr
     | inr l ↦ elim (cases_lt 0 n) [ inl some ↦ (some, l) | inr none ↦ absurd (other (has.0 ∙ tall, λ some. absurd (omega arith))) ]
   ]
 
-  -- then a row of the form is a null vector of A beside zeros
+  -- then the last row of the form is zeros beside some y with y A = 0, and 1 at a place of y
   module _ (some : 0 < n) (beyond : n ≤ slice_index leads (n - 1)) where
-    null_vector : List ℕ
-    null_vector = list_of n (λ i. entry F (n - 1) (n + i))
+    last_row : n - 1 < n
+    last_row = omega arith
 
-    null_entry : (i : ℕ) → i < n → slice_index null_vector i ≡ entry F (n - 1) (n + i)
-    unfolding null_vector
-    null_entry i l = at_list_of n (λ i. entry F (n - 1) (n + i)) i l
+    abbrev left_null : List ℕ
+    left_null = (coefficients (n - 1) last_row).0
 
-    null_long : length null_vector ≡ n
-    unfolding null_vector
-    null_long = length_list_of n (λ i. entry F (n - 1) (n + i))
+    left_zero : combine p left_null A ≡ zeros n
+    left_zero = list_equal n _ _ (length_list_of n _) (length_list_of n _) (λ j b.
+        let c = coefficients (n - 1) last_row in
+        at_combine p c.0 A j b ∙ ap (λ h. sum_below h (λ i. slice_index c.0 i * entry A i j) % p) square
+        ∙ sym (ap (λ u. slice_index u j) c.2 ∙ combined_left c.0 j b) ∙ has.1.past (n - 1) j (omega (arith, tall)) (omega (arith, wide)) (omega arith) ∙ sym (at_zeros n j b))
 
-    is_null : IsNull p A null_vector
-    is_null = (
-      record { len = null_long; residues = λ j l. omega (arith, null_entry j l, entry_residue p F rref.matrix (n - 1) (n + j) (omega (arith, tall)) (omega (arith, wide))) },
-      list_of_equal A.height _ (λ i. 0) (λ i l.
-          let b : i < n = omega arith in
-          ap (λ t. t % p) (sum_equal n (λ j. entry A i j * slice_index null_vector j) (λ j. entry F (n - 1) (n + j) * entry A i j) (λ j o. ap (λ t. entry A i j * t) (null_entry j o) ∙ mul_comm (entry A i j) (entry F (n - 1) (n + j))))
-          ∙ sym (row_left (n - 1) (omega arith) i b) ∙ has.1.past (n - 1) i (omega (arith, tall)) (omega (arith, wide)) (omega arith)),
-    )
+    one_place : ℕ
+    one_place = slice_index leads (n - 1) - n
 
-    -- it is not zero
-    null_nonzero : (v : List ℕ) → v ≡ null_vector → v ≡ zeros n → ⊥
-    null_nonzero v same e =
-        let at : ℕ = slice_index leads (n - 1) in
-        let inside : at < n + n = omega (arith, has.1.inside (n - 1) (omega (arith, tall)), wide) in
-        let place : n + (at - n) ≡ at = omega arith in
-        let one : slice_index null_vector (at - n) ≡ 1 = null_entry (at - n) (omega arith) ∙ ap (entry F (n - 1)) place ∙ has.1.one (n - 1) (omega (arith, tall)) in
-        omega (arith, one, ap (λ u. slice_index u (at - n)) (sym same ∙ e), at_zeros n (at - n) (omega arith))
+    place_inside : one_place < n
+    unfolding one_place
+    place_inside = omega (arith, has.1.inside (n - 1) (omega (arith, tall)), wide)
+
+    left_one : slice_index left_null one_place ≡ 1
+    unfolding one_place
+    left_one =
+        sym (row_right (n - 1) last_row one_place place_inside) ∙ ap (entry F (n - 1)) (let e : n + one_place ≡ slice_index leads (n - 1) = omega arith in e)
+        ∙ has.1.one (n - 1) (omega (arith, tall))
 
     -- so the kernel basis has a row
     pub basis_some : (K : Matrix) → IsKernel p A K → 0 < K.height
-    basis_some K k = elim (cases_lt 0 K.height) [
-      | inl l ↦ l
-      | inr none ↦
-          let c = k.every null_vector is_null in
-          let empty : K.height ≡ 0 = omega arith in
-          absurd (null_nonzero null_vector refl (list_equal n null_vector (zeros n) null_long (length_list_of n (λ j. 0)) (λ j l.
-          ap (λ u. slice_index u j) c.2 ∙ at_combine p c.0 K j (omega (arith, k.width)) ∙ ap (λ h. sum_below h (λ i. slice_index c.0 i * entry K i j) % p) empty
-          ∙ zero_sum (λ i. slice_index c.0 i * entry K i j) ∙ sym (at_zeros n j l))))
-    ]
-      where
-        zero_sum : (f : ℕ → ℕ) → sum_below 0 f % p ≡ 0
-        zero_sum f = ap (λ t. t % p) (sum_none f) ∙ zero-mod p
+    basis_some = kernel_some p A left_null one_place two square place_inside left_zero left_one
 
 -- the first row of a kernel basis is null and not zero
-pub first_null : (p : ℕ) (A K : Matrix) → IsKernel p A K → 0 < K.height → IsNull p A (row K 0) × (row K 0 ≢ zeros A.width)
+first_null : (p : ℕ) (A K : Matrix) → IsKernel p A K → 0 < K.height → IsNull p A (row K 0) × (row K 0 ≢ zeros A.width)
 first_null p A K k some = (
   k.null 0 some,
   λ e.
@@ -227,9 +295,11 @@ first_null p A K k some = (
       omega (arith, places.one 0 some, ap (λ u. slice_index u at) e, at_zeros A.width at inside),
 )
 
--- the right half is a matrix of residues
-pub half_matrix : (p n : ℕ) (F : Matrix) → IsMatrix p F → F.width ≡ n + n → IsMatrix p (right_half n F)
-half_matrix p n F m wide = selected_matrix (transposed_matrix m) (list_of n (λ k. n + k)) (λ i l. let b : i < n = omega (arith, length_list_of n (λ k. n + k)) in omega (arith, at_list_of n (λ k. n + k) i b))
+-- so where a row of a matrix is the first of a kernel basis, it shows that there is no inverse
+pub first_shown : (p : ℕ) (A V K : Matrix) → IsKernel p A K → 0 < K.height → row V 0 ≡ row K 0 →
+    IsNull p A (row V 0) × (row V 0 ≢ zeros A.width) × ((K : Matrix) × IsKernel p A K × (0 < K.height) × (row V 0 ≡ row K 0))
+first_shown p A V K k some same =
+    let null = first_null p A K k some in (subst (IsNull p A) (sym same) null.0, λ e. null.1 (sym same ∙ e), (K, k, some, same))
 
 -- what it is the form of, by an equal modulus and matrix
 pub form_same : (q p : ℕ) (M W : Matrix) (f : Form) → q ≡ p → M ≡ W → IsFormOf q M f → IsFormOf p W f

@@ -1,6 +1,7 @@
+pub mod AtLeads
 pub mod Basis
+pub mod Free
 pub mod Inverting
 pub mod Matrices
-pub mod Negated
-pub mod Splitting
 pub mod Read
+pub mod RightHalf

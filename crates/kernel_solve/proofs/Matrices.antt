@@ -1,38 +1,23 @@
 -- The entries of matrices put together of others, and that they are matrices of residues.
-use Rattle.std.proofs.Common.{ℕ, ◌≡◌, ◌+◌, ◌-◌, ◌%◌, ◌<◌, ◌≤◌, inl, inr, List, [], ◌∷◌, ◌++◌, length, map, slice_index, slice_index_or, cond, eqb, refl, sym, ap, ap₂, ◌∙◌, arith, mod-lt}
+use Rattle.std.proofs.Common.{ℕ, ◌≡◌, ◌+◌, ◌-◌, ◌<◌, ◌≤◌, inl, inr, List, [], ◌∷◌, ◌++◌, length, map, slice_index, slice_index_or, cond, eqb, refl, sym, ap, ap₂, ◌∙◌, arith}
 use Rattle.std.specs.List.{range_with_len}
 use Rattle.std.proofs.lemmas.Bool.{cases_eq, cases_lt, cond-true, cond-false, eq-eqb, ne_eqb}
-use Rattle.std.proofs.lemmas.List.{get_or-map, get_or_append_left, get_or-append_right, length-append, length-map}
+use Rattle.std.proofs.lemmas.List.{get_or_append_left, get_or-append_right, length-append}
 use Rattle.std.proofs.lemmas.List.FromFn.{get_or-map-range_with_len, length-map-range_with_len}
 use Rattle.residue_words.specs.Matrix.{Matrix, IsMatrix, IsVector, entry, row}
-use Rattle.residue_words.proofs.Vectors.{at_list_of, entry_matrix_of, entry_residue, is_matrix_of, vector_of}
-use Rattle.sparse_rows.specs.Rows.{beside, identity, selected, transposed}
+use Rattle.residue_words.proofs.Vectors.{at_list_of, entry_matrix_of, entry_residue, is_matrix_of, length_list_of, list_equal, vector_of}
+use Rattle.sparse_rows.specs.Rows.{beside, identity, transposed}
+use Rattle.sparse_rows.proofs.Loops.{sized}
 use Rattle.sparse_rows.proofs.Spread.{map_range_equal}
-use Rattle.row_space.specs.Solution.{beside as with_side}
-use Rattle.kernel_solve.specs.Columns.{arranged, column, negated}
+use Rattle.row_space.specs.Solution.{augmented}
+use Rattle.kernel_solve.specs.Column.{column, column_of}
 
 -- a transposed matrix
 pub transposed_entry : (M : Matrix) (i j : ℕ) → i < M.width → j < M.height → entry (transposed M) i j ≡ entry M j i
 transposed_entry M i j a b = entry_matrix_of M.width M.height (λ i j. entry M j i) i j a b
 
-pub transposed_matrix : {p : ℕ} {M : Matrix} → IsMatrix p M → IsMatrix p (transposed M)
-transposed_matrix {p} {M} m = is_matrix_of p M.width M.height (λ i j. entry M j i) (λ i j a b. entry_residue p M m j i b a)
-
--- selected rows
-pub selected_row : (M : Matrix) (named : List ℕ) (i : ℕ) → i < length named → row (selected M named) i ≡ row M (slice_index named i)
-selected_row M named i l = get_or-map (row M) named i 0 [] l
-
-pub selected_entry : (M : Matrix) (named : List ℕ) (i j : ℕ) → i < length named → entry (selected M named) i j ≡ entry M (slice_index named i) j
-selected_entry M named i j l = ap (λ u. slice_index u j) (selected_row M named i l)
-
-pub selected_matrix : {p : ℕ} {M : Matrix} → IsMatrix p M → (named : List ℕ) → ((i : ℕ) → i < length named → slice_index named i < M.height) → IsMatrix p (selected M named)
-selected_matrix {p} {M} m named inside = record {
-  len = length-map named (row M);
-  each = λ i l. rw (selected_row M named i l) (m.each (slice_index named i) (inside i l));
-}
-
 -- two matrices side by side
-pub beside_row : (A B : Matrix) (i : ℕ) → i < A.height → row (beside A B) i ≡ row A i ++ row B i
+beside_row : (A B : Matrix) (i : ℕ) → i < A.height → row (beside A B) i ≡ row A i ++ row B i
 beside_row A B i l = get_or-map-range_with_len (λ i. row A i ++ row B i) 0 A.height i i [] l (omega arith)
 
 pub beside_left : {p : ℕ} {A : Matrix} → IsMatrix p A → (B : Matrix) (i j : ℕ) → i < A.height → j < A.width → entry (beside A B) i j ≡ entry A i j
@@ -65,11 +50,7 @@ one_item d (x ∷ y ∷ xs) e = absurd (omega arith)
 pub column_vector : {p : ℕ} {B : Matrix} → IsMatrix p B → 0 < B.width → IsVector p B.height (column B)
 column_vector {p} {B} m some = vector_of p B.height (λ i. entry B i 0) (λ i l. entry_residue p B m i 0 l some)
 
-sized : ℕ → ℕ → List (List ℕ) → Matrix
-sized h w r = record { height = h; width = w; rows = r }
-
-pub beside_column : {p : ℕ} (A : Matrix) {B : Matrix} → IsMatrix p B → A.height ≡ B.height → B.width ≡ 1 → beside A B ≡ with_side A (column B)
-unfolding sized
+pub beside_column : {p : ℕ} (A : Matrix) {B : Matrix} → IsMatrix p B → A.height ≡ B.height → B.width ≡ 1 → beside A B ≡ augmented A (column B)
 beside_column {p} A {B} m heights narrow =
     let g : ℕ → List ℕ = λ i. row A i ++ row B i in
     let f : ℕ → List ℕ = λ i. row A i ++ slice_index (column B) i ∷ [] in
@@ -78,15 +59,8 @@ beside_column {p} A {B} m heights narrow =
     ap (λ u. row A i ++ u) (one_item 0 (row B i) ((m.each i inside).len ∙ narrow) ∙ ap (λ x. x ∷ []) (sym (at_list_of B.height (λ i. entry B i 0) i inside))) in
     ap (λ w. sized A.height (A.width + w) (map g (range_with_len 0 A.height))) narrow ∙ ap (sized A.height (A.width + 1)) (map_range_equal g f 0 A.height same)
 
--- the negative matrix
-pub negated_entry : (p : ℕ) (M : Matrix) (i j : ℕ) → i < M.height → j < M.width → entry (negated p M) i j ≡ (p - entry M i j) % p
-negated_entry p M i j a b = entry_matrix_of M.height M.width (λ i j. (p - entry M i j) % p) i j a b
-
-pub negated_matrix : (p : ℕ) (M : Matrix) → 0 < p → IsMatrix p (negated p M)
-negated_matrix p M pos = is_matrix_of p M.height M.width (λ i j. (p - entry M i j) % p) (λ i j a b. mod-lt _ pos)
-
 -- the identity
-pub identity_entry : (n i j : ℕ) → i < n → j < n → entry (identity n) i j ≡ cond (eqb i j) 1 0
+identity_entry : (n i j : ℕ) → i < n → j < n → entry (identity n) i j ≡ cond (eqb i j) 1 0
 identity_entry n i j a b = entry_matrix_of n n (λ i j. cond (eqb i j) 1 0) i j a b
 
 pub identity_same : (n i : ℕ) → i < n → entry (identity n) i i ≡ 1
@@ -101,15 +75,12 @@ identity_matrix p n two = is_matrix_of p n n (λ i j. cond (eqb i j) 1 0) (λ i 
   | inr d ↦ omega (arith, cond-false {A = ℕ} (eqb i j) 1 0 (ne_eqb i j d))
 ])
 
--- the columns of [A | B] in an order
-pub arranged_left : {p : ℕ} {A : Matrix} → IsMatrix p A → (B : Matrix) (order : List ℕ) (j i k : ℕ) → j < length order → i < A.height → slice_index order j ≡ k → k < A.width →
-    entry (arranged A B order) j i ≡ entry A i k
-arranged_left {p} {A} m B order j i k a b e l =
-    selected_entry (transposed (beside A B)) order j i a ∙ ap (λ t. entry (transposed (beside A B)) t i) e
-    ∙ transposed_entry (beside A B) k i (omega arith) b ∙ beside_left m B i k b l
+-- the column of a list is the list
+pub column_again : (x : List ℕ) → column (column_of x) ≡ x
+column_again x =
+    list_equal (length x) (column (column_of x)) x (length_list_of (length x) _) refl (λ i l.
+    at_list_of (length x) _ i l ∙ entry_matrix_of (length x) 1 (λ i j. slice_index x i) i 0 l (omega arith))
 
-pub arranged_right : {p : ℕ} {A : Matrix} → IsMatrix p A → (B : Matrix) (order : List ℕ) (j i k : ℕ) → j < length order → i < A.height → slice_index order j ≡ A.width + k → k < B.width →
-    entry (arranged A B order) j i ≡ entry B i k
-arranged_right {p} {A} m B order j i k a b e l =
-    selected_entry (transposed (beside A B)) order j i a ∙ ap (λ t. entry (transposed (beside A B)) t i) e
-    ∙ transposed_entry (beside A B) (A.width + k) i (omega arith) b ∙ beside_right m B i k b
+-- of residues it is a matrix of residues
+pub column_matrix : {p : ℕ} {x : List ℕ} → IsVector p (length x) x → IsMatrix p (column_of x)
+column_matrix {p} {x} v = is_matrix_of p (length x) 1 (λ i j. slice_index x i) (λ i j a b. v.residues i a)

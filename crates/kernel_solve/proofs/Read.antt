@@ -1,126 +1,93 @@
 -- The reduced solution is read off an echelon form, and the refuting system is put together.
-use Rattle.std.proofs.Common.{ℕ, ◌≡◌, ◌+◌, ◌-◌, ◌<◌, ◌≤◌, inl, inr, List, [], ◌∷◌, ◌++◌, length, map, slice_index, slice_set, sym, refl, ap, ap₂, subst, ◌∙◌, arith}
+use Rattle.std.proofs.Common.{ℕ, ◌≡◌, ◌+◌, ◌-◌, ◌<◌, ◌≤◌, inl, inr, List, [], ◌∷◌, ◌++◌, length, map, slice_index, slice_set, sym, ap, ap₂, subst, ◌∙◌, arith}
 use Rattle.std.specs.List.{range_with_len}
-use Rattle.std.proofs.lemmas.List.{get_or-set_other, get_or-set_same, length-set}
-use Rattle.std.proofs.lemmas.List.FromFn.{map-range_with_len_more}
+use Rattle.std.proofs.lemmas.Bool.{cases_eq}
+use Rattle.std.proofs.lemmas.List.{get_or-set_other, get_or-set_same, get_or_append_left, get_or_push, length_push}
+use Rattle.std.proofs.lemmas.List.FromFn.{length-map-range_with_len}
 use Rattle.residue_words.specs.Matrix.{Matrix, IsMatrix, IsVector, entry, list_of, row, zeros}
-use Rattle.residue_words.proofs.Vectors.{at_list_of, at_zeros, length_list_of, list_of_equal, row_matrix_of, zeros_vector}
-use Rattle.sparse_rows.specs.Rows.{beside, selected, transposed}
+use Rattle.residue_words.proofs.Vectors.{at_list_of, at_zeros, length_list_of, list_equal, list_of_more, row_matrix_of}
+use Rattle.sparse_rows.specs.Rows.{beside, transposed}
+use Rattle.sparse_rows.specs.Stored.{with_row}
+use Rattle.sparse_rows.proofs.Loops.{sized}
 use Rattle.sparse_rows.proofs.Spread.{map_range_equal}
 use Rattle.row_space.specs.Echelon.{HasLeads, IsRref}
-use Rattle.row_space.specs.Solution.{IsReducedSolution, IsSolution, beside as with_side, refuting_system}
+use Rattle.row_space.specs.Solution.{IsReducedSolution, IsSolution, augmented, refuting_rows, refuting_side}
 use Rattle.row_space.proofs.ReadOff.{last_lead, solution_read}
-use Rattle.row_space.proofs.Refuting.{system_is}
-use Rattle.kernel_solve.specs.Columns.{AreColumns, arranged, column}
-use Rattle.kernel_solve.proofs.Matrices.{arranged_left, arranged_right, beside_left, beside_matrix, beside_right, selected_entry, selected_matrix, transposed_entry, transposed_matrix}
-use Rattle.kernel_solve.proofs.Splitting.{order_below}
+use Rattle.row_space.proofs.Refuting.{refuting_column, refuting_end}
+use Rattle.kernel_solve.specs.Column.{column, column_at, column_of}
+use Rattle.kernel_solve.specs.ReadOff.{IsAtLeads}
+use Rattle.kernel_solve.proofs.AtLeads.{lead_or_none}
+use Rattle.kernel_solve.proofs.Matrices.{beside_column, beside_left, beside_right, column_vector}
 
--- the matrix with one row
-abbrev pub one_of : List ℕ → Matrix
-one_of v = record { height = 1; width = length v; rows = v ∷ [] }
+-- where a column of residues has the last column's entries at the leads, and 0 elsewhere, it is the reduced solution
+module _ (p : ℕ) (A B E : Matrix) (leads : List ℕ) (two : 2 ≤ p) (ma : IsMatrix p A) (mb : IsMatrix p B) (heights : A.height ≡ B.height) (narrow : B.width ≡ 1)
+    (rref : IsRref p (beside A B) E) (has : HasLeads E leads) where
+  side_vector : IsVector p A.height (column B)
+  side_vector = subst (λ n. IsVector p n (column B)) (sym heights) (column_vector mb (omega arith))
 
-one_matrix : {p : ℕ} (v : List ℕ) → IsVector p (length v) v → IsMatrix p (one_of v)
-one_matrix {p} v h = record {
-  len = refl;
-  each = λ i l. let z : i ≡ 0 = omega arith in subst (λ i. IsVector p (length v) (row (one_of v) i)) (sym z) h;
-}
+  form_of_side : IsRref p (augmented A (column B)) E
+  form_of_side = subst (λ m. IsRref p m E) (beside_column A mb heights narrow) rref
 
--- of a zero row it is a matrix of residues
-pub zero_matrix : (p n : ℕ) (v : List ℕ) → 0 < p → v ≡ zeros n → IsMatrix p (one_of v)
-zero_matrix p n v pos e = one_matrix v (rw e (subst (λ k. IsVector p k (zeros n)) (sym (length_list_of n (λ j. 0))) (zeros_vector p n pos)))
-
--- the column read off a form at its last column
-abbrev pub column_of : Matrix → ℕ → List ℕ → List ℕ → Matrix
-column_of E last z order = arranged (selected (transposed E) (last ∷ [])) (one_of z) order
-
-module _ (p : ℕ) (E : Matrix) (last : ℕ) (leads free order z : List ℕ) (two : 2 ≤ p) (m : IsMatrix p E) (inside : last < E.width) (long : length leads ≡ E.height)
-    (c : AreColumns last leads free order) (zero_side : z ≡ zeros (length free)) where
-  abbrev left : Matrix
-  left = selected (transposed E) (last ∷ [])
-
-  left_matrix : IsMatrix p left
-  left_matrix = selected_matrix (transposed_matrix m) (last ∷ []) (λ i l. let e : i ≡ 0 = omega arith in omega (arith, ap (slice_index (last ∷ [])) e))
-
-  long_side : length z ≡ length free
-  long_side = ap length zero_side ∙ length_list_of (length free) (λ j. 0)
-
-  side_matrix : IsMatrix p (one_of z)
-  side_matrix = zero_matrix p (length free) z (omega arith) zero_side
-
-  -- it is a column of residues
-  pub column_matrix : IsMatrix p (column_of E last z order)
-  column_matrix =
-      selected_matrix (transposed_matrix (beside_matrix left_matrix side_matrix refl)) order
-      (λ j l. omega (arith, order_below c j (omega (arith, c.order_long)), c.free_long, long_side))
-
-  column_at_lead : (k : ℕ) → k < E.height → slice_index leads k < last → entry (column_of E last z order) (slice_index leads k) 0 ≡ entry E k last
-  column_at_lead k l below =
-      arranged_left left_matrix (one_of z) order (slice_index leads k) 0 k (omega (arith, c.order_long)) (omega arith) (c.at_lead k (omega arith)) l
-      ∙ selected_entry (transposed E) (last ∷ []) 0 k (omega arith) ∙ transposed_entry E last k inside l
-
-  column_at_free : (g : ℕ) → g < length free → entry (column_of E last z order) (slice_index free g) 0 ≡ 0
-  column_at_free g l =
-      arranged_right left_matrix (one_of z) order (slice_index free g) 0 g (omega (arith, c.order_long, c.free_below g l)) (omega arith) (c.at_free g l ∙ ap (λ x. x + g) long) (omega (arith, long_side))
-      ∙ ap (λ v. slice_index v g) zero_side ∙ at_zeros (length free) g l
-
-  -- it is the reduced solution
-  pub column_solves : (A : Matrix) (b : List ℕ) → IsMatrix p A → IsVector p A.height b → IsRref p (with_side A b) E → HasLeads E leads →
-      ((k : ℕ) → k < length leads → slice_index leads k < last) → last ≡ A.width → IsReducedSolution p A b (column (column_of E last z order))
-  column_solves A b ma vb rref has below same =
-      let X : Matrix = column_of E last z order in
-      let x : List ℕ = column X in
-      let at : (j : ℕ) → j < last → slice_index x j ≡ entry X j 0 = λ j l. at_list_of X.height (λ i. entry X i 0) j (omega (arith, c.order_long)) in
-      solution_read p A b E leads x two ma vb rref has (λ k l. omega (arith, below k (omega arith)))
-      (record {
-        len = length_list_of X.height (λ i. entry X i 0) ∙ c.order_long ∙ same;
-        residues = λ j l. omega (arith, at j (omega arith), (column_matrix.each j (omega (arith, c.order_long))).residues 0 (omega arith));
-      })
-      (λ k l. at (slice_index leads k) (below k (omega arith)) ∙ column_at_lead k l (below k (omega arith)) ∙ ap (entry E k) same)
-      (λ j l. elim (c.each j (omega arith)) [
-        | inl w ↦ inr (w.0, omega (arith, w.1), w.2)
-        | inr w ↦ inl (at j (omega arith) ∙ ap (λ t. entry X t 0) (sym w.2) ∙ column_at_free w.0 w.1)
+  pub column_solves : (X : Matrix) (last : ℕ) → IsMatrix p X → X.height ≡ last → X.width ≡ 1 → last ≡ A.width → IsAtLeads leads (column_at E last) (column X) →
+      ((k : ℕ) → k < length leads → slice_index leads k < last) → IsReducedSolution p A (column B) (column X)
+  column_solves X last m tall narrow_too same at below =
+      let long : length (column X) ≡ X.height = length_list_of X.height (λ i. entry X i 0) in
+      solution_read p A (column B) E leads (column X) two ma side_vector form_of_side has (λ k l. omega (arith, below k (omega (arith, has.0))))
+      (subst (λ n. IsVector p n (column X)) (tall ∙ same) (column_vector m (omega arith)))
+      (λ k l. at.at_lead k (omega (arith, has.0)) ∙ at_list_of E.height (λ i. entry E i last) k l ∙ ap (entry E k) same)
+      (λ j l. elim (lead_or_none leads j) [
+        | inl w ↦ inr (w.0, omega (arith, w.1, has.0), w.2)
+        | inr none ↦ inl (at.elsewhere j (omega arith) none)
       ])
 
--- the matrix of this size with these rows
-abbrev sized : ℕ → ℕ → List (List ℕ) → Matrix
-sized h w r = record { height = h; width = w; rows = r }
+  -- a lead in the last column refutes
+  pub lead_refutes : 0 < length leads → slice_index leads (length leads - 1) ≡ A.width → (x : List ℕ) → IsSolution p A (column B) x → ⊥
+  lead_refutes some e = last_lead p A (column B) E leads (length leads - 1) two ma side_vector form_of_side has (omega (arith, has.0)) e
 
--- [A | B] transposed, with the side behind it, is the refuting system
-pub system_put : (p : ℕ) (A B : Matrix) (side : List ℕ) → IsMatrix p A → B.width ≡ 1 → A.height ≡ B.height → side ≡ slice_set (zeros (A.width + 1)) A.width 1 →
-    beside (transposed (beside A B)) (transposed (one_of side)) ≡ refuting_system A (column B)
-system_put p A B side m narrow heights e =
-    let T : Matrix = transposed (beside A B) in
-    let S : Matrix = transposed (one_of side) in
+-- [A | B] with the row (0, .., 0, 1) below, transposed, is the refuting system
+pub refuting_put : (p : ℕ) (A B S : Matrix) (last : List ℕ) → IsMatrix p A → B.width ≡ 1 → A.height ≡ B.height → S ≡ beside A B →
+    last ≡ slice_set (zeros (A.width + 1)) A.width 1 → transposed (with_row S last) ≡ beside (refuting_rows A (column B)) (column_of (refuting_side A.width))
+refuting_put p A B S last ma narrow heights made e =
     let w : ℕ = A.width in
-    let g : ℕ → List ℕ = λ j. row T j ++ row S j in
-    let f : ℕ → List ℕ = λ j. list_of A.height (λ i. entry A i j) ++ 0 ∷ [] in
-    let zero_row_long : length (zeros (w + 1)) ≡ w + 1 = length_list_of (w + 1) (λ j. 0) in
-    let side_long : length side ≡ w + 1 = ap length e ∙ length-set (zeros (w + 1)) w 1 ∙ zero_row_long in
-    let side_row : (j : ℕ) → j < w + 1 → row S j ≡ slice_index side j ∷ [] = λ j l. row_matrix_of (length side) 1 (λ i j. entry (one_of side) j i) j (omega arith) in
-    let side_zero : (j : ℕ) → j < w → slice_index side j ≡ 0 = λ j l. ap (λ u. slice_index u j) e ∙ get_or-set_other (zeros (w + 1)) w j 1 0 (λ q. omega arith) ∙ at_zeros (w + 1) j (omega arith) in
-    let side_one : slice_index side w ≡ 1 = ap (λ u. slice_index u w) e ∙ get_or-set_same (zeros (w + 1)) w 1 0 (omega arith) in
-    let first : (j : ℕ) → 0 ≤ j → j < 0 + w → g j ≡ f j = λ j a l.
-    ap₂ (λ u v. u ++ v)
-    (row_matrix_of (w + B.width) A.height (λ i j. entry (beside A B) j i) j (omega arith) ∙ list_of_equal A.height _ _ (λ i o. beside_left m B i j o (omega arith)))
-    (side_row j (omega arith) ∙ ap (λ x. x ∷ []) (side_zero j (omega arith))) in
-    let last : g w ≡ list_of A.height (slice_index (column B)) ++ 1 ∷ [] =
-    ap₂ (λ u v. u ++ v)
-    (row_matrix_of (w + B.width) A.height (λ i j. entry (beside A B) j i) w (omega arith)
-    ∙ list_of_equal A.height _ _ (λ i o.
-    ap (entry (beside A B) i) (let q : w ≡ w + 0 = omega arith in q) ∙ beside_right m B i 0 o ∙ sym (at_list_of B.height (λ i. entry B i 0) i (omega arith))))
-    (side_row w (omega arith) ∙ ap (λ x. x ∷ []) side_one) in
+    let h : ℕ = A.height in
+    let b : List ℕ = column B in
+    let side : List ℕ = refuting_side w in
+    let T : Matrix = with_row (beside A B) last in
+    let f : ℕ → List ℕ = λ j. list_of (h + 1) (λ i. entry T i j) in
+    let g : ℕ → List ℕ = λ j. row (refuting_rows A b) j ++ row (column_of side) j in
+    let tall : length (beside A B).rows ≡ h = length-map-range_with_len (λ i. row A i ++ row B i) 0 h in
+    let zeros_long : length (zeros w) ≡ w = length_list_of w (λ j. 0) in
+    let side_long : length side ≡ w + 1 = length_push (zeros w) 1 ∙ ap (λ n. n + 1) zeros_long in
+    let below : (j : ℕ) → j < w + 1 → entry T h j ≡ slice_index side j = λ j l.
+    ap (λ u. slice_index u j) (get_or_push (beside A B).rows last [] h tall ∙ e) ∙ elim (cases_eq j w) [
+      | inl q ↦
+          ap (slice_index (slice_set (zeros (w + 1)) w 1)) q ∙ get_or-set_same (zeros (w + 1)) w 1 0 (omega (arith, length_list_of (w + 1) (λ j. 0)))
+          ∙ sym (ap (slice_index side) q ∙ get_or_push (zeros w) 1 0 w zeros_long)
+      | inr d ↦
+          get_or-set_other (zeros (w + 1)) w j 1 0 d ∙ at_zeros (w + 1) j l
+          ∙ sym (get_or_append_left (zeros w) (1 ∷ []) 0 j (omega arith) ∙ at_zeros w j (omega arith))
+    ] in
+    let above : (i j : ℕ) → i < h → j < w + 1 → entry T i j ≡ slice_index (row (refuting_rows A b) j) i = λ i j l o.
+    ap (λ u. slice_index u j) (get_or_append_left (beside A B).rows (last ∷ []) [] i (omega arith)) ∙ elim (cases_eq j w) [
+      | inl q ↦
+          ap (entry (beside A B) i) (let t : j ≡ w + 0 = omega arith in t) ∙ beside_right ma B i 0 l
+          ∙ sym (ap (λ t. slice_index (row (refuting_rows A b) t) i) q ∙ ap (λ u. slice_index u i) (refuting_end A b) ∙ at_list_of h (slice_index b) i l ∙ at_list_of B.height (λ i. entry B i 0) i (omega arith))
+      | inr d ↦
+          let low : j < w = omega arith in
+          beside_left ma B i j l low ∙ sym (ap (λ u. slice_index u i) (refuting_column A b j low) ∙ at_list_of h (λ i. entry A i j) i l)
+    ] in
+    let same : (j : ℕ) → 0 ≤ j → j < 0 + (w + 1) → f j ≡ g j = λ j a l.
+    list_of_more h (λ i. entry T i j)
+    ∙ ap₂ (λ u t. u ++ t ∷ [])
+    (list_equal h (list_of h (λ i. entry T i j)) (row (refuting_rows A b) j) (length_list_of h (λ i. entry T i j)) (refuting_long A b j (omega arith))
+    (λ i o. at_list_of h (λ i. entry T i j) i o ∙ above i j o (omega arith)))
+    (below j (omega arith))
+    ∙ ap (λ u. row (refuting_rows A b) j ++ u) (sym (row_matrix_of (length side) 1 (λ i k. slice_index side i) j (omega arith))) in
     let size : w + B.width ≡ w + 1 = omega arith in
-    ap (λ h. sized h (A.height + 1) (map g (range_with_len 0 h))) size
-    ∙ ap (sized (w + 1) (A.height + 1)) (map-range_with_len_more g 0 w w (omega arith) ∙ ap₂ (λ u v. u ++ v ∷ []) (map_range_equal g f 0 w first) last)
-    ∙ system_is A (column B)
-
--- the steps that build the column
-pub column_made : (E F by_column chosen side both : Matrix) (last : ℕ) (z order placed : List ℕ) → F ≡ E → by_column ≡ transposed F → chosen ≡ selected by_column (last ∷ []) → side ≡ one_of z →
-    both ≡ arranged chosen side placed → placed ≡ order → both ≡ column_of E last z order
-column_made E F by_column chosen side both last z order placed a b c d e f =
-    e ∙ ap₂ (λ l r. arranged l r placed) (c ∙ ap (λ m. selected m (last ∷ [])) (b ∙ ap transposed a)) d ∙ ap (arranged (selected (transposed E) (last ∷ [])) (one_of z)) f
-
--- a lead in the last column refutes
-pub lead_refutes : (p : ℕ) (A : Matrix) (b : List ℕ) (E : Matrix) (leads : List ℕ) → 2 ≤ p → IsMatrix p A → IsVector p A.height b → IsRref p (with_side A b) E → HasLeads E leads →
-    0 < length leads → slice_index leads (length leads - 1) ≡ A.width → (x : List ℕ) → IsSolution p A b x → ⊥
-lead_refutes p A b E leads two m v rref has some e = last_lead p A b E leads (length leads - 1) two m v rref has (omega (arith, has.0)) e
+    ap (λ M. transposed (with_row M last)) made ∙ ap (λ n. sized n (h + 1) (map f (range_with_len 0 n))) size ∙ ap (sized (w + 1) (h + 1)) (map_range_equal f g 0 (w + 1) same)
+  where
+    refuting_long : (A : Matrix) (b : List ℕ) (j : ℕ) → j < A.width + 1 → length (row (refuting_rows A b) j) ≡ A.height
+    refuting_long A b j l = elim (cases_eq j A.width) [
+      | inl q ↦ ap (λ t. length (row (refuting_rows A b) t)) q ∙ ap length (refuting_end A b) ∙ length_list_of A.height (slice_index b)
+      | inr d ↦ ap length (refuting_column A b j (omega arith)) ∙ length_list_of A.height (λ i. entry A i j)
+    ]

@@ -4,7 +4,7 @@ use Rattle.residue_words.specs.Matrix.{Matrix, IsMatrix}
 use Rattle.row_space.specs.Solution.{IsReducedSolution, IsSolution}
 use Rattle.kernel_solve.specs.declared.systems.Found.{Found}
 use Rattle.kernel_solve.specs.declared.systems.Found.TheVariants.{Solution, Inconsistent}
-use Rattle.kernel_solve.specs.Columns.{column}
+use Rattle.kernel_solve.specs.Column.{column}
 
 -- the reduced solution of A x = b as a column, or that there is no solution
 abbrev pub Answers : ℕ → Matrix → List ℕ → Found → Type 0
@@ -13,5 +13,6 @@ Answers p A b Inconsistent = (x : List ℕ) → ¬ IsSolution p A b x
 
 -- a column of residues modulo p, one row fewer than n, or nothing
 abbrev pub HasShape : ℕ → ℕ → Found → Type 0
-HasShape p n (Solution x) = (x.modulus ≡ p) × IsMatrix p x.matrix × (x.matrix.height + 1 ≡ n) × (x.matrix.width ≡ 1)
+HasShape p n (Solution x) =
+    (x.modulus ≡ p) × IsMatrix p x.matrix × (x.matrix.height + 1 ≡ n) × (x.matrix.width ≡ 1)
 HasShape p n Inconsistent = Unit {0}

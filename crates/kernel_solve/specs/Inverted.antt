@@ -10,9 +10,12 @@ use Rattle.kernel_solve.specs.declared.outcome.Inverse.TheVariants.{Of, Singular
 abbrev pub Inverts : ℕ → Matrix → Inverse → Type 0
 Inverts p A (Of b) = IsInverse p A b.matrix
 Inverts p A (Singular v) =
-    IsNull p A (row v.matrix 0) × (row v.matrix 0 ≢ zeros A.width) × ((K : Matrix) × IsKernel p A K × (0 < K.height) × (row v.matrix 0 ≡ row K 0))
+    IsNull p A (row v.matrix 0) × (row v.matrix 0 ≢ zeros A.width)
+    × ((K : Matrix) × IsKernel p A K × (0 < K.height) × (row v.matrix 0 ≡ row K 0))
 
 -- residues modulo p, n rows and n columns or one row of n
 abbrev pub HasInverseShape : ℕ → ℕ → Inverse → Type 0
-HasInverseShape p n (Of b) = (b.modulus ≡ p) × IsMatrix p b.matrix × (b.matrix.height ≡ n) × (b.matrix.width ≡ n)
-HasInverseShape p n (Singular v) = (v.modulus ≡ p) × IsMatrix p v.matrix × (v.matrix.height ≡ 1) × (v.matrix.width ≡ n)
+HasInverseShape p n (Of b) =
+    (b.modulus ≡ p) × IsMatrix p b.matrix × (b.matrix.height ≡ n) × (b.matrix.width ≡ n)
+HasInverseShape p n (Singular v) =
+    (v.modulus ≡ p) × IsMatrix p v.matrix × (v.matrix.height ≡ 1) × (v.matrix.width ≡ n)

@@ -1,3 +1,4 @@
-pub mod Columns
+pub mod Column
 pub mod Found
 pub mod Inverted
+pub mod ReadOff

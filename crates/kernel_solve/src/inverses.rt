@@ -1,23 +1,24 @@
 // Inverses.
-ghost use Rattle.std.specs.Prelude.{◌≡◌, ◌<◌, ◌≤◌, ◌+◌, ◌-◌, ◌↔◌, ℕ, All, length, slice_index, IfOk, IsTrue};
+ghost use Rattle.std.specs.Prelude.{◌≡◌, ◌<◌, ◌≤◌, ◌+◌, ◌*◌, ◌-◌, ◌↔◌, ℕ, length, slice_index, IfOk, OnOk, IsTrue};
 ghost use Rattle.residue_words.specs.Residues.{IsPrime};
-ghost use Rattle.residue_words.specs.Matrix.{Matrix, IsMatrix, row};
-ghost use Rattle.sparse_rows.specs.Rows.{beside, identity, transposed};
+ghost use Rattle.residue_words.specs.Matrix.{Matrix, IsMatrix, entry, list_of, row};
+ghost use Rattle.sparse_rows.specs.declared.rows.TheConstants.{LARGEST_SIZE};
+ghost use Rattle.sparse_rows.specs.Rows.{beside, identity, matrix_by};
 ghost use Rattle.row_space.specs.Kernel.{IsKernel};
 ghost use Rattle.echelon_form.specs.Form.{IsFormOf};
-ghost use Rattle.kernel_solve.specs.Columns.{right_half};
 ghost use Rattle.kernel_solve.specs.Inverted.{HasInverseShape, Inverts};
+ghost use Rattle.kernel_solve.specs.ReadOff.{IsFree};
 
-use crate::bases::kernel;
+use crate::bases::write_basis_row;
+use crate::columns::column_at;
 use crate::outcome::Inverse;
-use crate::systems::one_row;
 use echelon_form::Echelon;
 use sparse_rows::{Rows, Sparse};
 use std::alloc::{AllocError, Global};
 use std::thread::Threads;
 
-/// The inverse of a square matrix A, or the first row of its kernel basis. It reads off the echelon form of the transposed
-/// matrix beside the identity, and where A has no inverse that of A too.
+/// The inverse of a square matrix A of at most 2^30 rows, or the first row of its kernel basis. It is read off the
+/// echelon form of [A | I] (the method of Gauss and Jordan), and where A has no inverse off that of A.
 pub fn inverse<R: Threads + Sync>(
     rt: &R,
     alloc: Global,
@@ -25,40 +26,43 @@ pub fn inverse<R: Threads + Sync>(
     workers: u32,
 ) -> Result<Inverse, AllocError>
     requires square { a.now.matrix.height ≡ a.now.matrix.width }
-    requires small { a.now.matrix.width ≤ 1073741824 }
+    requires small { 2 * a.now.matrix.width ≤ LARGEST_SIZE }
     requires some { 1 ≤ workers }
     requires few { workers ≤ 64 }
     ensures shape { IfOk result (λ found. HasInverseShape a.now.modulus a.now.matrix.width found) }
-    ensures inverse { IfOk result (λ found. IsPrime a.now.modulus → Inverts a.now.modulus a.now.matrix found) }
+    ensures inverse { IfOk result (λ found.
+        IsPrime a.now.modulus → Inverts a.now.modulus a.now.matrix found) }
 {
-    let width = a.width();
-    let form = both_form(rt, alloc, a, workers)?;
-    if fills(form.leads(), width) {
-        return Ok(Inverse::Of(right_half(alloc, form.rows(), width)?));
+    let n = a.height();
+    // With fewer entries than rows there is a row of zeros: no I of 2^30 rows is made for a matrix of few entries.
+    if a.entries() < u64::from(n) {
+        return Ok(Inverse::Singular(null_row(rt, alloc, a, workers)?));
+    }
+    let form = form_beside_identity(rt, alloc, a, workers)?;
+    if fills(form.leads(), n) {
+        return Ok(Inverse::Of(right_half(alloc, form.rows(), n)?));
     }
     drop(form);
     Ok(Inverse::Singular(null_row(rt, alloc, a, workers)?))
 }
 
-// The echelon form of the transposed matrix beside the identity.
-fn both_form<R: Threads + Sync>(
+// The echelon form of [A | I].
+fn form_beside_identity<R: Threads + Sync>(
     rt: &R,
     alloc: Global,
     a: &Rows,
     workers: u32,
 ) -> Result<Echelon, AllocError>
     requires square { a.now.matrix.height ≡ a.now.matrix.width }
-    requires small { a.now.matrix.width ≤ 1073741824 }
+    requires small { 2 * a.now.matrix.width ≤ LARGEST_SIZE }
     requires some { 1 ≤ workers }
     requires few { workers ≤ 64 }
-    ensures sound { IsMatrix a.now.modulus a.now.matrix }
-    ensures form { IfOk result (λ form. IsFormOf a.now.modulus (beside (transposed a.now.matrix) (identity a.now.matrix.width)) form) }
+    ensures { IfOk result (IsFormOf a.now.modulus (beside a.now.matrix (identity a.now.matrix.width))) }
 {
     let modulus = a.modulus();
-    let transposed = a.transpose(alloc)?;
     let identity = Rows::identity(alloc, a.width(), &modulus)?;
-    let both = transposed.beside(alloc, &identity)?;
-    drop((transposed, identity));
+    let both = a.beside(alloc, &identity)?;
+    drop(identity);
     Echelon::of(rt, alloc, &both, workers)
 }
 
@@ -69,22 +73,47 @@ fn fills(leads: &[u32], n: u32) -> bool
     leads.len() == n as usize && (n == 0 || leads[n as usize - 1] < n)
 }
 
-// The columns n to 2 n - 1, as rows.
+// The matrix of n rows of 2 n entries from column n on.
 fn right_half(alloc: Global, rows: &Rows, n: u32) -> Result<Rows, AllocError>
-    requires small { n ≤ 1073741824 }
+    requires small { 2 * n ≤ LARGEST_SIZE }
+    requires height { rows.now.matrix.height ≡ n }
     requires width { rows.now.matrix.width ≡ n + n }
     ensures modulus { IfOk result (λ half. half.modulus ≡ rows.now.modulus) }
-    ensures matrix { IfOk result (λ half. half.matrix ≡ right_half n rows.now.matrix) }
+    ensures matrix { IfOk result (λ half.
+        half.matrix ≡ matrix_by n n (λ i j. entry rows.now.matrix i (n + j))) }
 {
-    let columns = rows.transpose(alloc)?;
-    let mut named = Vec::with_capacity(alloc, n as usize)?;
-    for k in 0..n {
-        named.push(n + k)?;
+    let mut half = Rows::with_room(alloc, rows.modulus(), n, n, rows.entries() as usize)?;
+    let mut row = Sparse::new(alloc, n, rows.modulus());
+    for i in 0..n {
+        row.clear();
+        copy_right_half(rows, i, n, &mut row)?;
+        half.append(&row)?;
     }
-    columns.select(alloc, &named)
+    Ok(half)
 }
 
-// The first row of the kernel basis; a zero row where there is none.
+// Sets a zero row of n entries to row i from column n on.
+fn copy_right_half(rows: &Rows, i: u32, n: u32, to: &mut Sparse) -> Result<(), AllocError>
+    requires row { i < rows.now.matrix.height }
+    requires modulus { to.old.modulus ≡ rows.now.modulus }
+    requires width { rows.now.matrix.width ≡ n + n }
+    requires long { length to.old.row ≡ n }
+    requires zero { (j : ℕ) → j < length to.old.row → slice_index to.old.row j ≡ 0 }
+    ensures modulus { to.new.modulus ≡ to.old.modulus }
+    ensures length { length to.new.row ≡ n }
+    ensures row { OnOk result (to.new.row ≡ list_of n (λ j. entry rows.now.matrix i (n + j))) }
+{
+    let cols = rows.cols(i);
+    let vals = rows.vals(i);
+    for k in 0..cols.len() {
+        if n <= cols[k] {
+            to.push(cols[k] - n, vals[k])?;
+        }
+    }
+    Ok(())
+}
+
+// The first row of the kernel basis, as a matrix; a zero row where there is none.
 fn null_row<R: Threads + Sync>(
     rt: &R,
     alloc: Global,
@@ -93,18 +122,66 @@ fn null_row<R: Threads + Sync>(
 ) -> Result<Rows, AllocError>
     requires some { 1 ≤ workers }
     requires few { workers ≤ 64 }
-    ensures modulus { IfOk result (λ row. row.modulus ≡ a.now.modulus) }
-    ensures sound { IfOk result (λ row. IsMatrix row.modulus row.matrix) }
-    ensures height { IfOk result (λ row. row.matrix.height ≡ 1) }
-    ensures width { IfOk result (λ row. row.matrix.width ≡ a.now.matrix.width) }
-    ensures first { IfOk result (λ v. IsPrime a.now.modulus → (K : Matrix) × IsKernel a.now.modulus a.now.matrix K × (0 < K.height → row v.matrix 0 ≡ row K 0)) }
+    ensures modulus { IfOk result (λ v. v.modulus ≡ a.now.modulus) }
+    ensures sound { IfOk result (λ v. IsMatrix v.modulus v.matrix) }
+    ensures height { IfOk result (λ v. v.matrix.height ≡ 1) }
+    ensures width { IfOk result (λ v. v.matrix.width ≡ a.now.matrix.width) }
+    ensures first { IfOk result (λ v. IsPrime a.now.modulus
+        → (K : Matrix) × IsKernel a.now.modulus a.now.matrix K × (0 < K.height → row v.matrix 0 ≡ row K 0)) }
 {
     let form = Echelon::of(rt, alloc, a, workers)?;
-    let basis = kernel(alloc, &form)?;
-    if basis.height() == 0 {
-        let none = one_row(alloc, &Sparse::new(alloc, a.width(), a.modulus()))?;
-        return Ok(none);
+    let first = first_basis_row(alloc, &form)?;
+    let row = one_row(alloc, &first)?;
+    Ok(row)
+}
+
+// The first row of the kernel basis that belongs to a form; a zero row where there is none.
+fn first_basis_row(alloc: Global, form: &Echelon) -> Result<Sparse, AllocError>
+    ensures modulus { IfOk result (λ v. v.modulus ≡ form.now.modulus) }
+    ensures length { IfOk result (λ v. length v.row ≡ form.now.matrix.width) }
+    ensures first { IfOk result (λ v. (p : ℕ) (A : Matrix) → IsPrime p → IsFormOf p A form.now
+        → (K : Matrix) × IsKernel p A K × (0 < K.height → v.row ≡ row K 0)) }
+{
+    let rows = form.rows();
+    let leads = form.leads();
+    let mut first = Sparse::new(alloc, rows.width(), rows.modulus());
+    let f = first_free(leads);
+    if rows.width() <= f {
+        return Ok(first);
     }
-    let first = basis.select(alloc, &[0])?;
+    let column = column_at(alloc, rows, f)?;
+    write_basis_row(column.cols(), column.vals(), leads, f, &mut first)?;
     Ok(first)
+}
+
+// The first free column: all before it are leads.
+fn first_free(leads: &[u32]) -> u32
+    requires small { length leads.now ≤ LARGEST_SIZE }
+    requires rising { (k t : ℕ) → k < t → t < length leads.now
+        → slice_index leads.now k < slice_index leads.now t }
+    ensures few { result ≤ length leads.now }
+    ensures before { (k : ℕ) → k < result → slice_index leads.now k ≡ k }
+    ensures free { IsFree leads.now result }
+{
+    for k in 0..leads.len() {
+        if leads[k] != k as u32 {
+            return k as u32;
+        }
+    }
+    leads.len() as u32
+}
+
+// The matrix with the row v alone.
+fn one_row(alloc: Global, v: &Sparse) -> Result<Rows, AllocError>
+    requires { length v.now.row ≤ LARGEST_SIZE }
+    ensures modulus { IfOk result (λ rows. rows.modulus ≡ v.now.modulus) }
+    ensures sound { IfOk result (λ rows. IsMatrix rows.modulus rows.matrix) }
+    ensures height { IfOk result (λ rows. rows.matrix.height ≡ 1) }
+    ensures width { IfOk result (λ rows. rows.matrix.width ≡ length v.now.row) }
+    ensures row { IfOk result (λ rows. row rows.matrix 0 ≡ v.now.row) }
+{
+    let entries = v.cols().len();
+    let mut rows = Rows::with_room(alloc, v.modulus(), v.width(), 1, entries)?;
+    rows.append(v)?;
+    Ok(rows)
 }

@@ -1,12 +1,14 @@
-//! What an echelon form tells: the kernel basis, the solution of a system or that there is none, the system for what refutes it, and the inverse.
+//! What an echelon form tells: the kernel basis, the solution of a system or that there is none, the system for what refutes
+//! it, and the inverse.
 //!
-//! For moduli that are no primes each call is safe and gives matrices of the sizes told, and nothing else is said of them.
+//! For moduli that are no primes each call is safe and gives matrices of the sizes told, and nothing else is said of
+//! them.
 #![tactic(auto)]
 
 mod bases;
+mod columns;
 mod inverses;
 mod outcome;
-mod places;
 mod systems;
 #[cfg(test)]
 mod tests;

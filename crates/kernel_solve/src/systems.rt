@@ -1,15 +1,18 @@
 // Systems of equations.
-ghost use Rattle.std.specs.Prelude.{◌≡◌, ◌<◌, ◌≤◌, ◌+◌, ◌-◌, ◌↔◌, ℕ, List, [], ◌∷◌, length, slice_index, IfOk, IsTrue};
+ghost use Rattle.std.specs.Prelude.{◌≡◌, ◌<◌, ◌≤◌, ◌+◌, ◌-◌, ◌↔◌, ℕ, length, slice_index, IfOk, IsTrue};
 ghost use Rattle.residue_words.specs.Residues.{IsPrime};
-ghost use Rattle.residue_words.specs.Matrix.{Matrix, IsMatrix, IsVector};
-ghost use Rattle.row_space.specs.Solution.{beside, refuting_system};
+ghost use Rattle.residue_words.specs.Matrix.{Matrix, IsMatrix};
+ghost use Rattle.sparse_rows.specs.declared.rows.TheConstants.{LARGEST_SIZE};
+ghost use Rattle.sparse_rows.specs.Rows.{beside};
+ghost use Rattle.row_space.specs.Solution.{refuting_rows, refuting_side};
 ghost use Rattle.echelon_form.specs.Form.{IsFormOf};
-ghost use Rattle.kernel_solve.specs.Columns.{column};
+ghost use Rattle.kernel_solve.specs.Column.{column, column_of};
 ghost use Rattle.kernel_solve.specs.Found.{Answers, HasShape};
+ghost use Rattle.kernel_solve.specs.ReadOff.{IsAtLeads};
 
-use crate::places::{arranged, split_columns};
+use crate::columns::column_at;
 use echelon_form::Echelon;
-use sparse_rows::{Rows, Sparse};
+use sparse_rows::{Rows, RowsBuilder, Sparse};
 use std::alloc::{AllocError, Global};
 
 /// What the form of [A | b] tells of A x = b.
@@ -21,67 +24,73 @@ pub enum Found {
     Inconsistent,
 }
 
-/// The reduced solution of A x = b by the form of [A | b], or that there is no solution. Beyond the form it takes time
-/// proportional to the entries of the form and to the sizes.
+/// The reduced solution of A x = b by the form of [A | b], or that there is no solution. It reads the last column alone,
+/// in the time of a search in each row of the form.
 pub fn solution(alloc: Global, form: &Echelon) -> Result<Found, AllocError>
     requires { 1 ≤ form.now.matrix.width }
     ensures shape { IfOk result (λ found. HasShape form.now.modulus form.now.matrix.width found) }
-    ensures answers { IfOk result (λ found. (p : ℕ) (A : Matrix) (b : List ℕ) → IsPrime p → IsMatrix p A → IsVector p A.height b → IsFormOf p (beside A b) form.now → Answers p A b found) }
+    ensures answers { IfOk result (λ found. (p : ℕ) (A B : Matrix) → IsPrime p → IsMatrix p A → IsMatrix p B
+        → A.height ≡ B.height → B.width ≡ 1 → IsFormOf p (beside A B) form.now
+        → Answers p A (column B) found) }
 {
-    let rows = form.rows();
-    let modulus = rows.modulus();
     let leads = form.leads();
-    let last = rows.width() - 1;
+    let last = form.rows().width() - 1;
     if ends_at(leads, last) {
         return Ok(Found::Inconsistent);
     }
-    let columns = split_columns(alloc, last, leads)?;
-    let by_column = rows.transpose(alloc)?;
-    let at_leads = by_column.select(alloc, &[last])?;
-    let at_free = one_row(
-        alloc,
-        &Sparse::new(alloc, columns.free.len() as u32, modulus),
-    )?;
-    let x = arranged(alloc, &at_leads, &at_free, &columns.order)?;
+    let side = column_at(alloc, form.rows(), last)?;
+    let x = at_leads(alloc, &side, leads, last)?;
     Ok(Found::Solution(x))
 }
 
-/// The system of equations for a row combination that refutes A x = b, right-hand sides in the last column: where A x = b
-/// has no solution, its reduced solution y has y A = 0 and y b = 1. It takes time proportional to the entries and the sizes.
+// The column of n entries that are those of `side` at the leads, and 0 elsewhere.
+fn at_leads(alloc: Global, side: &Sparse, leads: &[u32], n: u32) -> Result<Rows, AllocError>
+    requires small { n ≤ LARGEST_SIZE }
+    requires long { length side.now.row ≡ length leads.now }
+    requires inside { (k : ℕ) → k < length leads.now → slice_index leads.now k < n }
+    requires rising { (k t : ℕ) → k < t → t < length leads.now
+        → slice_index leads.now k < slice_index leads.now t }
+    ensures modulus { IfOk result (λ x. x.modulus ≡ side.now.modulus) }
+    ensures sound { IfOk result (λ x. IsMatrix x.modulus x.matrix) }
+    ensures height { IfOk result (λ x. x.matrix.height ≡ n) }
+    ensures width { IfOk result (λ x. x.matrix.width ≡ 1) }
+    ensures entries { IfOk result (λ x. IsAtLeads leads.now side.now.row (column x.matrix)) }
+{
+    let mut entries = RowsBuilder::new(alloc, n, 1, side.modulus())?;
+    let rows = side.cols();
+    let values = side.vals();
+    for k in 0..rows.len() {
+        entries.push(leads[rows[k] as usize], 0, values[k])?;
+    }
+    let x = entries.finish()?;
+    Ok(x)
+}
+
+/// The system of equations for a row combination that refutes A x = b, right-hand sides in the last column: where
+/// A x = b has no solution, its reduced solution y has y A = 0 and y b = 1. It is [A | b] with the row (0, .., 0, 1)
+/// below, transposed, in time proportional to the entries and the sizes.
 pub fn refuting_system(alloc: Global, a: &Rows, b: &Rows) -> Result<Rows, AllocError>
     requires column { b.now.matrix.width ≡ 1 }
     requires heights { a.now.matrix.height ≡ b.now.matrix.height }
     requires moduli { a.now.modulus ≡ b.now.modulus }
-    requires height { a.now.matrix.height < 2147483648 }
-    requires width { a.now.matrix.width < 2147483648 }
+    requires height { a.now.matrix.height < LARGEST_SIZE }
+    requires width { a.now.matrix.width < LARGEST_SIZE }
     ensures modulus { IfOk result (λ rows. rows.modulus ≡ a.now.modulus) }
-    ensures matrix { IfOk result (λ rows. rows.matrix ≡ refuting_system a.now.matrix (column b.now.matrix)) }
+    ensures matrix { IfOk result (λ rows. rows.matrix ≡ beside
+        (refuting_rows a.now.matrix (column b.now.matrix)) (column_of (refuting_side a.now.matrix.width))) }
 {
-    let width = a.width();
-    let system = a.beside(alloc, b)?;
-    let equations = system.transpose(alloc)?;
-    let mut side = Sparse::new(alloc, width + 1, a.modulus());
-    side.push(width, 1)?;
-    let sides = one_row(alloc, &side)?.transpose(alloc)?;
-    let refuting = equations.beside(alloc, &sides)?;
+    let mut system = a.beside(alloc, b)?;
+    let mut last = Sparse::new(alloc, system.width(), a.modulus());
+    last.push(a.width(), 1)?;
+    system.append(&last)?;
+    let refuting = system.transpose(alloc)?;
     Ok(refuting)
 }
 
 // Whether this is the last of the leads.
 fn ends_at(leads: &[u32], column: u32) -> bool
-    ensures { IsTrue result ↔ ((0 < length leads.now) × (slice_index leads.now (length leads.now - 1) ≡ column)) }
+    ensures { IsTrue result
+        ↔ ((0 < length leads.now) × (slice_index leads.now (length leads.now - 1) ≡ column)) }
 {
     !leads.is_empty() && leads[leads.len() - 1] == column
-}
-
-// The matrix with this row alone.
-pub(crate) fn one_row(alloc: Global, row: &Sparse) -> Result<Rows, AllocError>
-    requires { length row.now.row ≤ 2147483648 }
-    ensures modulus { IfOk result (λ rows. rows.modulus ≡ row.now.modulus) }
-    ensures matrix { IfOk result (λ rows. rows.matrix ≡ record { height = 1; width = length row.now.row; rows = row.now.row ∷ [] }) }
-{
-    let entries = row.cols().len();
-    let mut rows = Rows::with_room(alloc, row.modulus(), row.width(), 1, entries)?;
-    rows.append(row)?;
-    Ok(rows)
 }

@@ -1,4 +1,5 @@
-// Each call once, on small matrices modulo 7.
+// Each call on small matrices modulo 7, from tables.
+ghost use Rattle.sparse_rows.specs.declared.rows.TheConstants.{LARGEST_SIZE};
 ghost use Rattle.std.specs.Prelude.{◌≡◌, ◌≤◌, IfOk};
 
 use crate::{Found, Inverse, inverse, kernel, left_kernel, refuting_system, solution};
@@ -7,11 +8,12 @@ use residue_words::Modulus;
 use sparse_rows::{Rows, RowsBuilder};
 use std::alloc::{AllocError, Global};
 use std::test::Fail;
+use std::thread::Threads;
 
-// The n x n matrix, or n x 1 column, of these places and values.
+// The matrix of these places and values.
 fn built(alloc: Global, m: u32, n: u32, triples: &[(u32, u32, u64)]) -> Result<Rows, AllocError>
-    requires height { m ≤ 2147483648 }
-    requires width { n ≤ 2147483648 }
+    requires height { m ≤ LARGEST_SIZE }
+    requires width { n ≤ LARGEST_SIZE }
     ensures modulus { IfOk result (λ rows. rows.modulus ≡ 7) }
     ensures height { IfOk result (λ rows. rows.matrix.height ≡ m) }
     ensures width { IfOk result (λ rows. rows.matrix.width ≡ n) }
@@ -36,148 +38,182 @@ fn listed(alloc: Global, rows: &Rows) -> Result<Vec<(u32, u32, u64)>, AllocError
     Ok(list)
 }
 
-// The entries of the solution, none where there is no solution.
-fn solved(alloc: Global, found: &Found) -> Result<Vec<(u32, u32, u64)>, AllocError> {
-    match found {
-        Found::Solution(x) => listed(alloc, x),
-        Found::Inconsistent => Ok(Vec::new(alloc)),
+// What the form of a system tells: whether there is a solution, and its entries.
+fn solved<R: Threads + Sync>(
+    rt: &R,
+    alloc: Global,
+    system: &Rows,
+) -> Result<(bool, Vec<(u32, u32, u64)>), AllocError> {
+    let form = Echelon::of(rt, alloc, system, 1)?;
+    if form.rows().width() == 0 {
+        return Ok((false, Vec::new(alloc)));
+    }
+    match solution(alloc, &form)? {
+        Found::Solution(x) => Ok((true, listed(alloc, &x)?)),
+        Found::Inconsistent => Ok((false, Vec::new(alloc))),
     }
 }
 
-// The entries of an inverse or a null row, and whether it is an inverse.
-fn inverted(alloc: Global, found: &Inverse) -> Result<(bool, Vec<(u32, u32, u64)>), AllocError> {
-    match found {
-        Inverse::Of(rows) => Ok((true, listed(alloc, rows)?)),
-        Inverse::Singular(rows) => Ok((false, listed(alloc, rows)?)),
+// Whether there is an inverse, and its entries or those of the null vector.
+fn inverted<R: Threads + Sync>(
+    rt: &R,
+    alloc: Global,
+    n: u32,
+    triples: &[(u32, u32, u64)],
+) -> Result<(bool, Vec<(u32, u32, u64)>), AllocError>
+    requires { n ≤ 8 }
+{
+    let a = built(alloc, n, n, triples)?;
+    match inverse(rt, alloc, &a, 2)? {
+        Inverse::Of(b) => Ok((true, listed(alloc, &b)?)),
+        Inverse::Singular(v) => Ok((false, listed(alloc, &v)?)),
     }
+}
+
+// 3 x 3, of rank 2: the second column is twice the first.
+const X: &[(u32, u32, u64)] = &[
+    (0, 0, 2),
+    (0, 1, 4),
+    (0, 2, 1),
+    (1, 0, 1),
+    (1, 1, 2),
+    (2, 0, 3),
+    (2, 1, 6),
+    (2, 2, 1),
+];
+
+// 3 x 3, with an inverse.
+const Y: &[(u32, u32, u64)] = &[
+    (0, 0, 1),
+    (1, 0, 1),
+    (1, 1, 1),
+    (1, 2, 1),
+    (2, 0, 1),
+    (2, 1, 1),
+    (2, 2, 2),
+];
+
+// The height and width of a matrix, its entries, and those of the kernel basis.
+const KERNELS: &[(u32, u32, &[(u32, u32, u64)], &[(u32, u32, u64)])] = &[
+    (3, 3, X, &[(0, 0, 5), (0, 1, 1)]),
+    (3, 3, Y, &[]),
+    (0, 2, &[], &[(0, 0, 1), (1, 1, 1)]),
+    (
+        1,
+        3,
+        &[(0, 1, 2), (0, 2, 3)],
+        &[(0, 0, 1), (1, 1, 2), (1, 2, 1)],
+    ),
+];
+
+#[test]
+fn kernels(rt: HostRuntime) -> Result<(), Fail> {
+    let alloc = rt.alloc();
+    for (m, n, entries, basis) in KERNELS {
+        assert!(rt; *m <= 8 && *n <= 8);
+        let a = built(alloc, *m, *n, *entries)?;
+        let form = Echelon::of(&rt, alloc, &a, 1)?;
+        let found = kernel(alloc, &form)?;
+        assert_eq!(rt; listed(alloc, &found)?.as_slice(), *basis);
+    }
+    Ok(())
 }
 
 #[test]
-fn small_systems(rt: HostRuntime) -> Result<(), Fail> {
+fn left_kernels(rt: HostRuntime) -> Result<(), Fail> {
     let alloc = rt.alloc();
-    let x = built(
-        alloc,
-        3,
-        3,
-        &[
-            (0, 0, 2),
-            (0, 1, 4),
-            (0, 2, 1),
-            (1, 0, 1),
-            (1, 1, 2),
-            (2, 0, 3),
-            (2, 1, 6),
-            (2, 2, 1),
-        ],
-    )?;
-    let b = built(alloc, 3, 1, &[(0, 0, 1), (2, 0, 1)])?;
-    let c = built(alloc, 3, 1, &[(2, 0, 1)])?;
-
-    let form = Echelon::of(&rt, alloc, &x, 1)?;
+    let found = left_kernel(&rt, alloc, &built(alloc, 3, 3, X)?, 1)?;
     assert_eq!(rt;
-        listed(alloc, &kernel(alloc, &form)?)?.as_slice(),
-        [(0, 0, 5), (0, 1, 1)].as_slice()
-    );
-
-    let form = Echelon::of(&rt, alloc, &x.beside(alloc, &b)?, 1)?;
-    if form.rows().width() == 4 {
-        let found = solution(alloc, &form)?;
-        assert_eq!(rt; solved(alloc, &found)?.as_slice(), [(2, 0, 1)].as_slice());
-    }
-    let form = Echelon::of(&rt, alloc, &x.beside(alloc, &c)?, 1)?;
-    if form.rows().width() == 4 {
-        let found = solution(alloc, &form)?;
-        assert!(rt; matches!(found, Found::Inconsistent));
-    }
-
-    let system = refuting_system(alloc, &x, &c)?;
-    assert_eq!(rt;
-        listed(alloc, &system)?.as_slice(),
-        [
-            (0, 0, 2),
-            (0, 1, 1),
-            (0, 2, 3),
-            (1, 0, 4),
-            (1, 1, 2),
-            (1, 2, 6),
-            (2, 0, 1),
-            (2, 2, 1),
-            (3, 2, 1),
-            (3, 3, 1)
-        ]
-        .as_slice()
-    );
-    let form = Echelon::of(&rt, alloc, &system, 1)?;
-    if form.rows().width() == 4 {
-        let found = solution(alloc, &form)?;
-        assert_eq!(rt;
-            solved(alloc, &found)?.as_slice(),
-            [(0, 0, 6), (1, 0, 6), (2, 0, 1)].as_slice()
-        );
-    }
-
-    let left = left_kernel(&rt, alloc, &x, 1)?;
-    assert_eq!(rt;
-        listed(alloc, &left)?.as_slice(),
+        listed(alloc, &found)?.as_slice(),
         [(0, 0, 6), (0, 1, 6), (0, 2, 1)].as_slice()
     );
     Ok(())
 }
 
-#[test]
-fn small_inverses(rt: HostRuntime) -> Result<(), Fail> {
-    let alloc = rt.alloc();
-    let x = built(
-        alloc,
-        3,
-        3,
-        &[
-            (0, 0, 2),
-            (0, 1, 4),
-            (0, 2, 1),
-            (1, 0, 1),
-            (1, 1, 2),
-            (2, 0, 3),
-            (2, 1, 6),
-            (2, 2, 1),
-        ],
-    )?;
-    let y = built(
-        alloc,
-        3,
-        3,
-        &[
-            (0, 0, 1),
-            (1, 0, 1),
-            (1, 1, 1),
-            (1, 2, 1),
-            (2, 0, 1),
-            (2, 1, 1),
-            (2, 2, 2),
-        ],
-    )?;
-    let none = built(alloc, 0, 0, &[])?;
+// The entries of a 3 x 3 matrix and of a column, whether there is a solution, and its entries.
+const SYSTEMS: &[(
+    &[(u32, u32, u64)],
+    &[(u32, u32, u64)],
+    bool,
+    &[(u32, u32, u64)],
+)] = &[
+    (X, &[(0, 0, 1), (2, 0, 1)], true, &[(2, 0, 1)]),
+    (X, &[(2, 0, 1)], false, &[]),
+    (Y, &[(0, 0, 1)], true, &[(0, 0, 1), (1, 0, 6)]),
+];
 
-    let (is_inverse, entries) = inverted(alloc, &inverse(&rt, alloc, &y, 1)?)?;
-    assert!(rt; is_inverse);
+#[test]
+fn systems(rt: HostRuntime) -> Result<(), Fail> {
+    let alloc = rt.alloc();
+    for (a, b, is_solvable, x) in SYSTEMS {
+        let system = built(alloc, 3, 3, *a)?.beside(alloc, &built(alloc, 3, 1, *b)?)?;
+        let (found, entries) = solved(&rt, alloc, &system)?;
+        assert!(rt; found == *is_solvable);
+        assert_eq!(rt; entries.as_slice(), *x);
+    }
+    Ok(())
+}
+
+// The refuting system of X and the column (0, 0, 1).
+const REFUTING: &[(u32, u32, u64)] = &[
+    (0, 0, 2),
+    (0, 1, 1),
+    (0, 2, 3),
+    (1, 0, 4),
+    (1, 1, 2),
+    (1, 2, 6),
+    (2, 0, 1),
+    (2, 2, 1),
+    (3, 2, 1),
+    (3, 3, 1),
+];
+
+#[test]
+fn refutations(rt: HostRuntime) -> Result<(), Fail> {
+    let alloc = rt.alloc();
+    let a = built(alloc, 3, 3, X)?;
+    let b = built(alloc, 3, 1, &[(2, 0, 1)])?;
+    let system = refuting_system(alloc, &a, &b)?;
+    assert_eq!(rt; listed(alloc, &system)?.as_slice(), REFUTING);
+
+    let (found, entries) = solved(&rt, alloc, &system)?;
+    assert!(rt; found);
     assert_eq!(rt;
         entries.as_slice(),
-        [
+        [(0, 0, 6), (1, 0, 6), (2, 0, 1)].as_slice()
+    );
+    Ok(())
+}
+
+// The size of a matrix, its entries, whether there is an inverse, and its entries or those of the null vector.
+const INVERSES: &[(u32, &[(u32, u32, u64)], bool, &[(u32, u32, u64)])] = &[
+    (
+        3,
+        Y,
+        true,
+        &[
             (0, 0, 1),
             (1, 0, 6),
             (1, 1, 2),
             (1, 2, 6),
             (2, 1, 6),
-            (2, 2, 1)
-        ]
-        .as_slice()
-    );
+            (2, 2, 1),
+        ],
+    ),
+    (3, X, false, &[(0, 0, 5), (0, 1, 1)]),
+    (2, &[(0, 0, 1)], false, &[(0, 1, 1)]),
+    (1, &[(0, 0, 3)], true, &[(0, 0, 5)]),
+    (0, &[], true, &[]),
+];
 
-    let (is_inverse, entries) = inverted(alloc, &inverse(&rt, alloc, &x, 1)?)?;
-    assert!(rt; !is_inverse);
-    assert_eq!(rt; entries.as_slice(), [(0, 0, 5), (0, 1, 1)].as_slice());
-
-    let (is_inverse, entries) = inverted(alloc, &inverse(&rt, alloc, &none, 2)?)?;
-    assert!(rt; is_inverse && entries.is_empty());
+#[test]
+fn inverses(rt: HostRuntime) -> Result<(), Fail> {
+    let alloc = rt.alloc();
+    for (n, a, is_inverse, expected) in INVERSES {
+        assert!(rt; *n <= 8);
+        let (found, entries) = inverted(&rt, alloc, *n, *a)?;
+        assert!(rt; found == *is_inverse);
+        assert_eq!(rt; entries.as_slice(), *expected);
+    }
     Ok(())
 }

@@ -6,7 +6,7 @@ use Rattle.pivot_table.specs.Order.{IsOrder}
 use Rattle.pivot_table.specs.Order.IsParted.{nothing, right}
 use Rattle.pivot_table.specs.Greedy.{IsGreedy, IsGreedyBelow}
 use Rattle.pivot_table.specs.Greedy.IsTried.{dead, taken}
-use Rattle.pivot_table.specs.Example.{IsWorked, example, first_history, other_history}
+use Rattle.pivot_table.specs.Example.{AreWorkedHistories, example, first_history, other_history}
 use Rattle.pivot_table.proofs.Growth.{grown_nil, grown_push}
 use Rattle.pivot_table.proofs.Orders.{order_triangular}
 use Rattle.pivot_table.proofs.Reaching.{decide_alive, decide_dead, decide_maximal, decide_reach}
@@ -39,7 +39,7 @@ first_greedy = (
 first_order : IsOrder example first_history (pair 1 1 ∷ pair 0 0 ∷ [])
 first_order = ([], [], nothing, ([], pair 0 0 ∷ [], right (shown (decide_reach example (pair 0 0 ∷ []) 1 0) tt) nothing, refl))
 
-pub worked : IsWorked
+pub worked : AreWorkedHistories
 worked = record {
   grown = first_grown;
   least = first_least;

@@ -17,7 +17,7 @@ abbrev pub other_history : List Pair
 other_history = pair 0 0 ∷ pair 2 1 ∷ []
 
 -- what holds of them
-pub record IsWorked : Type 0 where
+pub record AreWorkedHistories : Type 0 where
   pub grown : Grown example first_history
   pub least : LeastAlive example (pair 0 0 ∷ []) 1 1
   pub overtaken : Dead example other_history 1

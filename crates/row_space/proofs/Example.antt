@@ -1,16 +1,17 @@
--- The example of 3 x 3 modulo 7 worked.
-use Rattle.std.proofs.Common.{ℕ, zero, suc, ◌≡◌, ◌≢◌, ◌+◌, ◌*◌, ◌%◌, ◌<◌, List, [], ◌∷◌, slice_index, refl, ap, arith, lit<}
-use Rattle.residue_words.specs.Residues.{sum_below}
+-- The examples of 3 x 3 modulo 7 worked.
+use Rattle.std.proofs.Common.{ℕ, zero, suc, ◌≡◌, ◌≢◌, ◌+◌, ◌*◌, ◌%◌, ◌<◌, ◌≤◌, List, [], ◌∷◌, slice_index, refl, ap, arith, lit<}
+use Rattle.residue_words.specs.Residues.{IsPrime, sum_below}
 use Rattle.residue_words.specs.Matrix.{IsMatrix, IsVector, IsCombination, row, entry, combine, list_of}
 use Rattle.residue_words.proofs.Vectors.{list_equal}
 use Rattle.row_space.specs.Echelon.{HasLeads, IsRref}
+use Rattle.row_space.specs.Inverse.{IsInverse, unit}
 use Rattle.row_space.specs.Kernel.{EndsAt, HasEnds, IsKernel, IsNull}
 use Rattle.row_space.specs.Solution.{Annuls, IsReducedSolution, IsRefutingCombination}
 use Rattle.row_space.specs.Factors.{AreFactors, ShowsKernel, ShowsRref, col_at, row_at}
-use Rattle.row_space.specs.Example.{IsWorked, example, example_kernel, example_left, example_pivots, example_rref}
+use Rattle.row_space.specs.Example.{IsWorked, example, example_kernel, example_inverse, example_left, example_pivots, example_rref, example_square}
 use Rattle.row_space.proofs.Spans.{same_span_of_rows}
 
--- what holds of 0, of 0 and 1, of 0 and 1 and 2
+-- what holds of 0, of 0 and 1, of 0 and 1 and 2, and of the numbers up to 4
 below_one : (P : ℕ → Type 0) → P 0 → (j : ℕ) → j < 1 → P j
 below_one P a zero l = a
 below_one P a (suc j) l = absurd (omega arith)
@@ -25,6 +26,11 @@ below_three P a b c zero l = a
 below_three P a b c (suc zero) l = b
 below_three P a b c (suc (suc zero)) l = c
 below_three P a b c (suc (suc (suc j))) l = absurd (omega arith)
+
+below_five : (P : ℕ → Type 0) → P 0 → P 1 → P 2 → P 3 → P 4 → (j : ℕ) → j < 5 → P j
+below_five P a b c d e zero l = a
+below_five P a b c d e (suc zero) l = b
+below_five P a b c d e (suc (suc j)) l = below_three (λ j. P (suc (suc j))) c d e j (omega arith)
 
 -- lists of one, two and three residues
 one_vector : (p a : ℕ) → a < p → IsVector p 1 (a ∷ [])
@@ -190,8 +196,36 @@ rref_shown = record {
 kernel_shown : ShowsKernel 7 example 2 example_kernel
 kernel_shown = record { matrix = kernel_worked.matrix; height = refl; width = refl; form = (1 ∷ [], kernel_ends); null = kernel_worked.null }
 
+-- no number from 2 to 6 divides 7
+seven_is_prime : IsPrime 7
+seven_is_prime = record {
+  two_or_more = lit< tt;
+  undivided = λ d low high. below_seven d low high;
+}
+  where
+    below_seven : (d : ℕ) → 2 ≤ d → d < 7 → 7 % d ≢ 0
+    below_seven zero low high = absurd (omega arith)
+    below_seven (suc zero) low high = absurd (omega arith)
+    below_seven (suc (suc d)) low high = below_five (λ d. 7 % suc (suc d) ≢ 0) (λ e. absurd (omega arith)) (λ e. absurd (omega arith))
+        (λ e. absurd (omega arith)) (λ e. absurd (omega arith)) (λ e. absurd (omega arith)) d (omega arith)
+
+inverse_worked : IsInverse 7 example_square example_inverse
+unfolding sum_below
+inverse_worked = record {
+  matrix = record {
+    len = refl;
+    each = below_three (λ i. IsVector 7 3 (row example_inverse i)) (three_vector 7 1 0 0 (lit< tt) (lit< tt) (lit< tt))
+        (three_vector 7 6 2 6 (lit< tt) (lit< tt) (lit< tt)) (three_vector 7 0 6 1 (lit< tt) (lit< tt) (lit< tt));
+  };
+  height = refl;
+  width = refl;
+  right = below_three (λ i. combine 7 (row example_square i) example_inverse ≡ unit 3 i) refl refl refl;
+  left = below_three (λ i. combine 7 (row example_inverse i) example_square ≡ unit 3 i) refl refl refl;
+}
+
 pub worked : IsWorked
 worked = record {
+  prime = seven_is_prime;
   rref = rref_worked;
   rank = (example_rref, rref_worked, refl);
   kernel = kernel_worked;
@@ -200,4 +234,5 @@ worked = record {
   rref_certificate = record { modulus = refl; factors = factors_worked; shows = rref_shown };
   kernel_certificate = record { modulus = refl; factors = factors_worked; shows = kernel_shown };
   refutation = refutation_worked;
+  inverse = inverse_worked;
 }

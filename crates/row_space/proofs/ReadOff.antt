@@ -11,30 +11,30 @@ use Rattle.residue_words.proofs.Sums.{sum_equal, sum_same, sum_single, sum_pair,
 use Rattle.residue_words.proofs.Vectors.{at_apply, at_combine, at_zeros, list_equal, list_of_equal, length_list_of, row_combination}
 use Rattle.row_space.specs.Echelon.{HasLeads, IsRref}
 use Rattle.row_space.specs.Kernel.{EndsAt, IsNull}
-use Rattle.row_space.specs.Solution.{Annuls, IsSolution, beside}
+use Rattle.row_space.specs.Solution.{Annuls, IsSolution, augmented}
 use Rattle.row_space.specs.Laws.{LastLeadRefutes, RrefSolves}
 use Rattle.row_space.proofs.Solvable.{refuted}
 
 -- the rows of [A | b], and its entries
-pub row_beside : (A : Matrix) (b : List ℕ) (i : ℕ) → i < A.height → row (beside A b) i ≡ row A i ++ slice_index b i ∷ []
-row_beside A b i l = get_or-map-range_with_len (λ i. row A i ++ slice_index b i ∷ []) 0 A.height i i [] l (omega arith)
+pub row_augmented : (A : Matrix) (b : List ℕ) (i : ℕ) → i < A.height → row (augmented A b) i ≡ row A i ++ slice_index b i ∷ []
+row_augmented A b i l = get_or-map-range_with_len (λ i. row A i ++ slice_index b i ∷ []) 0 A.height i i [] l (omega arith)
 
-pub beside_left : (p : ℕ) (A : Matrix) (b : List ℕ) → IsMatrix p A → (i j : ℕ) → i < A.height → j < A.width → entry (beside A b) i j ≡ entry A i j
-beside_left p A b m i j l o =
-    ap (λ u. slice_index u j) (row_beside A b i l) ∙ get_or_append_left (row A i) (slice_index b i ∷ []) 0 j (let e = (m.each i l).len in omega arith)
+pub augmented_left : (p : ℕ) (A : Matrix) (b : List ℕ) → IsMatrix p A → (i j : ℕ) → i < A.height → j < A.width → entry (augmented A b) i j ≡ entry A i j
+augmented_left p A b m i j l o =
+    ap (λ u. slice_index u j) (row_augmented A b i l) ∙ get_or_append_left (row A i) (slice_index b i ∷ []) 0 j (let e = (m.each i l).len in omega arith)
 
-pub beside_last : (p : ℕ) (A : Matrix) (b : List ℕ) → IsMatrix p A → (i : ℕ) → i < A.height → entry (beside A b) i A.width ≡ slice_index b i
-beside_last p A b m i l = ap (λ u. slice_index u A.width) (row_beside A b i l) ∙ get_or_push (row A i) (slice_index b i) 0 A.width (m.each i l).len
+pub augmented_last : (p : ℕ) (A : Matrix) (b : List ℕ) → IsMatrix p A → (i : ℕ) → i < A.height → entry (augmented A b) i A.width ≡ slice_index b i
+augmented_last p A b m i l = ap (λ u. slice_index u A.width) (row_augmented A b i l) ∙ get_or_push (row A i) (slice_index b i) 0 A.width (m.each i l).len
 
 -- [A | b] is a matrix of residues
-pub beside_matrix : (p : ℕ) (A : Matrix) (b : List ℕ) → IsMatrix p A → IsVector p A.height b → IsMatrix p (beside A b)
-beside_matrix p A b m v = record {
+pub augmented_matrix : (p : ℕ) (A : Matrix) (b : List ℕ) → IsMatrix p A → IsVector p A.height b → IsMatrix p (augmented A b)
+augmented_matrix p A b m v = record {
   len = length-map-range_with_len (λ i. row A i ++ slice_index b i ∷ []) 0 A.height;
   each = λ i l. record {
-    len = ap length (row_beside A b i l) ∙ length_push (row A i) (slice_index b i) ∙ ap (λ x. x + 1) (m.each i l).len;
+    len = ap length (row_augmented A b i l) ∙ length_push (row A i) (slice_index b i) ∙ ap (λ x. x + 1) (m.each i l).len;
     residues = λ j o. elim (cases_eq j A.width) [
-      | inl z ↦ omega (arith, ap (entry (beside A b) i) z, beside_last p A b m i l, v.residues i l)
-      | inr d ↦ let low : j < A.width = omega arith in omega (arith, beside_left p A b m i j l low, (m.each i l).residues j low)
+      | inl z ↦ omega (arith, ap (entry (augmented A b) i) z, augmented_last p A b m i l, v.residues i l)
+      | inr d ↦ let low : j < A.width = omega arith in omega (arith, augmented_left p A b m i j l low, (m.each i l).residues j low)
     ];
   };
 }
@@ -44,28 +44,28 @@ pub null_row : (p : ℕ) (A : Matrix) (z : List ℕ) → IsNull p A z → (i : �
 null_row p A z null i l = sym (at_apply p A z i l) ∙ ap (λ u. slice_index u i) null.1 ∙ at_zeros A.height i l
 
 module _ (p : ℕ) (A : Matrix) (b : List ℕ) (E : Matrix) (leads : List ℕ) (two : 2 ≤ p) (m : IsMatrix p A) (v : IsVector p A.height b)
-    (form : IsRref p (beside A b) E) (has : HasLeads E leads) where
+    (form : IsRref p (augmented A b) E) (has : HasLeads E leads) where
   -- the coefficients of a row of the form in the rows of [A | b], and of a row of [A | b] in those of the form
-  of_form : (k : ℕ) → k < E.height → IsCombination p (beside A b) (row E k)
+  of_form : (k : ℕ) → k < E.height → IsCombination p (augmented A b) (row E k)
   of_form k l = (form.span (row E k)).1 (row_combination p E k two form.matrix l)
 
-  of_rows : (i : ℕ) → i < A.height → IsCombination p E (row (beside A b) i)
-  of_rows i l = (form.span (row (beside A b) i)).0 (row_combination p (beside A b) i two (beside_matrix p A b m v) l)
+  of_rows : (i : ℕ) → i < A.height → IsCombination p E (row (augmented A b) i)
+  of_rows i l = (form.span (row (augmented A b) i)).0 (row_combination p (augmented A b) i two (augmented_matrix p A b m v) l)
 
   -- a row of the form, left of the last column and in it
   form_left : (k : ℕ) (l : k < E.height) (j : ℕ) → j < A.width → entry E k j ≡ sum_below A.height (λ i. slice_index (of_form k l).0 i * entry A i j) % p
   form_left k l j o =
       let y : List ℕ = (of_form k l).0 in
-      ap (λ u. slice_index u j) (of_form k l).2 ∙ at_combine p y (beside A b) j (omega arith)
-      ∙ ap (λ x. x % p) (sum_equal A.height (λ i. slice_index y i * entry (beside A b) i j) (λ i. slice_index y i * entry A i j)
-      (λ i c. ap (λ x. slice_index y i * x) (beside_left p A b m i j c o)))
+      ap (λ u. slice_index u j) (of_form k l).2 ∙ at_combine p y (augmented A b) j (omega arith)
+      ∙ ap (λ x. x % p) (sum_equal A.height (λ i. slice_index y i * entry (augmented A b) i j) (λ i. slice_index y i * entry A i j)
+      (λ i c. ap (λ x. slice_index y i * x) (augmented_left p A b m i j c o)))
 
   form_last : (k : ℕ) (l : k < E.height) → entry E k A.width ≡ dot p A.height (of_form k l).0 b
   form_last k l =
       let y : List ℕ = (of_form k l).0 in
-      ap (λ u. slice_index u A.width) (of_form k l).2 ∙ at_combine p y (beside A b) A.width (omega arith)
-      ∙ ap (λ x. x % p) (sum_equal A.height (λ i. slice_index y i * entry (beside A b) i A.width) (λ i. slice_index y i * slice_index b i)
-      (λ i c. ap (λ x. slice_index y i * x) (beside_last p A b m i c)))
+      ap (λ u. slice_index u A.width) (of_form k l).2 ∙ at_combine p y (augmented A b) A.width (omega arith)
+      ∙ ap (λ x. x % p) (sum_equal A.height (λ i. slice_index y i * entry (augmented A b) i A.width) (λ i. slice_index y i * slice_index b i)
+      (λ i c. ap (λ x. slice_index y i * x) (augmented_last p A b m i c)))
 
   -- a lead in the last column makes a refutation
   lead_annuls : (k : ℕ) (l : k < E.height) → slice_index leads k ≡ A.width → Annuls p A b 1 (of_form k l).0
@@ -100,10 +100,10 @@ module _ (p : ℕ) (A : Matrix) (b : List ℕ) (E : Matrix) (leads : List ℕ) (
           at_apply p A x i l
           ∙ sum_same p A.width (λ j. entry A i j * slice_index x j) (λ j. sum_below E.height (λ k. z k * entry E k j) * slice_index x j)
           (λ j o. mul_same p (entry A i j) (sum_below E.height (λ k. z k * entry E k j)) (slice_index x j) (slice_index x j)
-          (ap (λ t. t % p) (sym (beside_left p A b m i j l o) ∙ ap (λ u. slice_index u j) c.2 ∙ at_combine p c.0 E j (omega arith)) ∙ mod-mod _ p) refl)
+          (ap (λ t. t % p) (sym (augmented_left p A b m i j l o) ∙ ap (λ u. slice_index u j) c.2 ∙ at_combine p c.0 E j (omega arith)) ∙ mod-mod _ p) refl)
           ∙ ap (λ t. t % p) (sym (sum_pair E.height A.width z (entry E) (slice_index x))
           ∙ sum_equal E.height (λ k. z k * sum_below A.width (λ j. entry E k j * slice_index x j)) (λ k. z k * entry E k A.width) (λ k a. ap (λ t. z k * t) (form_solved k a)))
-          ∙ sym (at_combine p c.0 E A.width (omega arith)) ∙ ap (λ u. slice_index u A.width) (sym c.2) ∙ beside_last p A b m i l),
+          ∙ sym (at_combine p c.0 E A.width (omega arith)) ∙ ap (λ u. slice_index u A.width) (sym c.2) ∙ augmented_last p A b m i l),
     )
 
     -- no null vector of A ends at a lead

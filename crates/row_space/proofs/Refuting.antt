@@ -3,23 +3,23 @@ use Rattle.std.proofs.Common.{ℕ, ◌≡◌, ◌+◌, ◌*◌, ◌%◌, ◌<◌
 use Rattle.std.specs.List.{range_with_len}
 use Rattle.std.proofs.lemmas.Bool.{cases_eq}
 use Rattle.std.proofs.lemmas.List.{get_or_append_left, get_or_push, length-append, same_from_push}
-use Rattle.std.proofs.lemmas.List.FromFn.{fill_by_all, get_or-map-range_with_len, length-map-range_with_len, map-range_with_len_more}
+use Rattle.std.proofs.lemmas.List.FromFn.{get_or-map-range_with_len, length-map-range_with_len}
 use Rattle.residue_words.specs.Residues.{sum_below}
 use Rattle.residue_words.specs.Matrix.{Matrix, IsMatrix, IsVector, row, entry, list_of, apply, combine, dot, zeros}
 use Rattle.residue_words.proofs.Sums.{sum_equal}
 use Rattle.residue_words.proofs.Vectors.{at_list_of, at_zeros, entry_residue, length_list_of, list_of_equal, list_of_more, vector_of}
 use Rattle.row_space.specs.Kernel.{IsNull}
-use Rattle.row_space.specs.Solution.{Annuls, IsSolution, refuting_rows, refuting_side, refuting_system}
+use Rattle.row_space.specs.Solution.{Annuls, IsSolution, refuting_rows, refuting_side}
 use Rattle.row_space.specs.Laws.{RefutingSystem}
 
 -- its rows: the columns of A, and b
-refuting_column : (A : Matrix) (b : List ℕ) (j : ℕ) → j < A.width → row (refuting_rows A b) j ≡ list_of A.height (λ i. entry A i j)
+pub refuting_column : (A : Matrix) (b : List ℕ) (j : ℕ) → j < A.width → row (refuting_rows A b) j ≡ list_of A.height (λ i. entry A i j)
 refuting_column A b j l =
     get_or_append_left (map (λ j. list_of A.height (λ i. entry A i j)) (range_with_len 0 A.width)) (list_of A.height (slice_index b) ∷ []) [] j
     (omega (arith, length-map-range_with_len (λ j. list_of A.height (λ i. entry A i j)) 0 A.width))
     ∙ get_or-map-range_with_len (λ j. list_of A.height (λ i. entry A i j)) 0 A.width j j [] l (omega arith)
 
-refuting_end : (A : Matrix) (b : List ℕ) → row (refuting_rows A b) A.width ≡ list_of A.height (slice_index b)
+pub refuting_end : (A : Matrix) (b : List ℕ) → row (refuting_rows A b) A.width ≡ list_of A.height (slice_index b)
 refuting_end A b =
     get_or_push (map (λ j. list_of A.height (λ i. entry A i j)) (range_with_len 0 A.width)) (list_of A.height (slice_index b)) [] A.width
     (length-map-range_with_len (λ j. list_of A.height (λ i. entry A i j)) 0 A.width)
@@ -71,30 +71,6 @@ null_iff p A b y =
     let side : zeros (A.width + 1) ≡ zeros A.width ++ 0 ∷ [] = list_of_more A.width (λ j. 0) in
     let same = annuls_iff p A b 0 y in
     (λ s. same.0 (s.0, s.1 ∙ side), λ a. let s = same.1 a in (s.0, s.1 ∙ sym side))
-
--- the rows of the refuting system
-abbrev pub system_rows : Matrix → List ℕ → Matrix
-system_rows A b = record {
-  height = A.width + 1;
-  width = A.height + 1;
-  rows = map (λ j. list_of A.height (λ i. entry A i j) ++ 0 ∷ []) (range_with_len 0 A.width) ++ (list_of A.height (slice_index b) ++ 1 ∷ []) ∷ [];
-}
-
-pub system_is : (A : Matrix) (b : List ℕ) → system_rows A b ≡ refuting_system A b
-system_is A b =
-    let f : ℕ → List ℕ = λ j. row (refuting_rows A b) j ++ slice_index (refuting_side A.width) j ∷ [] in
-    let g : ℕ → List ℕ = λ j. list_of A.height (λ i. entry A i j) ++ 0 ∷ [] in
-    let front : (j : ℕ) → j < A.width → g j ≡ f j = λ j l. ap₂ (λ u t. u ++ t ∷ []) (sym (refuting_column A b j l))
-    (sym (get_or_append_left (zeros A.width) (1 ∷ []) 0 j (omega (arith, length_list_of A.width (λ j. 0))) ∙ at_zeros A.width j l)) in
-    let last : list_of A.height (slice_index b) ++ 1 ∷ [] ≡ f A.width = ap₂ (λ u t. u ++ t ∷ []) (sym (refuting_end A b))
-    (sym (get_or_push (zeros A.width) 1 0 A.width (length_list_of A.width (λ j. 0)))) in
-    let fronts : map g (range_with_len 0 A.width) ≡ map f (range_with_len 0 A.width) =
-    fill_by_all f (map g (range_with_len 0 A.width)) A.width [] (length-map-range_with_len g 0 A.width)
-    (λ k l. get_or-map-range_with_len g 0 A.width k k [] l (omega arith) ∙ front k l) in
-    ap (with_rows (A.width + 1) (A.height + 1)) (ap₂ (λ u t. u ++ t ∷ []) fronts last ∙ sym (map-range_with_len_more f 0 A.width A.width (omega arith)))
-  where
-    with_rows : ℕ → ℕ → List (List ℕ) → Matrix
-    with_rows h w r = record { height = h; width = w; rows = r }
 
 pub refuting : RefutingSystem
 refuting p A b y two m v =

@@ -13,3 +13,7 @@ pub record IsInverse (p : ℕ) (A B : Matrix) : Type 0 where
   pub width : B.width ≡ A.width
   pub right : (i : ℕ) → i < A.height → combine p (row A i) B ≡ unit A.width i
   pub left : (i : ℕ) → i < A.height → combine p (row B i) A ≡ unit A.width i
+
+-- A has an inverse
+abbrev pub HasInverse : ℕ → Matrix → Type 0
+HasInverse p A = (B : Matrix) × IsInverse p A B

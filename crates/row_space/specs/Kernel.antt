@@ -7,6 +7,10 @@ use Rattle.row_space.specs.Echelon.{HasPlaces}
 abbrev pub IsNull : ℕ → Matrix → List ℕ → Type 0
 IsNull p A v = IsVector p A.width v × (apply p A v ≡ zeros A.height)
 
+-- A takes a vector other than zero to zero
+abbrev pub HasNull : ℕ → Matrix → Type 0
+HasNull p A = (v : List ℕ) × IsNull p A v × (v ≢ zeros A.width)
+
 -- the last nonzero entries of the rows of K are ones and stand at these rising columns, where every other row is 0
 abbrev pub HasEnds : Matrix → List ℕ → Type 0
 HasEnds K ends = (length ends ≡ K.height) × HasPlaces (λ j end. end < j) K.height K.width (entry K) (slice_index ends)

@@ -5,9 +5,9 @@ use Rattle.residue_words.specs.declared.plain.Pair.{Pair}
 use Rattle.residue_words.specs.Residues.{IsPrime}
 use Rattle.residue_words.specs.Matrix.{Matrix, IsMatrix, IsVector, IsCombination, entry, row, zeros}
 use Rattle.row_space.specs.Echelon.{HasLeads, HasRank, IsIndependent, IsRref, SameSpan}
-use Rattle.row_space.specs.Inverse.{IsInverse}
-use Rattle.row_space.specs.Kernel.{IsKernel, IsNull}
-use Rattle.row_space.specs.Solution.{IsSolution, IsReducedSolution, IsRefutingCombination, Annuls, beside, refuting_rows, refuting_side}
+use Rattle.row_space.specs.Inverse.{HasInverse, IsInverse}
+use Rattle.row_space.specs.Kernel.{HasNull, IsKernel, IsNull}
+use Rattle.row_space.specs.Solution.{IsSolution, IsReducedSolution, IsRefutingCombination, Annuls, augmented, refuting_rows, refuting_side}
 use Rattle.row_space.specs.Factors.{AreFactors, Certificate, IsValid, ShowsKernel, ShowsRref, TellsOf}
 
 -- a matrix has at most one reduced echelon form, rank, kernel basis
@@ -73,11 +73,11 @@ RankGivesRref = (p : ℕ) (A : Matrix) (r : ℕ) (E : Matrix) (leads : List ℕ)
 -- and 0 elsewhere, is the reduced solution
 abbrev pub LastLeadRefutes : Type 0
 LastLeadRefutes = (p : ℕ) (A : Matrix) (b : List ℕ) (E : Matrix) (leads : List ℕ) (k : ℕ) → 2 ≤ p → IsMatrix p A → IsVector p A.height b →
-    IsRref p (beside A b) E → HasLeads E leads → k < E.height → slice_index leads k ≡ A.width → (x : List ℕ) → ¬ IsSolution p A b x
+    IsRref p (augmented A b) E → HasLeads E leads → k < E.height → slice_index leads k ≡ A.width → (x : List ℕ) → ¬ IsSolution p A b x
 
 abbrev pub RrefSolves : Type 0
 RrefSolves = (p : ℕ) (A : Matrix) (b : List ℕ) (E : Matrix) (leads : List ℕ) (x : List ℕ) → 2 ≤ p → IsMatrix p A → IsVector p A.height b →
-    IsRref p (beside A b) E → HasLeads E leads → ((k : ℕ) → k < E.height → slice_index leads k < A.width) →
+    IsRref p (augmented A b) E → HasLeads E leads → ((k : ℕ) → k < E.height → slice_index leads k < A.width) →
     IsVector p A.width x → ((k : ℕ) → k < E.height → slice_index x (slice_index leads k) ≡ entry E k A.width) →
     ((j : ℕ) → j < A.width → slice_index x j ≡ 0 ⊎ ((k : ℕ) × (k < E.height) × (slice_index leads k ≡ j))) →
     IsReducedSolution p A b x
@@ -96,6 +96,11 @@ InverseIsUnique = (p : ℕ) (A B C : Matrix) → 2 ≤ p → A.height ≡ A.widt
 
 abbrev pub InverseExcludesNull : Type 0
 InverseExcludesNull = (p : ℕ) (A B : Matrix) (v : List ℕ) → A.height ≡ A.width → IsInverse p A B → IsNull p A v → v ≡ zeros A.width
+
+-- a square matrix has an inverse, or a null vector other than zero, and not both
+abbrev pub InverseOrNull : Type 0
+InverseOrNull = (p : ℕ) (A : Matrix) → IsPrime p → IsMatrix p A → A.height ≡ A.width →
+    (HasInverse p A ⊎ HasNull p A) × ¬ (HasInverse p A × HasNull p A)
 
 -- where A x = b has no solution, some y solves the refuting system
 abbrev pub RefutingIsSolvable : Type 0

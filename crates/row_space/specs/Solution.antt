@@ -24,8 +24,8 @@ pub record IsRefutingCombination (p : ℕ) (A : Matrix) (b y : List ℕ) : Type 
   pub reduced : (z : List ℕ) (i : ℕ) → Annuls p A b 0 z → EndsAt A.height z i → slice_index y i ≡ 0
 
 -- [A | b]
-abbrev pub beside : Matrix → List ℕ → Matrix
-beside A b = record {
+abbrev pub augmented : Matrix → List ℕ → Matrix
+augmented A b = record {
   height = A.height;
   width = A.width + 1;
   rows = map (λ i. row A i ++ slice_index b i ∷ []) (range_with_len 0 A.height);
@@ -39,10 +39,6 @@ refuting_rows A b = record {
   rows = map (λ j. list_of A.height (λ i. entry A i j)) (range_with_len 0 A.width) ++ list_of A.height (slice_index b) ∷ [];
 }
 
--- their right-hand side for a matrix of this width: zeros, and a one at the end
+-- the right-hand side of these equations for a matrix of this width: zeros, and a one at the end
 abbrev pub refuting_side : ℕ → List ℕ
 refuting_side n = zeros n ++ 1 ∷ []
-
--- both side by side: the rows of A transposed with a 0 behind each, and b with a 1
-abbrev pub refuting_system : Matrix → List ℕ → Matrix
-refuting_system A b = beside (refuting_rows A b) (refuting_side A.width)

@@ -1,10 +1,11 @@
 //! What an echelon form, a rank, a kernel basis, a solution, a refutation and a valid certificate are, and the laws that tie them.
 //!
-//! Each function here does nothing: its contract is the law, proved of all matrices. None runs an elimination.
+//! Each function here does nothing: its contract is the law, proved of all matrices. None runs an elimination. As there are no bodies,
+//! there is nothing to turn wrong in one, and so no edit that a check has to refuse.
 #![tactic(auto)]
 
 ghost use Rattle.row_space.specs.Example.{IsWorked};
-ghost use Rattle.row_space.specs.Laws.{RrefIsUnique, RankIsUnique, KernelIsUnique, SolutionIsUnique, RefutationIsUnique, SpanFixesHeight, Alternative, RrefExists, FactorsGiveRank, FactorsGiveRref, FactorsGiveKernel, CertificateIsTrue, RankGivesKernel, RankGivesRref, LastLeadRefutes, RrefSolves, RefutingSystem, InverseIsUnique, InverseExcludesNull, RefutingIsSolvable};
+ghost use Rattle.row_space.specs.Laws.{RrefIsUnique, RankIsUnique, KernelIsUnique, SolutionIsUnique, RefutationIsUnique, SpanFixesHeight, Alternative, RrefExists, FactorsGiveRank, FactorsGiveRref, FactorsGiveKernel, CertificateIsTrue, RankGivesKernel, RankGivesRref, LastLeadRefutes, RrefSolves, RefutingSystem, InverseIsUnique, InverseExcludesNull, InverseOrNull, RefutingIsSolvable};
 
 /// A matrix has at most one reduced echelon form.
 pub fn rref_is_unique()
@@ -106,7 +107,12 @@ pub fn inverse_excludes_null()
     ensures { InverseExcludesNull }
 {}
 
-/// The definitions, worked on an example of 3 x 3 modulo 7.
+/// A square matrix has either an inverse or a null vector other than zero, for a prime modulus.
+pub fn inverse_or_null()
+    ensures { InverseOrNull }
+{}
+
+/// The definitions, worked on two examples of 3 x 3 modulo 7.
 pub fn example_is_worked()
     ensures { IsWorked }
 {}

@@ -7,10 +7,11 @@ pub mod Lining
 pub mod Moving
 pub mod Pulls
 pub mod Puts
+pub mod ReadingMatrices
 pub mod RoundTrip
 pub mod Runs
+pub mod Told
 pub mod Values
-pub mod Whole
 pub mod Words
 pub mod WrittenLines
 pub mod WrittenNumbers

@@ -1,13 +1,14 @@
 pub mod Buffered
 pub mod Feeding
+pub mod Kind
 pub mod Laws
 pub mod Lines
 pub mod Memory
 pub mod Numbers
-pub mod Outside
 pub mod Reading
+pub mod ReadingRows
 pub mod Spelling
+pub mod Stream
 pub mod Text
-pub mod Whole
 pub mod Writing
 pub mod Written

@@ -4,6 +4,7 @@ use Rattle.std.specs.List.{range_with_len}
 use Rattle.residue_words.specs.Matrix.{Matrix, list_of}
 use Rattle.sms_text.specs.declared.kind.Kind.{Kind}
 use Rattle.sms_text.specs.declared.kind.Kind.TheVariants as kind
+use Rattle.sms_text.specs.declared.reader.TheConstants.{LARGEST_TEXT_SIZE}
 use Rattle.sms_text.specs.Lines.{Line, lines, size, content, words, is_void}
 use Rattle.sms_text.specs.Numbers.{is_number, is_letter, value, is_value, is_zero, divides_by_zero, value_modulo}
 
@@ -29,15 +30,12 @@ is_one_letter [] = false
 is_one_letter (b ∷ []) = is_letter b
 is_one_letter (b ∷ c ∷ bs) = false
 
-abbrev pub largest_size : ℕ
-largest_size = 2147483647
-
 -- the kinds of fault in their order: Words, Number, Size
 abbrev pub header_of : List (List ℕ) → Result Judged Kind
 header_of (m ∷ n ∷ letter ∷ []) =
     if not (is_one_letter letter) then Err kind.Words else
     if not (is_number m && is_number n) then Err kind.Number else
-    if nat_lt largest_size (value m) || nat_lt largest_size (value n) then Err kind.Size else
+    if nat_lt LARGEST_TEXT_SIZE (value m) || nat_lt LARGEST_TEXT_SIZE (value n) then Err kind.Size else
     Ok (record { item = Sizes (value m) (value n); due = Body (value m) (value n) ∷ [] })
 header_of _ = Err kind.Words
 
@@ -89,13 +87,22 @@ read p ended room number (due ∷ dues) (l ∷ ls) =
       | Err k ↦ Fault number k
     ]
 
+-- what is to be read: from line 1 on, these lines, with values modulo this, in lines of at most so many bytes in all
+pub record Request : Type 0 where
+  pub modulus : ℕ
+  pub limit : ℕ
+  pub due : List Due
+
+abbrev pub reading : Request → Bool → List ℕ → Reading
+reading r ended bytes = read r.modulus ended r.limit 1 r.due (lines bytes)
+
 -- the bytes begin with the wanted parts, which say these items; the lines behind them are the rest
-abbrev pub Reads : List ℕ → Bool → ℕ → List Due → ℕ → List Item → List Line → Type 0
-Reads bytes ended limit wanted p items rest = read p ended limit 1 wanted (lines bytes) ≡ Got items rest
+abbrev pub Reads : Request → List ℕ → Bool → List Item → List Line → Type 0
+Reads r bytes ended items rest = reading r ended bytes ≡ Got items rest
 
 -- the first fault of the bytes stands at this line and is of this kind
-abbrev pub FirstFault : List ℕ → Bool → ℕ → List Due → ℕ → ℕ → Kind → Type 0
-FirstFault bytes ended limit wanted p line k = read p ended limit 1 wanted (lines bytes) ≡ Fault line k
+abbrev pub FirstFault : Request → List ℕ → Bool → ℕ → Kind → Type 0
+FirstFault r bytes ended line k = reading r ended bytes ≡ Fault line k
 
 -- the sum of the values given for row i and column j, up to the end of the text
 abbrev pub value_at : ℕ → ℕ → List Item → ℕ

@@ -1,8 +1,8 @@
 -- Rows with an entry, rows of zeros, and the entries row by row.
-use Rattle.std.proofs.Common.{ℕ, zero, suc, ◌≡◌, ◌≢◌, ◌+◌, ◌-◌, ◌<◌, ◌≤◌, ◌⊎◌, inl, inr, List, [], ◌∷◌, ◌++◌, length, replicate, slice_index, sym, refl, ap, ap₂, subst, ◌∙◌, arith}
+use Rattle.std.proofs.Common.{ℕ, zero, suc, ◌≡◌, ◌≢◌, ◌+◌, ◌-◌, ◌<◌, ◌≤◌, ◌⊎◌, inl, inr, List, [], ◌∷◌, ◌++◌, length, map, replicate, slice_index, sym, refl, ap, ap₂, subst, ◌∙◌, arith}
 use Rattle.std.specs.List.{Contains, flat_map, range_with_len}
 use Rattle.std.proofs.lemmas.Bool.{cases_eq, cases_lt}
-use Rattle.std.proofs.lemmas.List.{append-nil, append_assoc, flat_map_more, get_or_append_left, get_or_push, length_push, map-id}
+use Rattle.std.proofs.lemmas.List.{append-nil, append_assoc, flat_map_more, get_or_append_left, get_or_push, length_push, map-id, replicate_more}
 use Rattle.std.proofs.lemmas.List.FromFn.{map-range_with_len_more}
 use Rattle.std.proofs.lemmas.List.Edits.{get_or-between}
 use Rattle.residue_words.specs.Matrix.{IsMatrix, Matrix, entry, row, zeros}
@@ -10,7 +10,7 @@ use Rattle.residue_words.proofs.Vectors.{at_zeros}
 use Rattle.sparse_rows.specs.Columns.{AreOccurring}
 use Rattle.sparse_rows.specs.Rows.{AreEnough, AreFilled, AreOccupied, AreRising, AreZeroFrom, IsFilled, IsNextFilled, IsZeroRow, nonzeros, row_triples, support, triples_of, with_zeros}
 use Rattle.sparse_rows.specs.Stored.{IsSparse, IsStored, entry_at, part, spread, stored_matrix, stored_row, with_row}
-use Rattle.sparse_rows.proofs.Loops.{sized}
+use Rattle.sparse_rows.proofs.Loops.{beside_more, beside_row, length_zeros, sized}
 use Rattle.sparse_rows.proofs.Occurring.{contained, contains_at, contains_before, contains_last, rising_push}
 use Rattle.sparse_rows.proofs.Spread.{at_spread, entry_cover, entry_here, sparse_none, spread_none, spread_support}
 use Rattle.sparse_rows.proofs.Stored.{length_part, matrix_push, row_stored, starts_below, stored_push}
@@ -233,3 +233,29 @@ pub columns_enough : {p n : ℕ} {starts cs vs : List ℕ} → IsStored p n star
 columns_enough {p} {n} {starts} {cs} {vs} s columns enough t l =
     let w = column_filled s t l in
     enough.all w.0 (slice_index cs t) w.1 (columns_below s t l) w.2
+
+-- the first rows of A and B side by side
+abbrev pub first_beside : Matrix → Matrix → ℕ → Matrix
+first_beside A B i = sized i (A.width + B.width) (map (λ k. row A k ++ row B k) (range_with_len 0 i))
+
+-- rows of zeros more, where neither has an entry
+pub beside_zeros : {p q : ℕ} {A B : Matrix} → IsMatrix p A → IsMatrix q B → A.height ≡ B.height → (i d : ℕ) → i + d ≤ A.height →
+    ((k : ℕ) → i ≤ k → k < i + d → IsZeroRow A k) → ((k : ℕ) → i ≤ k → k < i + d → IsZeroRow B k) → with_zeros (first_beside A B i) d ≡ first_beside A B (i + d)
+beside_zeros {p} {q} {A} {B} a b same i zero l za zb =
+    let M : Matrix = first_beside A B i in
+    ap₂ (λ h rs. sized h (A.width + B.width) rs) (let e : i + zero ≡ i = omega arith in e) (append-nil M.rows) ∙ ap (first_beside A B) (let e : i ≡ i + zero = omega arith in e)
+beside_zeros {p} {q} {A} {B} a b same i (suc d) l za zb =
+    let w : ℕ = A.width + B.width in
+    let z : List ℕ = zeros w in
+    let M : Matrix = first_beside A B i in
+    let k : ℕ = i + d in
+    let here : z ≡ row A k ++ row B k =
+    zeros_append A.width B.width ∙ ap₂ ◌++◌ (sym (zero_row a k (omega arith) (za k (omega arith) (omega arith)))) (sym (zero_row b k (omega arith) (zb k (omega arith) (omega arith)))) in
+    ap₂ (λ h rs. sized h w rs) (let e : i + suc d ≡ i + d + 1 = omega arith in e)
+    (ap (λ t. M.rows ++ t) (ap (λ t. replicate t z) (let e : suc d ≡ d + 1 = omega arith in e) ∙ sym (replicate_more d z)) ∙ sym (append_assoc M.rows (replicate d z) (z ∷ [])))
+    ∙ ap (λ N. with_row N z) (beside_zeros a b same i d (omega arith) (λ t u v. za t u (omega arith)) (λ t u v. zb t u (omega arith)))
+    ∙ beside_more A B (i + d) w z here ∙ ap (first_beside A B) (let e : i + d + 1 ≡ i + suc d = omega arith in e)
+  where
+    zeros_append : (n m : ℕ) → zeros (n + m) ≡ zeros n ++ zeros m
+    zeros_append n m = beside_row (zeros n) (zeros m) (zeros (n + m)) (zeros (n + m)) n m (length_zeros n) (length_zeros m) (length_zeros (n + m))
+        (λ j l. at_zeros (n + m) j (omega arith) ∙ sym (at_zeros n j l)) (λ j l. refl) (λ j l. at_zeros (n + m) (n + j) (omega arith) ∙ sym (at_zeros m j l))

@@ -1,11 +1,14 @@
 pub mod Building
 pub mod Cuts
+pub mod Expanding
 pub mod FilledRows
 pub mod Filling
 pub mod Grouping
 pub mod Loops
+pub mod Marking
 pub mod Occurring
 pub mod Renaming
+pub mod Renumbering
 pub mod Spread
 pub mod Stored
 pub mod Summing

@@ -1,5 +1,5 @@
 -- Cells: values at places, where a matrix has 2^32 places a row.
-use Rattle.std.specs.Prelude.{◌≡◌, ◌<◌, ◌≤◌, ◌+◌, ◌*◌, ◌/◌, ◌%◌, ◌==◌, if◌then◌else◌, ℕ, List, length, slice_index, slice_index_or, slice_range, All}
+use Rattle.std.specs.Prelude.{◌≡◌, ◌<◌, ◌≤◌, ◌+◌, ◌*◌, ◌/◌, ◌%◌, ◌==◌, if◌then◌else◌, ℕ, List, [], ◌∷◌, length, slice_index, slice_index_or, slice_range, All}
 use Rattle.residue_words.specs.declared.modulus.TheConstants.{MODULUS_BOUND}
 use Rattle.sparse_rows.specs.declared.rows.TheConstants.{LARGEST_SIZE}
 use Rattle.std.specs.List.{sum_by}
@@ -67,3 +67,9 @@ pub record IsCut (cells : List Cell) (i at : ℕ) : Type 0 where
 pub record AreCuts (m : ℕ) (cells : List Cell) (starts : List ℕ) : Type 0 where
   pub long : length starts ≡ m + 1
   pub each : (i : ℕ) → i ≤ m → IsCut cells i (slice_index starts i)
+
+-- the cells in rows of other numbers
+abbrev pub renumbered : List ℕ → List Cell → List Cell
+renumbered [] cs = []
+renumbered (k ∷ ks) [] = []
+renumbered (k ∷ ks) (c ∷ cs) = record { place = place_of k (column_of c); val = c.val } ∷ renumbered ks cs

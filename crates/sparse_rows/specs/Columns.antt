@@ -1,5 +1,5 @@
 -- Lists of columns: which occur, and at which places they stand.
-use Rattle.std.specs.Prelude.{◌≡◌, ◌<◌, ◌↔◌, ℕ, Bool, true, false, List, length, map, slice_index, slice_index_or, Contains}
+use Rattle.std.specs.Prelude.{◌≡◌, ◌≢◌, ◌<◌, ◌↔◌, ℕ, Bool, true, false, List, length, map, slice_index, slice_index_or, Contains}
 use Rattle.sparse_rows.specs.Rows.{AreRising}
 
 -- the columns named stand at these places among others
@@ -24,3 +24,17 @@ pub record AreMarked (marks : List Bool) (found : List ℕ) : Type 0 where
   pub below : (k : ℕ) → k < length found → slice_index found k < length marks
   pub marked : (k : ℕ) → k < length found → slice_index_or marks (slice_index found k) false ≡ true
   pub all : (j : ℕ) → slice_index_or marks j false ≡ true → Contains found j
+
+-- the number stands at place k of the list
+abbrev pub IsAt : List ℕ → ℕ → ℕ → Type 0
+IsAt xs x k = (k < length xs) × (slice_index xs k ≡ x)
+
+-- the number isn't in the list
+abbrev pub IsAbsent : List ℕ → ℕ → Type 0
+IsAbsent xs x = (k : ℕ) → k < length xs → slice_index xs k ≢ x
+
+-- these columns of a matrix with n columns go to columns below m
+pub record GoTo (n m : ℕ) (columns : List ℕ) : Type 0 where
+  pub many : length columns ≡ n
+  pub rising : AreRising columns
+  pub below : (k : ℕ) → k < length columns → slice_index columns k < m

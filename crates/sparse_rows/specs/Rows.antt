@@ -95,7 +95,7 @@ abbrev pub triple : ℕ × ℕ × ℕ → Triple
 triple t = record { i = t.0; j = t.1; v = t.2 }
 
 -- such a value lies inside a matrix of m x n modulo p
-pub record IsInside (m n p : ℕ) (t : ℕ × ℕ × ℕ) : Type 0 where
+pub record FitsMatrix (m n p : ℕ) (t : ℕ × ℕ × ℕ) : Type 0 where
   pub row : t.0 < m
   pub column : t.1 < n
   pub residue : t.2 < p

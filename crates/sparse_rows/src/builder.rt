@@ -71,7 +71,9 @@ impl RowsBuilder {
 
     /// The matrix of the sums at each place. What was pushed is counted by rows, moved to its row and sorted within it, all in
     /// place: in time proportional to the pushed entries and the height where rows are pushed by ascending columns. While it
-    /// runs it takes, beside what was pushed, 16 bytes a row, and then as much as the matrix.
+    /// runs it takes, beside what was pushed, 16 bytes a row, and then as much as the matrix. Where the height is more than four
+    /// times the pushed entries and some thousand, all is sorted at once, in time and memory by the entries alone, whatever
+    /// the height.
     pub fn finish(self) -> Result<Rows, AllocError>
         ensures modulus { IfOk result (λ rows. rows.modulus ≡ self.modulus) }
         ensures matrix { IfOk result (λ rows. rows.matrix ≡ built self.modulus self.height self.width self.pushed) }

@@ -1,6 +1,6 @@
 // What is pushed: a value at a place, in one word beside it.
-ghost use Rattle.std.specs.Prelude.{◌≡◌, map, All, IfOk, ◌<◌, ◌≤◌, ◌^◌};
-ghost use Rattle.sparse_rows.specs.Cells.{AreCuts, IsByRows, column_of, place_of, row_of};
+ghost use Rattle.std.specs.Prelude.{◌≡◌, length, map, All, IfOk, ◌<◌, ◌≤◌, ◌^◌};
+ghost use Rattle.sparse_rows.specs.Cells.{AreCuts, IsByRows, column_of, place_of, renumbered, row_of};
 
 use std::alloc::{AllocError, Global};
 
@@ -77,4 +77,31 @@ pub(crate) fn values(alloc: Global, cells: &[Cell]) -> Result<Vec<u64>, AllocErr
         values.push(cell.val)?;
     }
     Ok(values)
+}
+
+// The rows of the cells.
+pub(crate) fn row_numbers(alloc: Global, cells: &[Cell]) -> Result<Vec<u32>, AllocError>
+    ensures { IfOk result (λ rows. rows.items ≡ map row_of cells.now) }
+{
+    let mut rows = Vec::with_capacity(alloc, cells.len())?;
+    for cell in cells {
+        rows.push(cell.row())?;
+    }
+    Ok(rows)
+}
+
+// The cells in these rows.
+pub(crate) fn renumbered(
+    alloc: Global,
+    rows: &[u32],
+    cells: &[Cell],
+) -> Result<Vec<Cell>, AllocError>
+    requires { length rows.now ≡ length cells.now }
+    ensures { IfOk result (λ made. made.items ≡ renumbered rows.now cells.now) }
+{
+    let mut made = Vec::with_capacity(alloc, cells.len())?;
+    for k in 0..cells.len() {
+        made.push(Cell::new(rows[k], cells[k].column(), cells[k].val))?;
+    }
+    Ok(made)
 }

@@ -1,6 +1,7 @@
 //! Sparse matrices of residues as compressed rows: what builds them, what is made of them, and single rows.
 //!
-//! Rows and columns count from 0, at most 2,147,483,648 of each. A matrix takes 12 bytes an entry and 8 a row.
+//! Rows and columns count from 0, at most 2,147,483,648 of each. A matrix takes 12 bytes an entry and 8 a row;
+//! where it has many more rows than entries, only the rows that have an entry are stored.
 #![tactic(auto)]
 
 mod builder;
@@ -8,15 +9,18 @@ mod cells;
 mod column_lists;
 mod group;
 mod list;
+mod marks;
 mod order;
 mod parts;
 mod rows;
 mod sparse;
+mod stored_rows;
 mod sums;
 #[cfg(test)]
 mod tests;
 
 pub use builder::RowsBuilder;
 pub use list::List;
+pub use marks::Marks;
 pub use rows::{LARGEST_SIZE, Rows};
 pub use sparse::Sparse;

@@ -1,20 +1,21 @@
 // A matrix as compressed rows.
 ghost use Rattle.residue_words.specs.declared.modulus.TheConstants.{MODULUS_BOUND};
 ghost use Rattle.sparse_rows.specs.declared.rows.TheConstants.{LARGEST_SIZE};
-ghost use Rattle.std.specs.Prelude.{◌≡◌, ◌<◌, ◌≤◌, ◌+◌, ◌*◌, ◌%◌, ◌^◌, ℕ, [], ◌∷◌, ◌++◌, length, map, slice_index, All, IfOk, OnErr, OnOk};
+ghost use Rattle.std.specs.Prelude.{◌≡◌, ◌<◌, ◌≤◌, ◌+◌, ◌*◌, ◌%◌, ◌^◌, ℕ, [], ◌∷◌, ◌++◌, length, false, if◌then◌else◌, map, slice_index, All, IfOk, OnErr, OnOk};
 ghost use Rattle.std.specs.Option.{MatchOption};
 ghost use Rattle.residue_words.specs.Matrix.{IsMatrix, IsVector, apply, entry, row};
 ghost use Rattle.residue_words.specs.Residues.{sum_below};
+ghost use Rattle.sparse_rows.specs.Columns.{GoTo};
+ghost use Rattle.sparse_rows.specs.Placed.{AreBothZeroFrom, IsNextInEither};
 ghost use Rattle.sparse_rows.specs.Cells.{AreEntries, IsWithin, place_of, weight};
-ghost use Rattle.sparse_rows.specs.Rows.{AreEnough, AreFilled, AreOccupied, AreRising, AreZeroFrom, IsInside, IsNextFilled, beside, built, entry_count, identity, matrix_by, narrowed, nonzeros, row_triples, selected, support, transposed, triple, triples_of, widened, with_zeros};
+ghost use Rattle.sparse_rows.specs.Rows.{AreEnough, AreFilled, AreOccupied, AreRising, AreZeroFrom, FitsMatrix, IsNextFilled, beside, built, entry_count, identity, matrix_by, narrowed, nonzeros, row_triples, selected, support, transposed, triple, triples_of, widened, with_zeros};
 ghost use Rattle.sparse_rows.specs.Stored.{IsSparse, spread, with_row};
 
 use crate::builder::RowsBuilder;
-use crate::cells::{Cell, columns, row_starts, values};
-use crate::column_lists::{named_columns, occurring, places_among};
-use crate::group::group;
-use crate::parts::{part, part_numbers};
+use crate::cells::{Cell, renumbered, row_numbers};
+use crate::column_lists::{first_from, occurring, place_of, places_among};
 use crate::sparse::Sparse;
+use crate::stored_rows::StoredRows;
 use residue_words::Modulus;
 use std::alloc::{AllocError, Global};
 use std::marker::Model;
@@ -23,25 +24,29 @@ use std::marker::Model;
 pub const LARGEST_SIZE: u32 = 0x8000_0000;
 
 /// A matrix of residues as compressed rows: of each row the columns with a nonzero entry, ascending, and the entries there.
-/// Contracts see the plain matrix with its modulus. It takes 12 bytes an entry and 8 bytes a row.
+/// Contracts see the plain matrix with its modulus. It takes 12 bytes an entry and 8 bytes a row; where the rows are many more
+/// than the entries, 12 bytes for each row that has an entry, and none for the others.
 #[derive(Drop)]
 pub struct Rows {
-    modulus: Modulus,
-    width: u32,
-    starts: Vec<usize>,
-    cols: Vec<u32>,
-    vals: Vec<u64>,
+    height: u32,
+    stored: StoredRows,
+    // Whether each row is stored; else those that have an entry are, and `rows` says which they are.
+    every_row: bool,
+    rows: Vec<u32>,
 }
 
 impl Model for Rows {
     ghost use Rattle.sparse_rows.specs.Rows.{ResidueMatrix};
-    ghost use Rattle.sparse_rows.specs.Stored.{IsStored, stored_matrix};
+    ghost use Rattle.sparse_rows.specs.Placed.{IsPlaced, placed};
 
     ghost Value = { ResidueMatrix };
 
-    ghost view = { λ r. record { modulus = r.modulus; matrix = stored_matrix r.width r.starts.items r.cols.items r.vals.items } };
+    ghost view = { λ r. record {
+      modulus = r.stored.modulus;
+      matrix = placed r.every_row r.height r.rows.items r.stored.matrix;
+    } };
 
-    ghost invariant = { λ r. IsStored r.modulus r.width r.starts.items r.cols.items r.vals.items };
+    ghost invariant = { λ r. IsPlaced r.every_row r.height r.rows.items r.stored.matrix };
 }
 
 impl Rows {
@@ -58,15 +63,13 @@ impl Rows {
         ensures modulus { IfOk result (λ rows. rows.modulus ≡ modulus) }
         ensures matrix { IfOk result (λ rows. rows.matrix ≡ record { height = 0; width = width; rows = [] }) }
     {
-        let _ = modulus.p();
-        let mut starts = Vec::with_capacity(alloc, height as usize + 1)?;
-        starts.push(0)?;
+        let every_row = stores_every_row(height, entries);
+        let rows = if every_row { height } else { 0 };
         Ok(Rows {
-            modulus,
-            width,
-            starts,
-            cols: Vec::with_capacity(alloc, entries)?,
-            vals: Vec::with_capacity(alloc, entries)?,
+            height: 0,
+            stored: StoredRows::with_room(alloc, modulus, width, rows, entries)?,
+            every_row,
+            rows: Vec::new(alloc),
         })
     }
 
@@ -78,11 +81,20 @@ impl Rows {
         ensures matrix { OnOk result (self.new.matrix ≡ with_row self.old.matrix (spread self.old.matrix.width cols.now vals.now)) }
         ensures err { OnErr result (self.new.matrix ≡ self.old.matrix) }
     {
-        self.starts.reserve(1)?;
-        self.vals.reserve(vals.len())?;
-        self.cols.extend_from_slice(cols)?;
-        self.vals.extend_from_slice(vals)?;
-        self.starts.push(self.cols.len())?;
+        let _ = self.stored.height();
+        if self.every_row {
+            self.stored.append_slices(cols, vals)?;
+            self.height += 1;
+            return Ok(());
+        }
+        if cols.is_empty() {
+            self.height += 1;
+            return Ok(());
+        }
+        self.rows.reserve(1)?;
+        self.stored.append_slices(cols, vals)?;
+        self.rows.push(self.height)?;
+        self.height += 1;
         Ok(())
     }
 
@@ -105,8 +117,13 @@ impl Rows {
         ensures matrix { OnOk result (self.new.matrix ≡ with_zeros self.old.matrix count) }
         ensures err { OnErr result (self.new.matrix ≡ self.old.matrix) }
     {
-        let rows = self.starts.len() + count as usize;
-        self.starts.resize(rows, self.cols.len())?;
+        let _ = self.stored.height();
+        if self.every_row {
+            self.stored.append_zeros(count)?;
+            self.height += count;
+            return Ok(());
+        }
+        self.height += count;
         Ok(())
     }
 
@@ -121,7 +138,7 @@ impl Rows {
     ) -> Result<Rows, AllocError>
         requires height { m ≤ LARGEST_SIZE }
         requires width { n ≤ LARGEST_SIZE }
-        requires inside { All (IsInside m n p.now) triples.now }
+        requires inside { All (FitsMatrix m n p.now) triples.now }
         ensures modulus { IfOk result (λ rows. rows.modulus ≡ p.now) }
         ensures matrix { IfOk result (λ rows. rows.matrix ≡ built p.now m n (map triple triples.now)) }
     {
@@ -147,13 +164,23 @@ impl Rows {
         ensures modulus { IfOk result (λ rows. rows.modulus ≡ modulus) }
         ensures matrix { IfOk result (λ rows. rows.matrix ≡ matrix_by height width (λ i j. weight (place_of i j) cells.now)) }
     {
-        let _ = modulus.p();
+        if stores_every_row(height, cells.len()) {
+            return Ok(Rows {
+                height,
+                stored: StoredRows::from_cells(alloc, modulus, height, width, cells)?,
+                every_row: true,
+                rows: Vec::new(alloc),
+            });
+        }
+        let numbers = row_numbers(alloc, cells)?;
+        let rows = occurring(alloc, height, &numbers)?;
+        let places = places_among(alloc, &rows, &numbers)?;
+        let cells = renumbered(alloc, &places, cells)?;
         Ok(Rows {
-            modulus,
-            width,
-            starts: row_starts(alloc, height, cells)?,
-            cols: columns(alloc, cells)?,
-            vals: values(alloc, cells)?,
+            height,
+            stored: StoredRows::from_cells(alloc, modulus, rows.len() as u32, width, &cells)?,
+            every_row: false,
+            rows,
         })
     }
 
@@ -179,7 +206,9 @@ impl Rows {
         ensures bound { result ≤ LARGEST_SIZE }
         ensures sound { IsMatrix self.now.modulus self.now.matrix }
     {
-        (self.starts.len() - 1) as u32
+        // The proof wants what the modulus says of the stored rows.
+        let _ = self.stored.modulus();
+        self.height
     }
 
     /// How many columns the matrix has.
@@ -187,7 +216,7 @@ impl Rows {
         ensures value { result ≡ self.now.matrix.width }
         ensures bound { result ≤ LARGEST_SIZE }
     {
-        self.width
+        self.stored.width()
     }
 
     /// The modulus of the residues.
@@ -197,14 +226,14 @@ impl Rows {
         ensures in_range { result < MODULUS_BOUND }
         ensures sound { IsMatrix self.now.modulus self.now.matrix }
     {
-        self.modulus
+        self.stored.modulus()
     }
 
     /// How many entries are not 0.
     pub fn entries(&self) -> u64
         ensures { result ≡ entry_count self.now.matrix }
     {
-        self.cols.len() as u64
+        self.stored.entries()
     }
 
     /// The columns of the nonzero entries of row i, ascending.
@@ -215,7 +244,13 @@ impl Rows {
         ensures below_width { (k : ℕ) → k < length result.now → slice_index result.now k < self.now.matrix.width }
         ensures ascending { (k t : ℕ) → k < t → t < length result.now → slice_index result.now k < slice_index result.now t }
     {
-        part(&self.cols, &self.starts, i as usize)
+        if self.every_row {
+            return self.stored.cols(i);
+        }
+        match place_of(&self.rows, i) {
+            Some(place) => self.stored.cols(place as u32),
+            None => &[],
+        }
     }
 
     /// The nonzero entries of row i, by ascending columns.
@@ -226,19 +261,28 @@ impl Rows {
         ensures positive { (k : ℕ) → k < length result.now → 0 < slice_index result.now k }
         ensures residues { (k : ℕ) → k < length result.now → slice_index result.now k < self.now.modulus }
     {
-        part(&self.vals, &self.starts, i as usize)
+        if self.every_row {
+            return self.stored.vals(i);
+        }
+        match place_of(&self.rows, i) {
+            Some(place) => self.stored.vals(place as u32),
+            None => &[],
+        }
     }
 
     /// The first row from `from` on that has an entry, if there is one. It takes no memory.
     pub fn next_filled(&self, from: u32) -> Option<u32>
         ensures { MatchOption result (AreZeroFrom self.now.matrix from) (IsNextFilled self.now.matrix from) }
     {
-        for i in from..self.height() {
-            if !self.cols(i).is_empty() {
-                return Some(i);
-            }
+        if self.every_row {
+            return self.stored.next_filled(from);
         }
-        None
+        let place = first_from(&self.rows, from);
+        if place < self.rows.len() {
+            Some(self.rows[place])
+        } else {
+            None
+        }
     }
 
     /// The rows that have an entry, ascending.
@@ -261,14 +305,16 @@ impl Rows {
     pub fn occupied(&self, alloc: Global) -> Result<Vec<u32>, AllocError>
         ensures { IfOk result (λ columns. AreOccupied self.now.matrix columns.items) }
     {
-        occurring(alloc, self.width, &self.cols)
+        self.stored.occupied(alloc)
     }
 
     /// The nonzero entries, row by row and by ascending columns: of each the row, the column and the residue.
     pub fn triples(&self, alloc: Global) -> Result<Vec<(u32, u32, u64)>, AllocError>
         ensures { IfOk result (λ triples. triples.items ≡ triples_of self.now.matrix) }
     {
-        let mut triples = Vec::with_capacity(alloc, self.cols.len())?;
+        let mut triples = Vec::with_capacity(alloc, self.entries() as usize)?;
+        // The proof that i + 1 is no overflow wants to know how high a matrix is.
+        let _ = self.height();
         let mut from = 0;
         while let Some(i) = self.next_filled(from) {
             self.list_row(i, &mut triples)?;
@@ -284,12 +330,13 @@ impl Rows {
         ensures modulus { IfOk result (λ rows. rows.modulus ≡ self.now.modulus) }
         ensures matrix { IfOk result (λ rows. rows.matrix ≡ narrowed self.now.matrix columns.now) }
     {
+        // The proof wants that the stored rows are residues.
+        let _ = self.stored.modulus();
         Ok(Rows {
-            modulus: self.modulus,
-            width: columns.len() as u32,
-            starts: Vec::from_slice(alloc, &self.starts)?,
-            cols: places_among(alloc, columns, &self.cols)?,
-            vals: Vec::from_slice(alloc, &self.vals)?,
+            height: self.height,
+            stored: self.stored.narrowed(alloc, columns)?,
+            every_row: self.every_row,
+            rows: Vec::from_slice(alloc, &self.rows)?,
         })
     }
 
@@ -303,12 +350,13 @@ impl Rows {
         ensures modulus { IfOk result (λ rows. rows.modulus ≡ self.now.modulus) }
         ensures matrix { IfOk result (λ rows. rows.matrix ≡ widened self.now.matrix width columns.now) }
     {
+        // The proof wants that the stored rows are residues.
+        let _ = self.stored.modulus();
         Ok(Rows {
-            modulus: self.modulus,
-            width,
-            starts: Vec::from_slice(alloc, &self.starts)?,
-            cols: named_columns(alloc, columns, &self.cols)?,
-            vals: Vec::from_slice(alloc, &self.vals)?,
+            height: self.height,
+            stored: self.stored.widened(alloc, width, columns)?,
+            every_row: self.every_row,
+            rows: Vec::from_slice(alloc, &self.rows)?,
         })
     }
 
@@ -317,14 +365,25 @@ impl Rows {
         ensures modulus { IfOk result (λ rows. rows.modulus ≡ self.now.modulus) }
         ensures matrix { IfOk result (λ rows. rows.matrix ≡ transposed self.now.matrix) }
     {
-        let rows = part_numbers(alloc, &self.starts)?;
-        let grouped = group(alloc, self.width, &self.cols, &rows, &self.vals)?;
+        // The proof wants that the stored rows are residues.
+        let _ = self.stored.modulus();
+        let width = self.stored.width();
+        if stores_every_row(width, self.stored.entries() as usize) {
+            let stored = self.stored.transpose(alloc)?;
+            return Ok(Rows {
+                height: width,
+                stored: with_columns(alloc, stored, self.every_row, self.height, &self.rows)?,
+                every_row: true,
+                rows: Vec::new(alloc),
+            });
+        }
+        let columns = self.stored.occupied(alloc)?;
+        let stored = self.stored.narrowed(alloc, &columns)?.transpose(alloc)?;
         Ok(Rows {
-            modulus: self.modulus,
-            width: self.height(),
-            starts: grouped.starts,
-            cols: grouped.others,
-            vals: grouped.vals,
+            height: width,
+            stored: with_columns(alloc, stored, self.every_row, self.height, &self.rows)?,
+            every_row: false,
+            rows: columns,
         })
     }
 
@@ -336,16 +395,18 @@ impl Rows {
         ensures modulus { IfOk result (λ rows. rows.modulus ≡ self.now.modulus) }
         ensures matrix { IfOk result (λ rows. rows.matrix ≡ beside self.now.matrix right.now.matrix) }
     {
-        let width = self.width + right.width;
-        let entries = self.cols.len().saturating_add(right.cols.len());
-        let mut rows = Rows::with_room(alloc, self.modulus, width, self.height(), entries)?;
-        let mut row = Sparse::new(alloc, width, self.modulus);
-        for i in 0..self.height() {
-            row.clear();
-            self.copy_shifted(i, 0, &mut row)?;
-            right.copy_shifted(i, self.width, &mut row)?;
+        // The proof wants that `right` is a matrix of residues.
+        let _ = right.modulus();
+        let width = self.width() + right.width();
+        let entries = self.entries().saturating_add(right.entries()) as usize;
+        let mut rows = Rows::with_room(alloc, self.modulus(), width, self.height(), entries)?;
+        let mut row = Sparse::new(alloc, width, self.modulus());
+        while let Some(i) = self.next_in_either(right, rows.height()) {
+            rows.append_zeros(i - rows.height())?;
+            self.row_beside(i, right, &mut row)?;
             rows.append(&row)?;
         }
+        rows.append_zeros(self.height() - rows.height())?;
         Ok(rows)
     }
 
@@ -357,7 +418,13 @@ impl Rows {
         ensures matrix { IfOk result (λ made. made.matrix ≡ selected self.now.matrix rows.now) }
     {
         let room = self.entries_of(rows);
-        let mut made = Rows::with_room(alloc, self.modulus, self.width, rows.len() as u32, room)?;
+        let mut made = Rows::with_room(
+            alloc,
+            self.modulus(),
+            self.width(),
+            rows.len() as u32,
+            room,
+        )?;
         for i in rows {
             made.append_slices(self.cols(*i), self.vals(*i))?;
         }
@@ -381,11 +448,10 @@ impl Rows {
         ensures { IfOk result (λ rows. rows ≡ self.now) }
     {
         Ok(Rows {
-            modulus: self.modulus,
-            width: self.width,
-            starts: Vec::from_slice(alloc, &self.starts)?,
-            cols: Vec::from_slice(alloc, &self.cols)?,
-            vals: Vec::from_slice(alloc, &self.vals)?,
+            height: self.height,
+            stored: self.stored.copy(alloc)?,
+            every_row: self.every_row,
+            rows: Vec::from_slice(alloc, &self.rows)?,
         })
     }
 
@@ -411,6 +477,41 @@ impl Rows {
         for k in 0..cols.len() {
             triples.push((i, cols[k], vals[k]))?;
         }
+        Ok(())
+    }
+
+    // The first row from `from` on in which this matrix or `right` has an entry, if there is one.
+    fn next_in_either(&self, right: &Rows, from: u32) -> Option<u32>
+        requires heights { self.now.matrix.height ≡ right.now.matrix.height }
+        ensures { MatchOption result (AreBothZeroFrom self.now.matrix right.now.matrix from)
+            (IsNextInEither self.now.matrix right.now.matrix from) }
+    {
+        let Some(i) = self.next_filled(from) else {
+            return right.next_filled(from);
+        };
+        let Some(j) = right.next_filled(from) else {
+            return Some(i);
+        };
+        Some(i.min(j))
+    }
+
+    // Makes `to` the row i of this matrix, continued by that of `right`.
+    fn row_beside(&self, i: u32, right: &Rows, to: &mut Sparse) -> Result<(), AllocError>
+        requires row { i < self.now.matrix.height }
+        requires heights { self.now.matrix.height ≡ right.now.matrix.height }
+        requires moduli { self.now.modulus ≡ right.now.modulus }
+        requires widths { self.now.matrix.width + right.now.matrix.width ≤ LARGEST_SIZE }
+        requires modulus { to.old.modulus ≡ self.now.modulus }
+        requires length { length to.old.row ≡ self.now.matrix.width + right.now.matrix.width }
+        ensures modulus { to.new.modulus ≡ to.old.modulus }
+        ensures length { length to.new.row ≡ length to.old.row }
+        ensures row { OnOk result (to.new.row ≡ row self.now.matrix i ++ row right.now.matrix i) }
+    {
+        // The proof wants that both are matrices of residues.
+        let _ = (self.modulus(), right.modulus());
+        to.clear();
+        self.copy_shifted(i, 0, to)?;
+        right.copy_shifted(i, self.width(), to)?;
         Ok(())
     }
 
@@ -442,13 +543,42 @@ impl Rows {
         requires column { IsVector self.now.modulus self.now.matrix.width x.now }
         ensures { result ≡ sum_below self.now.matrix.width (λ j. entry self.now.matrix i j * slice_index x.now j) % self.now.modulus }
     {
+        let modulus = self.modulus();
         let cols = self.cols(i);
         let vals = self.vals(i);
         let mut sum = 0;
         for k in 0..cols.len() {
-            let product = self.modulus.mul(vals[k], x[cols[k] as usize]);
-            sum = self.modulus.add(sum, product);
+            let product = modulus.mul(vals[k], x[cols[k] as usize]);
+            sum = modulus.add(sum, product);
         }
         sum
+    }
+}
+
+// Whether a matrix of this height with so many entries stores each of its rows: where the rows are at most four times as many as
+// the entries and a few thousand. Each row then costs 8 bytes and is found at once, and the index takes less than 32 bytes an
+// entry; else only the rows that have an entry are stored, which cost 12 bytes and a search.
+pub(crate) fn stores_every_row(height: u32, entries: usize) -> bool {
+    height as usize / 4 <= entries.saturating_add(1024)
+}
+
+// The matrix itself, or, where not every row was stored, with its columns moved to where those rows belong.
+fn with_columns(
+    alloc: Global,
+    stored: StoredRows,
+    every_row: bool,
+    height: u32,
+    rows: &[u32],
+) -> Result<StoredRows, AllocError>
+    requires height { height ≤ LARGEST_SIZE }
+    requires rows { every_row ≡ false → GoTo stored.matrix.width height rows.now }
+    ensures modulus { IfOk result (λ made. made.modulus ≡ stored.modulus) }
+    ensures matrix { IfOk result (λ made. made.matrix
+        ≡ (if every_row then stored.matrix else widened stored.matrix height rows.now)) }
+{
+    if every_row {
+        Ok(stored)
+    } else {
+        stored.widened(alloc, height, rows)
     }
 }

@@ -1,8 +1,8 @@
-// Each call once, on small matrices modulo 7.
+// Each call once, on small matrices modulo 7 and on huge ones with few entries.
 ghost use Rattle.sparse_rows.specs.declared.rows.TheConstants.{LARGEST_SIZE};
 ghost use Rattle.std.specs.Prelude.{◌≡◌, ◌≤◌, IfOk};
 
-use crate::{List, Rows, RowsBuilder, Sparse};
+use crate::{LARGEST_SIZE, List, Rows, RowsBuilder, Sparse};
 use residue_words::Modulus;
 use std::alloc::{AllocError, Global};
 use std::test::Fail;
@@ -22,17 +22,6 @@ fn built(alloc: Global, m: u32, n: u32, triples: &[(u32, u32, u64)]) -> Result<R
         }
     }
     builder.finish()
-}
-
-// The entries row by row: row, column, value.
-fn listed(alloc: Global, rows: &Rows) -> Result<Vec<(u32, u32, u64)>, AllocError> {
-    let mut list = Vec::new(alloc);
-    for i in 0..rows.height() {
-        for (j, v) in rows.cols(i).iter().zip(rows.vals(i)) {
-            list.push((i, *j, *v))?;
-        }
-    }
-    Ok(list)
 }
 
 // The sum modulo 7 of what stands at a place.
@@ -85,40 +74,37 @@ fn what_is_pushed_in_any_order_is_summed(rt: HostRuntime) -> Result<(), Fail> {
     let alloc = rt.alloc();
     for count in [0, 1, 2, 5, 20, 60, 300] {
         let pushed = scattered(alloc, count, count)?;
-        assert_eq!(rt;
-            listed(alloc, &built(alloc, 9, 6, &pushed)?)?.as_slice(),
-            sums(alloc, 9, 6, &pushed)?.as_slice(),
-            "{count} pushed"
-        );
+        // The same in few rows, and in many more than there are entries.
+        for height in [9, LARGEST_SIZE] {
+            assert_eq!(rt;
+                built(alloc, height, 6, &pushed)?.triples(alloc)?.as_slice(),
+                sums(alloc, 9, 6, &pushed)?.as_slice(),
+                "{count} pushed"
+            );
+        }
     }
     Ok(())
 }
 
+const SMALL: &[(u32, u32, u64)] = &[
+    (2, 1, 5),
+    (0, 1, 4),
+    (0, 0, 2),
+    (2, 1, 1),
+    (0, 2, 1),
+    (1, 0, 1),
+    (1, 1, 2),
+    (2, 0, 3),
+    (2, 2, 1),
+];
+
 #[test]
 fn small_matrices(rt: HostRuntime) -> Result<(), Fail> {
     let alloc = rt.alloc();
-    let p = Modulus::new(7);
-    let x = built(
-        alloc,
-        3,
-        3,
-        &[
-            (2, 1, 5),
-            (0, 1, 4),
-            (0, 0, 2),
-            (2, 1, 1),
-            (0, 2, 1),
-            (1, 0, 1),
-            (1, 1, 2),
-            (2, 0, 3),
-            (2, 2, 1),
-        ],
-    )?;
+    let x = built(alloc, 3, 3, SMALL)?;
     let column = built(alloc, 3, 1, &[(0, 0, 1), (2, 0, 1)])?;
-
-    let transposed = listed(alloc, &x.transpose(alloc)?)?;
     assert_eq!(rt;
-        transposed.as_slice(),
+        x.transpose(alloc)?.triples(alloc)?.as_slice(),
         [
             (0, 0, 2),
             (0, 1, 1),
@@ -131,11 +117,8 @@ fn small_matrices(rt: HostRuntime) -> Result<(), Fail> {
         ]
         .as_slice()
     );
-
-    let beside = x.beside(alloc, &column)?;
-    assert_eq!(rt; beside.width(), 4);
     assert_eq!(rt;
-        listed(alloc, &beside)?.as_slice(),
+        x.beside(alloc, &column)?.triples(alloc)?.as_slice(),
         [
             (0, 0, 2),
             (0, 1, 4),
@@ -150,10 +133,8 @@ fn small_matrices(rt: HostRuntime) -> Result<(), Fail> {
         ]
         .as_slice()
     );
-
-    let selected = listed(alloc, &x.select(alloc, &[2, 0])?)?;
     assert_eq!(rt;
-        selected.as_slice(),
+        x.select(alloc, &[2, 0])?.triples(alloc)?.as_slice(),
         [
             (0, 0, 3),
             (0, 1, 6),
@@ -164,19 +145,114 @@ fn small_matrices(rt: HostRuntime) -> Result<(), Fail> {
         ]
         .as_slice()
     );
-
     assert_eq!(rt;
         x.times(alloc, &[5, 1, 0])?.as_slice(),
         [0, 0, 0].as_slice()
     );
     assert_eq!(rt;
-        listed(alloc, &x.copy(alloc)?)?.as_slice(),
-        listed(alloc, &x)?.as_slice()
+        x.copy(alloc)?.triples(alloc)?.as_slice(),
+        x.triples(alloc)?.as_slice()
     );
     assert_eq!(rt; built(alloc, 1, 1, &[(0, 0, 3), (0, 0, 4)])?.entries(), 0);
     assert_eq!(rt;
-        listed(alloc, &Rows::identity(alloc, 2, &p)?)?.as_slice(),
+        Rows::identity(alloc, 2, &Modulus::new(7))?
+            .triples(alloc)?
+            .as_slice(),
         [(0, 0, 1), (1, 1, 1)].as_slice()
+    );
+    Ok(())
+}
+
+// Few entries in a matrix of the largest sizes.
+const FAR: &[(u32, u32, u64)] = &[
+    (5, 2_147_483_647, 3),
+    (2_147_483_647, 0, 1),
+    (5, 7, 2),
+    (1_000_000_000, 7, 6),
+    (9, 9, 4),
+    (9, 9, 3),
+];
+
+#[test]
+fn huge_matrices(rt: HostRuntime) -> Result<(), Fail> {
+    let alloc = rt.alloc();
+    let x = built(alloc, LARGEST_SIZE, LARGEST_SIZE, FAR)?;
+    let entries = [
+        (5, 7, 2),
+        (5, 2_147_483_647, 3),
+        (1_000_000_000, 7, 6),
+        (2_147_483_647, 0, 1),
+    ];
+    let turned = [
+        (0, 2_147_483_647, 1),
+        (7, 5, 2),
+        (7, 1_000_000_000, 6),
+        (2_147_483_647, 5, 3),
+    ];
+    assert_eq!(rt; x.triples(alloc)?.as_slice(), entries.as_slice());
+    assert_eq!(rt;
+        x.copy(alloc)?.triples(alloc)?.as_slice(),
+        entries.as_slice()
+    );
+    assert_eq!(rt;
+        x.transpose(alloc)?.triples(alloc)?.as_slice(),
+        turned.as_slice()
+    );
+    assert_eq!(rt;
+        x.filled(alloc)?.as_slice(),
+        [5, 1_000_000_000, 2_147_483_647].as_slice()
+    );
+    assert_eq!(rt;
+        x.occupied(alloc)?.as_slice(),
+        [0, 7, 2_147_483_647].as_slice()
+    );
+    for (from, found) in [
+        (0, 5),
+        (5, 5),
+        (6, 1_000_000_000),
+        (2_147_483_647, 2_147_483_647),
+    ] {
+        assert_eq!(rt; x.next_filled(from), Some(found), "from {from}");
+    }
+    assert_eq!(rt; x.next_filled(LARGEST_SIZE), None);
+    assert_eq!(rt; x.entries(), 4);
+    assert_eq!(rt; x.height(), LARGEST_SIZE);
+    assert_eq!(rt;
+        x.select(alloc, &[6, 5])?.triples(alloc)?.as_slice(),
+        [(1, 7, 2), (1, 2_147_483_647, 3)].as_slice()
+    );
+    let narrow = built(alloc, LARGEST_SIZE, 2, &[(5, 0, 1), (8, 1, 2)])?;
+    assert_eq!(rt;
+        narrow.beside(alloc, &narrow)?.triples(alloc)?.as_slice(),
+        [(5, 0, 1), (5, 2, 1), (8, 1, 2), (8, 3, 2)].as_slice()
+    );
+    assert_eq!(rt;
+        narrow
+            .widened(alloc, 9, &[3, 7])?
+            .triples(alloc)?
+            .as_slice(),
+        [(5, 3, 1), (8, 7, 2)].as_slice()
+    );
+    Ok(())
+}
+
+#[test]
+fn columns_are_left_out_and_put_back(rt: HostRuntime) -> Result<(), Fail> {
+    let alloc = rt.alloc();
+    let mut x = built(alloc, 3, 9, &[(0, 8, 1), (2, 3, 2), (2, 8, 5)])?;
+    x.append_zeros(2)?;
+    assert_eq!(rt; x.height(), 5);
+    let columns = x.occupied(alloc)?;
+    assert_eq!(rt; columns.as_slice(), [3, 8].as_slice());
+    let narrowed = x.narrowed(alloc, &columns)?;
+    assert_eq!(rt;
+        narrowed.triples(alloc)?.as_slice(),
+        [(0, 1, 1), (2, 0, 2), (2, 1, 5)].as_slice()
+    );
+    let widened = narrowed.widened(alloc, 9, &columns)?;
+    assert_eq!(rt;
+        widened.triples(alloc)?.as_slice(),
+        x.triples(alloc)?.as_slice()
     );
     Ok(())
 }

@@ -1,6 +1,11 @@
 //! The program: the words behind its name, the standard streams and an exit status round the top call.
 #![tactic(auto)]
 
+ghost use Rattle.std.specs.Prelude.{◌≡◌, ◌⊎◌, Err, IfOk, OnErr};
+ghost use Rattle.spasm_run.specs.Options.{bytes_of};
+ghost use Rattle.spasm_run.specs.Words.{AreRefused};
+ghost use Rattle.spasm_main.specs.Ends.{EndsFor, texts_of};
+
 use spasm_run::{Open, run};
 use std::alloc::{AllocError, Global};
 use std::io::{Read, Write};
@@ -29,7 +34,7 @@ fn main(rt: HostRuntime) -> ExitCode {
     }
 }
 
-// Runs the command that the words ask for. The error is that memory for the words was refused.
+// Runs the command that the words ask for, and gives its exit status. The error is that memory for the words was refused.
 fn answer<R: Threads + Sync, I: Read + Drop, O: Write + Drop, E: Write + Drop>(
     rt: &R,
     alloc: Global,
@@ -37,7 +42,12 @@ fn answer<R: Threads + Sync, I: Read + Drop, O: Write + Drop, E: Write + Drop>(
     input: I,
     output: O,
     errors: E,
-) -> Result<u8, NoWords> {
+) -> Result<u8, NoWords>
+    ensures ran { IfOk result (EndsFor (texts_of owned.now)) }
+    ensures refused { AreRefused (texts_of owned.now) → IfOk result (λ code. (code ≡ 2) ⊎ (code ≡ 8)) }
+    ensures usage { IfOk result (λ code. code ≡ 2 → AreRefused (texts_of owned.now)) }
+    ensures memory { OnErr result (result ≡ Err NoWords.Memory) }
+{
     let Ok(words) = borrowed(alloc, owned) else {
         return Err(NoWords::Memory);
     };
@@ -48,7 +58,10 @@ fn answer<R: Threads + Sync, I: Read + Drop, O: Write + Drop, E: Write + Drop>(
     Ok(status.code())
 }
 
-fn borrowed<'a>(alloc: Global, owned: &'a [String]) -> Result<Vec<&'a str>, AllocError> {
+// The words, lent.
+fn borrowed<'a>(alloc: Global, owned: &'a [String]) -> Result<Vec<&'a str>, AllocError>
+    ensures { IfOk result (λ words. bytes_of words.items ≡ texts_of owned.entry.now) }
+{
     let mut words = Vec::with_capacity(alloc, owned.len())?;
     for word in owned {
         words.push(word.as_str())?;

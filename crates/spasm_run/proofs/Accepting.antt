@@ -6,7 +6,7 @@ use Rattle.std.proofs.lemmas.Slice.Eq.{bytes_eq-Decides}
 use Rattle.std.proofs.lemmas.List.Folds.{list_any-append}
 use Rattle.clap.specs.Walk.{Row, Text, first_of, has_row}
 use Rattle.spasm_run.specs.Words.{AreKnown, Absent, Given, GivenOnce, IsValueOf, Rule}
-use Rattle.spasm_run.specs.Options.{Gives, IsNumber}
+use Rattle.spasm_run.specs.Options.{RowsGive, IsNumber}
 use Rattle.spasm_run.proofs.Reading.{Fits, row_of_given}
 
 -- ---- places in a list
@@ -136,14 +136,14 @@ look (g ∷ gs) name = go (bytes_eq g.name name) refl (look gs name)
     go false e (IsAbsent h) = IsAbsent (absent_more g gs name (differ g.name name e) h)
 
 -- the number that the rows give is the one that the options give
-pub value_gives : (names : List Text) (options : List Given) (rule : Rule) (n : ℕ) → Fits names [] options → IsValueOf options rule n → Gives rule (map row_of_given options) n
+pub value_gives : (names : List Text) (options : List Given) (rule : Rule) (n : ℕ) → Fits names [] options → IsValueOf options rule n → RowsGive rule (map row_of_given options) n
 value_gives names options rule n f (GivenOnce before joined w after e r) =
     let c : Contains options (record { name = rule.name; value = w; joined = joined }) = subst (λ (l : List Given). Contains l (record { name = rule.name; value = w; joined = joined })) (sym e) (in_middle before _ after) in
     subst (λ (o : Option Text). IsNumber rule.low rule.high rule.absent o n) (sym (fits_first names [] options _ f c)) r
 value_gives names options rule n f (Absent h e) =
     subst (λ (o : Option Text). IsNumber rule.low rule.high rule.absent o n) (sym (none_first_of options rule.name h)) e
 
-pub gives_value : (options : List Given) (rule : Rule) (n : ℕ) → Gives rule (map row_of_given options) n → IsValueOf options rule n
+pub gives_value : (options : List Given) (rule : Rule) (n : ℕ) → RowsGive rule (map row_of_given options) n → IsValueOf options rule n
 gives_value options rule n h = go (look options rule.name)
   where
     go : Look options rule.name → IsValueOf options rule n

@@ -11,7 +11,7 @@ use Rattle.clap.specs.declared.builder.command.Command.TheViews.{out-Command as 
 use Rattle.spasm_run.specs.Words.{task_name}
 use Rattle.spasm_run.specs.Line.{no_commands, command_named, option_rule}
 use Rattle.spasm_run.specs.declared.words.Task.{Task}
-use Rattle.spasm_run.specs.declared.words.Task.TheVariants.{Rank, Rref, Kernel, Solve, LeftKernel, Inverse}
+use Rattle.spasm_run.specs.declared.words.Task.TheVariants.{Rank, Rref, Kernel, Solve, LeftKernel, Inverse, Pivots}
 
 -- ---- the options of a command
 
@@ -74,11 +74,12 @@ named_at (p ∷ ps) (suc i) d lt t = named_at ps i d (omega arith) t.1
 abbrev pub IsNoneOf : Text → List Named → ℕ → Type 0
 IsNoneOf name items i = (k : ℕ) → k < i → (d : Named) → (slice_index_or items k d).0.now ≢ name
 
-pub no_task : (w : Text) → codes "rank" ≢ w → codes "rref" ≢ w → codes "kernel" ≢ w → codes "solve" ≢ w → codes "leftkernel" ≢ w → codes "inverse" ≢ w
+pub no_task : (w : Text) → codes "rank" ≢ w → codes "rref" ≢ w → codes "kernel" ≢ w → codes "solve" ≢ w → codes "leftkernel" ≢ w → codes "inverse" ≢ w → codes "pivots" ≢ w
     → (t : Task) → w ≢ task_name t
-no_task w h1 h2 h3 h4 h5 h6 Rank e = h1 (sym e)
-no_task w h1 h2 h3 h4 h5 h6 Rref e = h2 (sym e)
-no_task w h1 h2 h3 h4 h5 h6 Kernel e = h3 (sym e)
-no_task w h1 h2 h3 h4 h5 h6 Solve e = h4 (sym e)
-no_task w h1 h2 h3 h4 h5 h6 LeftKernel e = h5 (sym e)
-no_task w h1 h2 h3 h4 h5 h6 Inverse e = h6 (sym e)
+no_task w h1 h2 h3 h4 h5 h6 h7 Rank e = h1 (sym e)
+no_task w h1 h2 h3 h4 h5 h6 h7 Rref e = h2 (sym e)
+no_task w h1 h2 h3 h4 h5 h6 h7 Kernel e = h3 (sym e)
+no_task w h1 h2 h3 h4 h5 h6 h7 Solve e = h4 (sym e)
+no_task w h1 h2 h3 h4 h5 h6 h7 LeftKernel e = h5 (sym e)
+no_task w h1 h2 h3 h4 h5 h6 h7 Inverse e = h6 (sym e)
+no_task w h1 h2 h3 h4 h5 h6 h7 Pivots e = h7 (sym e)

@@ -12,11 +12,11 @@ use Rattle.clap.specs.Faults.{fault_of}
 use Rattle.clap.proofs.CutLemmas.{Lacks}
 use Rattle.sms_text.specs.Numbers.{are_digits, is_digit, is_number}
 use Rattle.spasm_run.specs.Words.{Accepted, AreRefused, Given, IsInRange, Rule, modulus_rule, rounds_rule, spelling, spelling_of, task_name, workers_rule}
-use Rattle.spasm_run.specs.Options.{AcceptedIsPlain, AreTaken, Gives, IsCommandOf, IsNumber, IsOneCommand, Says}
+use Rattle.spasm_run.specs.Options.{AcceptedIsPlain, AreTaken, RowsGive, IsCommandOf, IsNumber, IsOneCommand, AsksFor}
 use Rattle.spasm_run.specs.Line.{command_line, option_names, tasks}
 use Rattle.spasm_run.specs.declared.words.Command.{Command}
 use Rattle.spasm_run.specs.declared.words.Task.{Task}
-use Rattle.spasm_run.specs.declared.words.Task.TheVariants.{Rank, Rref, Kernel, Solve, LeftKernel, Inverse}
+use Rattle.spasm_run.specs.declared.words.Task.TheVariants.{Rank, Rref, Kernel, Solve, LeftKernel, Inverse, Pivots}
 use Rattle.spasm_run.proofs.Accepting.{differ, fits_first, fits_known, first_of_list, gives_value, known_fits, later_in_list, value_gives}
 use Rattle.spasm_run.proofs.Program.{fault_at, first_is_named, subcommand_at}
 use Rattle.spasm_run.proofs.Reading.{ArePlain, Fits, IsName, IsPlainValue, NoDashes, apart_dashes, joined_dashes, level_passes, passes_level, passes_reads, reads_passes, row_of_given}
@@ -59,12 +59,12 @@ plain_value (b ∷ bs) e =
     (rw other refl, rw other refl, rw other refl)
 
 -- a given value of which a number is made is digits
-given_digits : (rule : Rule) (rows : List Row) (n : ℕ) (g : Given) → Gives rule rows n → rule.name ≡ g.name → first_of g.name rows ≡ Some g.value → is_number g.value ≡ true
+given_digits : (rule : Rule) (rows : List Row) (n : ℕ) (g : Given) → RowsGive rule rows n → rule.name ≡ g.name → first_of g.name rows ≡ Some g.value → is_number g.value ≡ true
 given_digits rule rows n g h e f =
     let h2 : IsInRange rule.low rule.high g.value n = subst (λ (o : Option Text). IsNumber rule.low rule.high rule.absent o n) (ap (λ (t : Text). first_of t rows) e ∙ f) h in
     h2.0
 
-digits_given : (c : Command) (rows : List Row) (g : Given) → Gives modulus_rule rows c.modulus → Gives workers_rule rows c.workers → Gives rounds_rule rows c.rounds
+digits_given : (c : Command) (rows : List Row) (g : Given) → RowsGive modulus_rule rows c.modulus → RowsGive workers_rule rows c.workers → RowsGive rounds_rule rows c.rounds
     → Contains option_names g.name → first_of g.name rows ≡ Some g.value → is_number g.value ≡ true
 digits_given c rows g m w r (zero, lt, e) f = given_digits modulus_rule rows c.modulus g m e f
 digits_given c rows g m w r (suc zero, lt, e) f = given_digits workers_rule rows c.workers g w e f
@@ -92,6 +92,7 @@ task_dashes Kernel = refl
 task_dashes Solve = refl
 task_dashes LeftKernel = refl
 task_dashes Inverse = refl
+task_dashes Pivots = refl
 
 abbrev has_dashes : List Text → Bool
 has_dashes words = list_any (λ w. bytes_eq w (codes "--")) words
@@ -117,11 +118,11 @@ dashes_at (v ∷ words) d w (suc k, lt, e) = dashes_at words d.1 w (k, omega ari
 
 record Taken (words : List Text) (c : Command) : Type 0 where
   no_fault : fault_of command_line words ≡ []
-  says : Says (subcommand_of command_line words) c
+  says : AsksFor (subcommand_of command_line words) c
   dashes : NoDashes words
 
-taken_options : (c : Command) (options : List Given) (rest : List Text) → rest ≡ flat_map spelling options → Fits option_names [] options → Gives modulus_rule (map row_of_given options) c.modulus
-    → Gives workers_rule (map row_of_given options) c.workers → Gives rounds_rule (map row_of_given options) c.rounds → Taken (task_name c.task ∷ flat_map spelling options) c
+taken_options : (c : Command) (options : List Given) (rest : List Text) → rest ≡ flat_map spelling options → Fits option_names [] options → RowsGive modulus_rule (map row_of_given options) c.modulus
+    → RowsGive workers_rule (map row_of_given options) c.workers → RowsGive rounds_rule (map row_of_given options) c.rounds → Taken (task_name c.task ∷ flat_map spelling options) c
 taken_options c options rest e f m w r =
     let plain = all_plain options (λ g k. plain_value g.value (digits_given c (map row_of_given options) g m w r ((fits_known option_names options f).known g k) (fits_first option_names [] options g f k))) in
     let level = passes_level (task_name c.task) option_names (flat_map spelling options) (map row_of_given options) (reads_passes (task_name c.task) option_names are_names options f plain) in
@@ -141,7 +142,7 @@ taken words c a =
 pub accepted_fault : (words : List Text) (c : Command) → Accepted words c → fault_of command_line words ≡ []
 accepted_fault words c a = (taken words c a).no_fault
 
-pub accepted_says : (words : List Text) (c : Command) → Accepted words c → Says (subcommand_of command_line words) c
+pub accepted_says : (words : List Text) (c : Command) → Accepted words c → AsksFor (subcommand_of command_line words) c
 accepted_says words c a = (taken words c a).says
 
 pub accepted_dashes : (words : List Text) (c : Command) → Accepted words c → NoDashes words
@@ -164,7 +165,7 @@ accepted_plain words c a =
 
 -- ---- and words that are taken and say a command are accepted
 
-says_accepted_at : (t : Task) (rest : List Text) (c : Command) → NoDashes rest → fault_of command_line (task_name t ∷ rest) ≡ [] → Says (subcommand_of command_line (task_name t ∷ rest)) c
+says_accepted_at : (t : Task) (rest : List Text) (c : Command) → NoDashes rest → fault_of command_line (task_name t ∷ rest) ≡ [] → AsksFor (subcommand_of command_line (task_name t ∷ rest)) c
     → Accepted (task_name t ∷ rest) c
 says_accepted_at t rest c d none s =
     let level = level_passes (task_name t) option_names rest (sym (fault_at t rest) ∙ none) in
@@ -176,12 +177,12 @@ says_accepted_at t rest c d none s =
       options = r.options;
       spelled = ap (λ (x : Text). x ∷ rest) (sym name) ∙ ap (λ (ws : List Text). task_name c.task ∷ ws) r.spelled;
       known = fits_known option_names r.options r.fits;
-      modulus = gives_value r.options modulus_rule c.modulus (subst (λ (rs : List Row). Gives modulus_rule rs c.modulus) rows s.modulus);
-      workers = gives_value r.options workers_rule c.workers (subst (λ (rs : List Row). Gives workers_rule rs c.workers) rows s.workers);
-      rounds = gives_value r.options rounds_rule c.rounds (subst (λ (rs : List Row). Gives rounds_rule rs c.rounds) rows s.rounds);
+      modulus = gives_value r.options modulus_rule c.modulus (subst (λ (rs : List Row). RowsGive modulus_rule rs c.modulus) rows s.modulus);
+      workers = gives_value r.options workers_rule c.workers (subst (λ (rs : List Row). RowsGive workers_rule rs c.workers) rows s.workers);
+      rounds = gives_value r.options rounds_rule c.rounds (subst (λ (rs : List Row). RowsGive rounds_rule rs c.rounds) rows s.rounds);
     }
 
-pub says_accepted : (words : List Text) (c : Command) → NoDashes words → fault_of command_line words ≡ [] → Says (subcommand_of command_line words) c → Accepted words c
+pub says_accepted : (words : List Text) (c : Command) → NoDashes words → fault_of command_line words ≡ [] → AsksFor (subcommand_of command_line words) c → Accepted words c
 says_accepted words c d none s =
     let first = first_is_named words (dashes_at words d) none in
     let i = subst (λ (ws : List Text). Taken ws c) first.2 (record { dashes = d; no_fault = none; says = s }) in
@@ -200,6 +201,7 @@ decoded Kernel = refl
 decoded Solve = refl
 decoded LeftKernel = refl
 decoded Inverse = refl
+decoded Pivots = refl
 
 pub same_task : (s t : Task) → task_name s ≡ task_name t → s ≡ t
 same_task s t e = ap (λ (o : Option Task). unwrap_or o s) (sym (decoded s) ∙ ap decode e ∙ decoded t)
@@ -208,10 +210,10 @@ one_number : (low high absent : ℕ) (o : Option Text) (m n : ℕ) → IsNumber 
 one_number low high absent None m n h k = h ∙ sym k
 one_number low high absent (Some w) m n h k = h.1 ∙ sym k.1
 
-one_given : (rule : Rule) (a b : List Row) (m n : ℕ) → a ≡ b → Gives rule a m → Gives rule b n → m ≡ n
-one_given rule a b m n e h k = one_number rule.low rule.high rule.absent (first_of rule.name b) m n (subst (λ (rs : List Row). Gives rule rs m) e h) k
+one_given : (rule : Rule) (a b : List Row) (m n : ℕ) → a ≡ b → RowsGive rule a m → RowsGive rule b n → m ≡ n
+one_given rule a b m n e h k = one_number rule.low rule.high rule.absent (first_of rule.name b) m n (subst (λ (rs : List Row). RowsGive rule rs m) e h) k
 
-one_said : (o : Option (Text × List Row)) (c d : Command) → Says o c → Says o d → c ≡ d
+one_said : (o : Option (Text × List Row)) (c d : Command) → AsksFor o c → AsksFor o d → c ≡ d
 one_said o c d s t =
     let same = sym s.entered_as ∙ t.entered_as in
     let task = same_task c.task d.task (ap (λ (x : Option (Text × List Row)). (unwrap_or x ([], [])).0) same) in
@@ -245,10 +247,10 @@ refused words o h e c a = subst (AreTaken words) e h (accepted_fault words c a)
 
 -- words that clap takes, with the command that the matches say, if they say one
 pub answered : (words : List (Bor Text)) (b : Bool) (o : Option ArgMatches) (m : ArgMatches) (result : Option Command) → b ≡ list_any (λ w. bytes_eq w.now (codes "--")) words → b ≡ false
-    → AreTaken (bytes words) o → o ≡ Some m → MatchOption result ((c : Command) → ¬ Says (subcommand_rows_of m) c) (Says (subcommand_rows_of m)) → IsCommandOf (bytes words) result
+    → AreTaken (bytes words) o → o ≡ Some m → MatchOption result ((c : Command) → ¬ AsksFor (subcommand_rows_of m) c) (AsksFor (subcommand_rows_of m)) → IsCommandOf (bytes words) result
 answered words b o m None e f t is h =
     let k = subst (AreTaken (bytes words)) is t in
-    λ c a. h c (subst (λ (x : Option (Text × List Row)). Says x c) (sym k.1) (accepted_says (bytes words) c a))
+    λ c a. h c (subst (λ (x : Option (Text × List Row)). AsksFor x c) (sym k.1) (accepted_says (bytes words) c a))
 answered words b o m (Some c) e f t is h =
     let k = subst (AreTaken (bytes words)) is t in
-    says_accepted (bytes words) c (no_dashes (bytes words) (sym (words_dashes words) ∙ sym e ∙ f)) k.0 (subst (λ (x : Option (Text × List Row)). Says x c) k.1 h)
+    says_accepted (bytes words) c (no_dashes (bytes words) (sym (words_dashes words) ∙ sym e ∙ f)) k.0 (subst (λ (x : Option (Text × List Row)). AsksFor x c) k.1 h)

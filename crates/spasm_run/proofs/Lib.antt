@@ -2,14 +2,15 @@ pub mod Accepting
 pub mod Building
 pub mod Elimination
 pub mod Exact
+pub mod Input
 pub mod Matching
+pub mod OneAnswer
 pub mod Program
 pub mod Reading
 pub mod Solving
 pub mod Spelled
 pub mod Spreading
 pub mod Stays
-pub mod Taken
 pub mod Walks
 pub mod Whole
 pub mod Written

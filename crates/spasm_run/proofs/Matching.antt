@@ -13,7 +13,7 @@ use Rattle.clap.specs.declared.parser.matches.Found.{Found}
 use Rattle.clap.specs.declared.parser.matches.SubCommand.{SubCommand}
 use Rattle.clap.proofs.WalkLemmas.{first_value-rows}
 use Rattle.spasm_run.specs.Line.{command_line}
-use Rattle.spasm_run.specs.Options.{Gives, IsNumber, Says}
+use Rattle.spasm_run.specs.Options.{RowsGive, IsNumber, AsksFor}
 use Rattle.spasm_run.specs.Words.{Rule, modulus_rule, rounds_rule, task_name, workers_rule}
 use Rattle.spasm_run.specs.declared.words.Command.{Command}
 use Rattle.spasm_run.proofs.Program.{line_is_simple}
@@ -49,29 +49,29 @@ module _ {Z : Type 0} where
       let r = ap (λ (x : Option (List Row)). unwrap_or x rows) f in
       sym (ap (λ (x : Text). Some (x, rows)) n ∙ ap (λ (x : List Row). Some ((out-SubCommand (box_value b)).name.now, x)) r)
 
-pub gives_number : (rule : Rule) (f : Found) (n : ℕ) → IsNumber rule.low rule.high rule.absent (first_value f rule.name) n → Gives rule (rows_of f) n
+pub gives_number : (rule : Rule) (f : Found) (n : ℕ) → IsNumber rule.low rule.high rule.absent (first_value f rule.name) n → RowsGive rule (rows_of f) n
 gives_number rule f n h = subst (λ (o : Option Text). IsNumber rule.low rule.high rule.absent o n) (first_value-rows f rule.name) h
 
-pub number_given : (rule : Rule) (f : Found) (n : ℕ) → Gives rule (rows_of f) n → IsNumber rule.low rule.high rule.absent (first_value f rule.name) n
+pub number_given : (rule : Rule) (f : Found) (n : ℕ) → RowsGive rule (rows_of f) n → IsNumber rule.low rule.high rule.absent (first_value f rule.name) n
 number_given rule f n h = subst (λ (o : Option Text). IsNumber rule.low rule.high rule.absent o n) (sym (first_value-rows f rule.name)) h
 
-said_rows : (o : Option (Text × List Row)) (name : Text) (rows : List Row) (c : Command) → o ≡ Some (name, rows) → (s : Says o c) → s.rows ≡ rows
+said_rows : (o : Option (Text × List Row)) (name : Text) (rows : List Row) (c : Command) → o ≡ Some (name, rows) → (s : AsksFor o c) → s.rows ≡ rows
 said_rows o name rows c e s = ap (λ (x : Option (Text × List Row)). (unwrap_or x (name, rows)).1) (sym s.entered_as ∙ e)
 
 -- where a number isn't given in its range, no command is said
-pub no_modulus : (o : Option (Text × List Row)) (name : Text) (f : Found) → o ≡ Some (name, rows_of f) → ((n : ℕ) → ¬ IsNumber 2 281474976710655 42013 (first_value f (codes "modulus")) n) → (c : Command) → ¬ Says o c
-no_modulus o name f e h c s = h c.modulus (number_given modulus_rule f c.modulus (subst (λ (rs : List Row). Gives modulus_rule rs c.modulus) (said_rows o name (rows_of f) c e s) s.modulus))
+pub no_modulus : (o : Option (Text × List Row)) (name : Text) (f : Found) → o ≡ Some (name, rows_of f) → ((n : ℕ) → ¬ IsNumber 2 281474976710655 42013 (first_value f (codes "modulus")) n) → (c : Command) → ¬ AsksFor o c
+no_modulus o name f e h c s = h c.modulus (number_given modulus_rule f c.modulus (subst (λ (rs : List Row). RowsGive modulus_rule rs c.modulus) (said_rows o name (rows_of f) c e s) s.modulus))
 
-pub no_workers : (o : Option (Text × List Row)) (name : Text) (f : Found) → o ≡ Some (name, rows_of f) → ((n : ℕ) → ¬ IsNumber 1 64 1 (first_value f (codes "workers")) n) → (c : Command) → ¬ Says o c
-no_workers o name f e h c s = h c.workers (number_given workers_rule f c.workers (subst (λ (rs : List Row). Gives workers_rule rs c.workers) (said_rows o name (rows_of f) c e s) s.workers))
+pub no_workers : (o : Option (Text × List Row)) (name : Text) (f : Found) → o ≡ Some (name, rows_of f) → ((n : ℕ) → ¬ IsNumber 1 64 1 (first_value f (codes "workers")) n) → (c : Command) → ¬ AsksFor o c
+no_workers o name f e h c s = h c.workers (number_given workers_rule f c.workers (subst (λ (rs : List Row). RowsGive workers_rule rs c.workers) (said_rows o name (rows_of f) c e s) s.workers))
 
-pub no_rounds : (o : Option (Text × List Row)) (name : Text) (f : Found) → o ≡ Some (name, rows_of f) → ((n : ℕ) → ¬ IsNumber 0 16 3 (first_value f (codes "rounds")) n) → (c : Command) → ¬ Says o c
-no_rounds o name f e h c s = h c.rounds (number_given rounds_rule f c.rounds (subst (λ (rs : List Row). Gives rounds_rule rs c.rounds) (said_rows o name (rows_of f) c e s) s.rounds))
+pub no_rounds : (o : Option (Text × List Row)) (name : Text) (f : Found) → o ≡ Some (name, rows_of f) → ((n : ℕ) → ¬ IsNumber 0 16 3 (first_value f (codes "rounds")) n) → (c : Command) → ¬ AsksFor o c
+no_rounds o name f e h c s = h c.rounds (number_given rounds_rule f c.rounds (subst (λ (rs : List Row). RowsGive rounds_rule rs c.rounds) (said_rows o name (rows_of f) c e s) s.rounds))
 
 -- where all are given, the command is said
 pub said_by : (o : Option (Text × List Row)) (name : Text) (f : Found) (c : Command) → o ≡ Some (name, rows_of f) → name ≡ task_name c.task
     → IsNumber 2 281474976710655 42013 (first_value f (codes "modulus")) c.modulus → IsNumber 1 64 1 (first_value f (codes "workers")) c.workers
-    → IsNumber 0 16 3 (first_value f (codes "rounds")) c.rounds → Says o c
+    → IsNumber 0 16 3 (first_value f (codes "rounds")) c.rounds → AsksFor o c
 said_by o name f c e t m w r = record {
   rows = rows_of f;
   entered_as = e ∙ ap (λ (n : Text). Some (n, rows_of f)) t;

@@ -14,7 +14,7 @@ use Rattle.clap.proofs.OnLiterals.{clap_on_literals}
 use Rattle.spasm_run.specs.Words.{task_name}
 use Rattle.spasm_run.specs.Line.{command_line, option_names, tasks}
 use Rattle.spasm_run.specs.declared.words.Task.{Task}
-use Rattle.spasm_run.specs.declared.words.Task.TheVariants.{Rank, Rref, Kernel, Solve, LeftKernel, Inverse}
+use Rattle.spasm_run.specs.declared.words.Task.TheVariants.{Rank, Rref, Kernel, Solve, LeftKernel, Inverse, Pivots}
 use Rattle.spasm_run.proofs.Spelled.{Spelled, Joined, Apart, Other, spelled_as}
 use Rattle.spasm_run.proofs.Walks.{Refused, AsPlain, command_of, flags_of, none_first, rules_of}
 
@@ -65,6 +65,7 @@ met Kernel = refl
 met Solve = refl
 met LeftKernel = refl
 met Inverse = refl
+met Pivots = refl
 
 met_turn : (t : Task) → turn_fault top labels start (task_name t) ≡ []
 met_turn Rank = refl
@@ -73,6 +74,7 @@ met_turn Kernel = refl
 met_turn Solve = refl
 met_turn LeftKernel = refl
 met_turn Inverse = refl
+met_turn Pivots = refl
 
 entered_task : (t : Task) (rest : List Text) → entered program (Some (task_name t, rest)) ≡ Some (task_name t, rows_after (rules_of option_names) [] rest)
 entered_task Rank rest = refl
@@ -81,6 +83,7 @@ entered_task Kernel rest = refl
 entered_task Solve rest = refl
 entered_task LeftKernel rest = refl
 entered_task Inverse rest = refl
+entered_task Pivots rest = refl
 
 fault_below : (t : Task) (rest : List Text) → entered_fault program (Some (task_name t, rest)) ≡ level_fault (command_of (task_name t) option_names) [] nothing_held rest false []
 fault_below Rank rest = refl
@@ -89,6 +92,7 @@ fault_below Kernel rest = refl
 fault_below Solve rest = refl
 fault_below LeftKernel rest = refl
 fault_below Inverse rest = refl
+fault_below Pivots rest = refl
 
 walk_of : (t : Task) (rest : List Text) → walk [] labels nothing_held (task_name t ∷ rest) ≡ stopped_at (task_name t) rest
 walk_of t rest = ap (λ (w : Walk). fold (walked [] labels) w rest) (met t) ∙ walked_on (task_name t) [] rest

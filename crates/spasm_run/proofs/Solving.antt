@@ -1,12 +1,12 @@
 -- From the echelon forms of systems to their answers.
-use Rattle.std.proofs.Common.{ℕ, ◌≡◌, ◌<◌, ◌≤◌, ◌++◌, inl, inr, List, [], ◌∷◌, None, length, slice_index, sym, ap, subst, ◌∙◌, arith}
+use Rattle.std.proofs.Common.{ℕ, ◌≡◌, ◌<◌, ◌≤◌, ◌++◌, inl, inr, List, [], ◌∷◌, None, length, slice_index, refl, sym, ap, subst, ◌∙◌, arith}
 use Rattle.std.specs.Prelude.{codes}
 use Rattle.std.proofs.lemmas.Bool.Decides.{nat_tests}
 use Rattle.residue_words.specs.Residues.{IsPrime}
 use Rattle.residue_words.specs.Matrix.{Matrix, IsMatrix, IsVector, entry, row}
 use Rattle.residue_words.proofs.Vectors.{at_list_of, entry_matrix_of, entry_residue, is_matrix_of, length_list_of, matrix_equal}
 use Rattle.row_space.specs.Laws.{InverseExcludesNull, RefutingIsSolvable, RefutingSystem, RefutingSystemIs}
-use Rattle.row_space.specs.Solution.{IsRefutingCombination, IsSolution, refuting_rows, refuting_side, refuting_system}
+use Rattle.row_space.specs.Solution.{IsRefutingCombination, IsSolution, refuting_rows, refuting_side}
 use Rattle.row_space.proofs.Refuting.{refuting_matrix, side_vector}
 use Rattle.sms_text.specs.Written.{text_of}
 use Rattle.sparse_rows.specs.Rows.{ResidueMatrix, beside, matrix_by, transposed}
@@ -15,14 +15,16 @@ use Rattle.kernel_solve.specs.declared.outcome.Inverse.{Inverse}
 use Rattle.kernel_solve.specs.declared.outcome.Inverse.TheVariants.{Singular}
 use Rattle.kernel_solve.specs.declared.systems.Found.{Found}
 use Rattle.kernel_solve.specs.declared.systems.Found.TheVariants.{Solution, Inconsistent}
-use Rattle.kernel_solve.specs.Columns.{column}
+use Rattle.kernel_solve.specs.Column.{column, column_of}
 use Rattle.kernel_solve.specs.Found.{Answers, HasShape}
 use Rattle.kernel_solve.specs.Inverted.{HasInverseShape, Inverts}
-use Rattle.kernel_solve.proofs.Matrices.{beside_column, column_vector, one_item}
-use Rattle.spasm_run.specs.declared.answers.Answer.TheVariants as answer
+use Rattle.kernel_solve.proofs.Matrices.{column_again, column_matrix, column_vector, one_item}
+use Rattle.spasm_run.specs.declared.answer.Answer.TheVariants as answer
 use Rattle.spasm_run.specs.declared.words.Task.TheVariants as task
-use Rattle.spasm_run.specs.Answers.{column_of, misfit, row_of}
-use Rattle.spasm_run.specs.Found.{IsAnswerTo, AnswersSystem}
+use Rattle.sparse_rows.specs.declared.rows.TheConstants.{LARGEST_SIZE}
+use Rattle.spasm_run.specs.declared.commands.TheConstants.{LARGEST_INVERTED}
+use Rattle.spasm_run.specs.Answers.{as_row, misfit}
+use Rattle.spasm_run.specs.Computed.{IsAnswerTo, AnswersSystem}
 
 sized : ℕ → ℕ → List (List ℕ) → Matrix
 sized h w r = record { height = h; width = w; rows = r }
@@ -39,17 +41,17 @@ column_whole {p} X m narrow =
     (λ i j a b. let first : j ≡ 0 = omega arith in ap (entry X i) first ∙ sym (at i a) ∙ sym (entry_matrix_of (length x) 1 (λ i j. slice_index x i) i j (omega arith) (omega arith)))
 
 -- a matrix of one row is its row
-row_whole : {p : ℕ} (V : Matrix) → IsMatrix p V → V.height ≡ 1 → V ≡ row_of (row V 0)
+row_whole : {p : ℕ} (V : Matrix) → IsMatrix p V → V.height ≡ 1 → V ≡ as_row (row V 0)
 unfolding sized
 row_whole {p} V m low =
     ap (λ h. sized h V.width V.rows) low ∙ ap (λ w. sized 1 w V.rows) (sym (m.each 0 (omega arith)).len) ∙ ap (sized 1 (length (row V 0))) (one_item [] V.rows (m.len ∙ low))
 
 -- what is a row is the row of its row
-row_again : (M : Matrix) (v : List ℕ) → M ≡ row_of v → M ≡ row_of (row M 0)
-row_again M v e = e ∙ ap row_of (ap (λ m. row m 0) (sym e))
+row_again : (M : Matrix) (v : List ℕ) → M ≡ as_row v → M ≡ as_row (row M 0)
+row_again M v e = e ∙ ap as_row (ap (λ m. row m 0) (sym e))
 
 -- a column transposed is a row
-pub transposed_row : (Y : Matrix) → Y.width ≡ 1 → transposed Y ≡ row_of (column Y)
+pub transposed_row : (Y : Matrix) → Y.width ≡ 1 → transposed Y ≡ as_row (column Y)
 unfolding sized
 transposed_row Y narrow = ap (λ w. matrix_by w Y.height (λ i j. entry Y j i)) narrow ∙ ap (λ n. sized 1 n (column Y ∷ [])) (sym (length_list_of Y.height (λ i. entry Y i 0)))
 
@@ -59,22 +61,28 @@ module _ (p : ℕ) (A B : Matrix) (ma : IsMatrix p A) (mb : IsMatrix p B) (heigh
   side_is = subst (λ n. IsVector p n (column B)) (sym heights) (column_vector mb (omega arith))
 
   -- what is told of the refuting system
-  refuting_told : (q : ℕ) (S : Matrix) (found : Found) (y : List ℕ) → IsPrime p → RefutingSystem → q ≡ p → S ≡ refuting_system A (column B) → AnswersSystem q S found →
+  refuting_told : (q : ℕ) (S : Matrix) (found : Found) (y : List ℕ) → IsPrime p → RefutingSystem → q ≡ p → S ≡ beside (refuting_rows A (column B)) (column_of (refuting_side A.width)) → AnswersSystem q S found →
       RefutingSystemIs p A (column B) y × Answers p (refuting_rows A (column B)) (refuting_side A.width) found
   refuting_told q S found y prime system modulus matrix tells =
       let b : List ℕ = column B in
       let law = system p A b y prime.two_or_more ma side_is in
       let at = subst (λ q. AnswersSystem q S found) modulus tells in
-      (law, at prime (refuting_rows A b) (refuting_side A.width) (refuting_matrix p A b ma side_is) (side_vector p A.width prime.two_or_more) matrix)
+      let side : List ℕ = refuting_side A.width in
+      let long = side_vector p A.width prime.two_or_more in
+      (
+        law,
+        subst (λ s. Answers p (refuting_rows A b) s found) (column_again side)
+            (at prime (refuting_rows A b) (column_of side) (refuting_matrix p A b ma side_is) (column_matrix (subst (λ n. IsVector p n side) (sym long.len) long)) (sym long.len) refl matrix),
+      )
 
   -- where the system has no solution, the refuting system has one, the refuting combination
-  pub refuted_by : (q : ℕ) (S : Matrix) (found : Found) (y : ResidueMatrix) → IsPrime p → RefutingSystem → q ≡ p → S ≡ refuting_system A (column B) → AnswersSystem q S found → found ≡ Solution y →
+  pub refuted_by : (q : ℕ) (S : Matrix) (found : Found) (y : ResidueMatrix) → IsPrime p → RefutingSystem → q ≡ p → S ≡ beside (refuting_rows A (column B)) (column_of (refuting_side A.width)) → AnswersSystem q S found → found ≡ Solution y →
       IsRefutingCombination p A (column B) (column y.matrix)
   refuted_by q S found y prime system modulus matrix tells here =
       let (law, told) = refuting_told q S found (column y.matrix) prime system modulus matrix tells in
       law.reduced.0 (subst (Answers p (refuting_rows A (column B)) (refuting_side A.width)) here told).1
 
-  pub never_inconsistent : (q : ℕ) (S : Matrix) (found : Found) → IsPrime p → RefutingSystem → RefutingIsSolvable → q ≡ p → S ≡ refuting_system A (column B) → AnswersSystem q S found →
+  pub never_inconsistent : (q : ℕ) (S : Matrix) (found : Found) → IsPrime p → RefutingSystem → RefutingIsSolvable → q ≡ p → S ≡ beside (refuting_rows A (column B)) (column_of (refuting_side A.width)) → AnswersSystem q S found →
       found ≡ Inconsistent → ((x : List ℕ) → ¬ IsSolution p A (column B) x) → ⊥
   never_inconsistent q S found prime system solvable modulus matrix tells here none =
       let (law, told) = refuting_told q S found [] prime system modulus matrix tells in
@@ -87,11 +95,11 @@ module _ (p : ℕ) (A B : Matrix) (ma : IsMatrix p A) (mb : IsMatrix p B) (heigh
 
   -- what is told of the system
   told_of : (q : ℕ) (S : Matrix) (found : Found) → IsPrime p → q ≡ p → S ≡ beside A B → AnswersSystem q S found → Answers p A (column B) found
-  told_of q S found prime modulus matrix tells = subst (λ q. AnswersSystem q S found) modulus tells prime A (column B) ma side_is (matrix ∙ beside_column A mb heights narrow)
+  told_of q S found prime modulus matrix tells = subst (λ q. AnswersSystem q S found) modulus tells prime A B ma mb heights narrow matrix
 
   -- the solution answers, or what refutes the system
-  pub solution_answers : (q : ℕ) (S : Matrix) (found : Found) (x : ResidueMatrix) → A.width ≤ 2147483647 → q ≡ p → S ≡ beside A B → HasShape q S.width found → AnswersSystem q S found → found ≡ Solution x →
-      IsAnswerTo task.Solve p (A ∷ B ∷ []) (answer.Solution x)
+  pub solution_answers : {workers : ℕ} (q : ℕ) (S : Matrix) (found : Found) (x : ResidueMatrix) → A.width < LARGEST_SIZE → q ≡ p → S ≡ beside A B → HasShape q S.width found → AnswersSystem q S found → found ≡ Solution x →
+      IsAnswerTo task.Solve p workers (A ∷ B ∷ []) (answer.Solution x)
   solution_answers q S found x wide modulus matrix shape tells here =
       let sizes = subst (HasShape q S.width) here shape in record {
         small = (omega (arith, sizes.2, ap (λ m. m.width) matrix), omega (arith, sizes.3));
@@ -101,9 +109,9 @@ module _ (p : ℕ) (A B : Matrix) (ma : IsMatrix p A) (mb : IsMatrix p B) (heigh
             inl (column x.matrix, told.1, ap (λ X. codes "solution\n" ++ text_of X) (column_whole x.matrix sizes.1 sizes.3));
       }
 
-  pub refutation_answers : (q : ℕ) (S : Matrix) (found : Found) (y : ResidueMatrix) → A.height ≤ 2147483647 → q ≡ p → S ≡ beside A B → AnswersSystem q S found → found ≡ Inconsistent →
-      y.matrix ≡ row_of (row y.matrix 0) → y.matrix.width ≡ A.height → (IsPrime p → ((x : List ℕ) → ¬ IsSolution p A (column B) x) → IsRefutingCombination p A (column B) (row y.matrix 0)) →
-      IsAnswerTo task.Solve p (A ∷ B ∷ []) (answer.Refutation y)
+  pub refutation_answers : {workers : ℕ} (q : ℕ) (S : Matrix) (found : Found) (y : ResidueMatrix) → A.height < LARGEST_SIZE → q ≡ p → S ≡ beside A B → AnswersSystem q S found → found ≡ Inconsistent →
+      y.matrix ≡ as_row (row y.matrix 0) → y.matrix.width ≡ A.height → (IsPrime p → ((x : List ℕ) → ¬ IsSolution p A (column B) x) → IsRefutingCombination p A (column B) (row y.matrix 0)) →
+      IsAnswerTo task.Solve p workers (A ∷ B ∷ []) (answer.Refutation y)
   refutation_answers q S found y tall modulus matrix tells here one_row width refutes = record {
     small = (omega (arith, ap (λ m. m.height) one_row), omega (arith, width));
     fits = side_fits;
@@ -113,8 +121,8 @@ module _ (p : ℕ) (A B : Matrix) (ma : IsMatrix p A) (mb : IsMatrix p B) (heigh
   }
 
 -- where a square matrix has a null vector that is not zero, it has no inverse, and what is told is the first row of its kernel basis
-pub singular_answers : (p : ℕ) (A : Matrix) (found : Inverse) (v : ResidueMatrix) → InverseExcludesNull → A.height ≡ A.width → A.height ≤ 1073741824 →
-    HasInverseShape p A.width found → (IsPrime p → Inverts p A found) → found ≡ Singular v → IsAnswerTo task.Inverse p (A ∷ []) (answer.Singular v)
+pub singular_answers : {workers : ℕ} (p : ℕ) (A : Matrix) (found : Inverse) (v : ResidueMatrix) → InverseExcludesNull → A.height ≡ A.width → A.height ≤ LARGEST_INVERTED →
+    HasInverseShape p A.width found → (IsPrime p → Inverts p A found) → found ≡ Singular v → IsAnswerTo task.Inverse p workers (A ∷ []) (answer.Singular v)
 singular_answers p A found v law square narrow shape inverts here =
     let sizes = subst (HasInverseShape p A.width) here shape in record {
       small = (omega (arith, sizes.2), omega (arith, sizes.3));
@@ -126,14 +134,14 @@ singular_answers p A found v law square narrow shape inverts here =
             (λ B inverse. nonzero (law p A B (row v.matrix 0) square inverse null)),
             kernel,
             some,
-            ap (λ V. codes "singular\n" ++ text_of V) (row_whole v.matrix sizes.1 sizes.2 ∙ ap row_of same),
+            ap (λ V. codes "singular\n" ++ text_of V) (row_whole v.matrix sizes.1 sizes.2 ∙ ap as_row same),
           );
     }
   where
-    inverse_fits : (A : Matrix) → A.height ≡ A.width → A.height ≤ 1073741824 → misfit task.Inverse (A ∷ []) ≡ None
+    inverse_fits : (A : Matrix) → A.height ≡ A.width → A.height ≤ LARGEST_INVERTED → misfit task.Inverse (A ∷ []) ≡ None
     inverse_fits A square narrow = grind (arith, nat_tests)
 
 -- a zero row that is appended to no rows is the row of its row
-pub first_row : (M R : Matrix) (v : List ℕ) (w : ℕ) → M ≡ with_row R v → R ≡ record { height = 0; width = w; rows = [] } → length v ≡ w → M ≡ row_of (row M 0)
+pub first_row : (M R : Matrix) (v : List ℕ) (w : ℕ) → M ≡ with_row R v → R ≡ record { height = 0; width = w; rows = [] } → length v ≡ w → M ≡ as_row (row M 0)
 unfolding sized
 first_row M R v w made none long = row_again M v (made ∙ ap (λ R. with_row R v) none ∙ ap (λ w. sized 1 w (v ∷ [])) (sym long))

@@ -1,115 +1,270 @@
 -- From what was found to what a run did.
-use Rattle.std.proofs.Common.{ℕ, Bool, true, ◌≡◌, List, Option, None, Some, Result, Ok, Err, refl, sym, ap, ◌∙◌, subst, inl, inr}
+use Rattle.std.proofs.Common.{ℕ, Bool, true, false, ◌≡◌, ◌⊎◌, ◌++◌, List, [], None, Some, Result, Ok, Err, refl, sym, ap, ap₂, ◌∙◌, subst, inl, inr}
+use Rattle.std.specs.Result.{IsErrAnd}
+use Rattle.std.proofs.lemmas.Result.{err_from_is_err_and}
 use Rattle.residue_words.specs.Matrix.{Matrix}
 use Rattle.sms_text.specs.declared.kind.Kind.{Kind}
-use Rattle.sms_text.specs.Lines.{Line, lines}
-use Rattle.sms_text.specs.Outside.{before, IsSpent}
-use Rattle.sms_text.specs.Text.{Item, Got, Fault, FirstFault, Reads, matrices, read}
-use Rattle.spasm_run.specs.declared.answers.Answer.{Answer}
+use Rattle.sms_text.specs.declared.kind.TextError.{TextError}
+use Rattle.sms_text.specs.declared.kind.TextError.TheVariants as error
+use Rattle.sms_text.specs.declared.write.WriteFault.{WriteFault}
+use Rattle.sms_text.specs.Reading.{Draws, IsShort, untouched}
+use Rattle.sms_text.specs.Stream.{SinkState, SourceState, Gained, Rose}
+use Rattle.sms_text.specs.Text.{Got, Fault, FirstFault, Reading, Request, matrices, reading}
+use Rattle.sms_text.specs.Writing.{Writes}
+use Rattle.sms_text.proofs.Moving.{draws_none, draws_with}
+use Rattle.spasm_run.specs.declared.answer.Answer.{Answer}
 use Rattle.spasm_run.specs.declared.status.Status.{Status}
 use Rattle.spasm_run.specs.declared.status.Status.TheVariants as status
 use Rattle.spasm_run.specs.declared.words.Command.{Command}
 use Rattle.spasm_run.specs.declared.words.Task.{Task}
 use Rattle.spasm_run.specs.Answers.{misfit, wanted}
-use Rattle.spasm_run.specs.Found.{Finds, Gives}
-use Rattle.spasm_run.specs.Ran.{Ran, HasCause, IsMisfit, Completes}
-use Rattle.spasm_run.specs.Taken.{Says, Taking}
+use Rattle.spasm_run.specs.Computed.{ComesOf, IsFoundIn, WasFound, answer_text, is_unread_in}
+use Rattle.spasm_run.specs.Input.{HasMatrices, Input, WasRead, supply_behind}
+use Rattle.spasm_run.specs.Ran.{AreTooFew, HasAnswer, Explains, HasNoAnswer, IsAnswered, IsMisfit, IsOffered, IsOrMemory, Ran, Run, request, whole_input}
+use Rattle.spasm_run.specs.Status.{is_unread, status_of}
 use Rattle.spasm_run.specs.Words.{Accepted, AreRefused}
 use Rattle.spasm_run.proofs.Exact.{one_command}
-use Rattle.spasm_run.proofs.Stays.{said_of_all}
-use Rattle.spasm_run.proofs.Taken.{taking_nothing, taking_weaker}
+use Rattle.spasm_run.proofs.Stays.{Keeps, told_of_all}
 
--- what comes of the matrices that were read for a command is what comes of the words that ask for it
-module _ (words : List (List ℕ)) (c : Command) (limit f f' : ℕ) (accepted : Accepted words c) where
-  given_finds : (values : List Matrix) (result : Result Answer Status) (bytes : List ℕ) (ended : Bool) → Gives c.task c.modulus values result →
-      Says c.modulus limit (wanted c.task) f f' (Ok values) bytes ended → Finds words limit f f' result bytes ended
-  given_finds values (Ok a) bytes ended gives (items, rest, reads, are) = (
-    c,
-    accepted,
-    record {
-      items = items;
-      rest = rest;
-      reads = reads;
-      fits = ap (misfit c.task) are ∙ gives.fits;
-      answers = rw are gives.answers;
-    },
-  )
-  given_finds values (Err status.Done) bytes ended gives says = absurd gives
-  given_finds values (Err status.No) bytes ended gives says = absurd gives
-  given_finds values (Err status.Usage) bytes ended gives says = absurd gives
-  given_finds values (Err (status.BadText line k)) bytes ended gives says = absurd gives
-  given_finds values (Err (status.Shape h w)) bytes ended gives (items, rest, reads, are) =
-      λ held g. (c, accepted, record { items = items; rest = rest; reads = reads; refused = ap (misfit c.task) are ∙ gives }, refl)
-  given_finds values (Err status.ReadFault) bytes ended gives says = absurd gives
-  given_finds values (Err status.WriteFault) bytes ended gives says = absurd gives
-  given_finds values (Err status.Memory) bytes ended gives says = λ held g. refl
-  given_finds values (Err (status.Wide h w)) bytes ended gives (items, rest, reads, are) =
-      λ held g. (c, accepted, record { items = items; rest = rest; reads = reads; refused = ap (misfit c.task) are ∙ gives }, refl)
+-- what comes of the matrices that were read for a command is found for the words that ask for it
+module _ (words : List (List ℕ)) (c : Command) (limit : ℕ) (accepted : Accepted words c) (old new : SourceState) where
+  found_in : (values : List Matrix) (result : Result Answer Status) (input : Input) → ComesOf c.task c.modulus c.workers values result →
+      HasMatrices (request c limit) input values → IsFoundIn words limit input result
+  found_in values (Ok a) input comes reads = (c, accepted, record { values = values; reads = reads; fits = comes.fits; answers = comes.answers })
+  found_in values (Err status.Done) input comes reads = absurd comes
+  found_in values (Err status.No) input comes reads = absurd comes
+  found_in values (Err status.Usage) input comes reads = absurd comes
+  found_in values (Err (status.BadText line k)) input comes reads = absurd comes
+  found_in values (Err (status.Shape h w)) input comes reads = (c, accepted, record { values = values; reads = reads; refused = comes })
+  found_in values (Err status.ReadFault) input comes reads = absurd comes
+  found_in values (Err status.WriteFault) input comes reads = absurd comes
+  found_in values (Err status.Memory) input comes reads = tt
+  found_in values (Err (status.Wide h w)) input comes reads = (c, accepted, record { values = values; reads = reads; refused = comes })
+
+  read_well : (values : List Matrix) (result : Result Answer Status) → ComesOf c.task c.modulus c.workers values result → false ≡ is_unread_in result
+  read_well values (Ok a) comes = refl
+  read_well values (Err status.Done) comes = refl
+  read_well values (Err status.No) comes = refl
+  read_well values (Err status.Usage) comes = refl
+  read_well values (Err (status.BadText line k)) comes = refl
+  read_well values (Err (status.Shape h w)) comes = refl
+  read_well values (Err status.ReadFault) comes = absurd comes
+  read_well values (Err status.WriteFault) comes = refl
+  read_well values (Err status.Memory) comes = refl
+  read_well values (Err (status.Wide h w)) comes = refl
+
+  few : (bytes : List ℕ) → IsShort (request c limit) bytes → AreTooFew words limit bytes
+  few bytes short = (c, accepted, short)
+
+  found_for : (values : List Matrix) (result : Result Answer Status) → WasRead (request c limit) (Ok values) old new →
+      ComesOf c.task c.modulus c.workers values result → WasFound words limit result old new
+  found_for values result was comes =
+      let moved = draws_with (IsShort (request c limit)) (AreTooFew words limit) false was.input.bytes (untouched old) (supply_behind was.input new) few was.draws in
+      let Moves : Bool → Type 0 = λ x. Draws (AreTooFew words limit) x was.input.bytes (untouched old) (supply_behind was.input new) in record {
+        input = was.input;
+        draws = subst Moves (read_well values result comes) moved;
+        found = found_in values result was.input comes was.says;
+      }
+
+  -- the input wasn't read
+  unread_for : (e : TextError) → WasRead (request c limit) (Err e) old new → WasFound words limit (Err (status_of e)) old new
+  unread_for (error.Bad line k) was = record {
+    input = was.input;
+    draws = draws_with (IsShort (request c limit)) (AreTooFew words limit) false was.input.bytes (untouched old) (supply_behind was.input new) few was.draws;
+    found = (c, accepted, was.says);
+  }
+  unread_for error.Read was = record {
+    input = was.input;
+    draws = draws_with (IsShort (request c limit)) (AreTooFew words limit) true was.input.bytes (untouched old) (supply_behind was.input new) few was.draws;
+    found = (c, accepted, was.says);
+  }
+  unread_for error.Memory was = record {
+    input = was.input;
+    draws = draws_with (IsShort (request c limit)) (AreTooFew words limit) false was.input.bytes (untouched old) (supply_behind was.input new) few was.draws;
+    found = tt;
+  }
+
+-- what a command of this task asks for
+abbrev pub asked : Task → ℕ → ℕ → Request
+asked t p limit = record { modulus = p; limit = limit; due = wanted t }
 
 -- the matrices were read, and something came of them
-pub found_given : (words : List (List ℕ)) (c : Command) (t : Task) (p q limit : ℕ) (told told' : Option (List ℕ)) (f f' : ℕ) (values : List Matrix) (result : Result Answer Status) →
-    c.task ≡ t → p ≡ c.modulus → q ≡ p → Accepted words c → Taking told told' (Says p limit (wanted t) f f' (Ok values)) → Gives t q values result → Taking told told' (Finds words limit f f' result)
-found_given words c t p q limit told told' f f' values result task modulus same accepted says gives =
-    let P : Task → ℕ → ℕ → Type 0 = λ t p q. Taking told told' (Says p limit (wanted t) f f' (Ok values)) × Gives t q values result in
-    let both = subst (λ t. P t c.modulus c.modulus) (sym task) (subst (λ p. P t p p) modulus (subst (λ q. Taking told told' (Says p limit (wanted t) f f' (Ok values)) × Gives t q values result) same (says, gives))) in
-    taking_weaker told told' _ _ (λ bytes ended. given_finds words c limit f f' accepted values result bytes ended both.1) both.0
+pub found_given : (words : List (List ℕ)) (c : Command) (t : Task) (p q limit : ℕ) (old new : SourceState) (values : List Matrix) (result : Result Answer Status) →
+    c.task ≡ t → p ≡ c.modulus → q ≡ p → Accepted words c → WasRead (asked t p limit) (Ok values) old new → ComesOf t q c.workers values result → WasFound words limit result old new
+found_given words c t p q limit old new values result task modulus same accepted was comes =
+    let at_task : WasRead (asked c.task p limit) (Ok values) old new = subst (λ t. WasRead (asked t p limit) (Ok values) old new) (sym task) was in
+    let read : WasRead (request c limit) (Ok values) old new = subst (λ p. WasRead (asked c.task p limit) (Ok values) old new) modulus at_task in
+    let of_task : ComesOf c.task q c.workers values result = subst (λ t. ComesOf t q c.workers values result) (sym task) comes in
+    found_for words c limit accepted old new values result read (subst (λ q. ComesOf c.task q c.workers values result) (same ∙ modulus) of_task)
 
--- nothing was read where no command is accepted, or memory was wanted for the words
-pub found_refused : (words : List (List ℕ)) (limit : ℕ) (told : Option (List ℕ)) (f : ℕ) → AreRefused words → Taking told told (Finds words limit f f (Err status.Usage))
-found_refused words limit told f refused = taking_nothing told _ (λ held g. (refused, refl))
+-- they weren't
+pub found_unread : (words : List (List ℕ)) (c : Command) (t : Task) (p limit : ℕ) (old new : SourceState) (e : TextError) (result : Result Answer Status) →
+    c.task ≡ t → p ≡ c.modulus → IsErrAnd result (λ s. s ≡ status_of e) → Accepted words c → WasRead (asked t p limit) (Err e) old new → WasFound words limit result old new
+found_unread words c t p limit old new e result task modulus is accepted was =
+    let at_task : WasRead (asked c.task p limit) (Err e) old new = subst (λ t. WasRead (asked t p limit) (Err e) old new) (sym task) was in
+    let read : WasRead (request c limit) (Err e) old new = subst (λ p. WasRead (asked c.task p limit) (Err e) old new) modulus at_task in
+    let fault = err_from_is_err_and result is in
+    let found : WasFound words limit (Err fault.0) old new = subst (λ s. WasFound words limit (Err s) old new) (sym fault.2) (unread_for words c limit accepted old new e read) in
+    subst (λ r. WasFound words limit r old new) (sym fault.1) found
 
-pub found_memory : (words : List (List ℕ)) (limit : ℕ) (told : Option (List ℕ)) (f : ℕ) → Taking told told (Finds words limit f f (Err status.Memory))
-found_memory words limit told f = taking_nothing told _ (λ held g. refl)
+-- nothing was asked of the source where no command is accepted, or memory was wanted for the words
+nothing : Input
+nothing = record { bytes = []; ended = false }
+
+pub found_refused : (words : List (List ℕ)) (limit : ℕ) (source : SourceState) → AreRefused words → WasFound words limit (Err status.Usage) source source
+unfolding nothing
+found_refused words limit source refused = record { input = nothing; draws = draws_none (AreTooFew words limit) (untouched source); found = refused }
+
+pub found_memory : (words : List (List ℕ)) (limit : ℕ) (source : SourceState) → WasFound words limit (Err status.Memory) source source
+unfolding nothing
+found_memory words limit source = record { input = nothing; draws = draws_none (AreTooFew words limit) (untouched source); found = tt }
+
+-- an input is read as one list of matrices, and then it has no fault
+one_list : (r : Request) (input : Input) (values values' : List Matrix) → HasMatrices r input values → HasMatrices r input values' → values ≡ values'
+one_list r input values values' a b =
+    let both : Got a.items a.rest ≡ Got b.items b.rest = sym a.reads ∙ b.reads in
+    let same : a.items ≡ b.items = cc in
+    sym a.are ∙ ap (matrices r.modulus) same ∙ b.are
+
+no_fault : (r : Request) (input : Input) (values : List Matrix) (line : ℕ) (k : Kind) → HasMatrices r input values → FirstFault r input.bytes input.ended line k → ⊥
+no_fault r input values line k a fault =
+    let both : Got a.items a.rest ≡ Fault line k = sym a.reads ∙ fault in
+    cc
+
+-- what a run came to that had these bytes left, where its source did not fail
+data Outcome (r : Run) (c : Command) (bytes : List ℕ) (s : Status) : Type 0 where
+  Wanting : s ≡ status.Memory → Outcome r c bytes s
+  Faulty : (line : ℕ) (k : Kind) → FirstFault (request c r.limit) bytes true line k → s ≡ status.BadText line k → Outcome r c bytes s
+  Refused : IsMisfit c r.limit (whole_input bytes) s → Outcome r c bytes s
+  Answered : (values : List Matrix) → HasMatrices (request c r.limit) (whole_input bytes) values → misfit c.task values ≡ None →
+      (s ≡ status.Done) ⊎ Rose r.out.faults r.out_after.faults → Outcome r c bytes s
+
+module _ (r : Run) (input : Input) where
+  abbrev Takes : Status → Type 0
+  Takes s = Draws (AreTooFew r.words r.limit) (is_unread s) input.bytes (untouched r.source) (supply_behind input r.source_after)
+
+  module _ (c : Command) (bytes : List ℕ) (offered : IsOffered r c bytes) where
+    -- what the input says, all the bytes say
+    all_say : (s : Status) (said : Reading) → Takes s → reading (request c r.limit) input.ended input.bytes ≡ said → Keeps said (reading (request c r.limit) true bytes)
+    all_say s said takes e = told_of_all (request c r.limit) input (AreTooFew r.words r.limit) (is_unread s) r.source r.source_after bytes said takes offered.told e
+
+    all_fault : (s : Status) (d : Command) (line : ℕ) (k : Kind) → Takes s → Accepted r.words d → FirstFault (request d r.limit) input.bytes input.ended line k →
+        FirstFault (request c r.limit) bytes true line k
+    all_fault s d line k takes accepted fault =
+        all_say s (Fault line k) takes (subst (λ d. FirstFault (request d r.limit) input.bytes input.ended line k) (one_command r.words d c accepted offered.accepted) fault)
+
+    all_matrices : (s : Status) (values : List Matrix) → Takes s → HasMatrices (request c r.limit) input values → HasMatrices (request c r.limit) (whole_input bytes) values
+    all_matrices s values takes has =
+        let all = all_say s (Got has.items has.rest) takes has.reads in record { items = has.items; rest = all.0; reads = all.1; are = has.are }
+
+    misfit_outcome : (s : Status) (d : Command) → Takes s → Accepted r.words d → IsMisfit d r.limit input s → Outcome r c bytes s
+    misfit_outcome s d takes accepted is =
+        let at = subst (λ d. IsMisfit d r.limit input s) (one_command r.words d c accepted offered.accepted) is in
+        Refused (record { values = at.values; reads = all_matrices s at.values takes at.reads; refused = at.refused })
+
+    answered_outcome : (s : Status) (text : List ℕ) → Takes s → IsAnswered r.words r.limit input text → (s ≡ status.Done) ⊎ Rose r.out.faults r.out_after.faults → Outcome r c bytes s
+    answered_outcome s text takes (d, accepted, has) ends =
+        let at = subst (λ d. HasAnswer d r.limit input text) (one_command r.words d c accepted offered.accepted) has in
+        Answered at.values (all_matrices s at.values takes at.reads) at.fits ends
+
+    outcome : (s : Status) → Takes s → Explains r input s → Outcome r c bytes s
+    outcome status.Done takes cause = answered_outcome status.Done cause.0 takes cause.1 (inl refl)
+    outcome status.No takes cause = absurd cause.0
+    outcome status.Usage takes cause = absurd (cause.0 c offered.accepted)
+    outcome (status.BadText line k) takes cause = Faulty line k (all_fault (status.BadText line k) cause.0.0 line k takes cause.0.1 cause.0.2) refl
+    outcome (status.Shape h w) takes cause = misfit_outcome (status.Shape h w) cause.0.0 takes cause.0.1 cause.0.2
+    outcome status.ReadFault takes cause = absurd (offered.steady takes.source.rose)
+    outcome status.WriteFault takes cause = answered_outcome status.WriteFault (cause.0 ++ cause.1) takes cause.2 (inr cause.3.rose)
+    outcome status.Memory takes cause = Wanting refl
+    outcome (status.Wide h w) takes cause = misfit_outcome (status.Wide h w) cause.0.0 takes cause.0.1 cause.0.2
+
+    -- a fault is named
+    names_fault : (s : Status) (line : ℕ) (k : Kind) → FirstFault (request c r.limit) bytes true line k → Outcome r c bytes s → IsOrMemory (status.BadText line k) s
+    names_fault s line k fault (Wanting memory) = inr memory
+    names_fault s line k fault (Faulty line' k' fault' is) =
+        let both : Fault line' k' ≡ Fault line k = sym fault' ∙ fault in
+        let lines : line' ≡ line = cc in
+        let kinds : k' ≡ k = cc in
+        inl (is ∙ ap₂ status.BadText lines kinds)
+    names_fault s line k fault (Refused m) = absurd (no_fault (request c r.limit) (whole_input bytes) m.values line k m.reads fault)
+    names_fault s line k fault (Answered values has fits ends) = absurd (no_fault (request c r.limit) (whole_input bytes) values line k has fault)
+
+    -- shapes are refused
+    refuses_shape : (s t : Status) → IsMisfit c r.limit (whole_input bytes) t → Outcome r c bytes s → IsOrMemory t s
+    refuses_shape s t is (Wanting memory) = inr memory
+    refuses_shape s t is (Faulty line k fault e) = absurd (no_fault (request c r.limit) (whole_input bytes) is.values line k is.reads fault)
+    refuses_shape s t is (Refused m) =
+        let same = one_list (request c r.limit) (whole_input bytes) m.values is.values m.reads is.reads in
+        let both : Some s ≡ Some t = sym m.refused ∙ ap (misfit c.task) same ∙ is.refused in
+        let one : s ≡ t = cc in
+        inl one
+    refuses_shape s t is (Answered values has fits ends) =
+        let same = one_list (request c r.limit) (whole_input bytes) values is.values has is.reads in
+        let both : None ≡ Some t = sym fits ∙ ap (misfit c.task) same ∙ is.refused in
+        absurd (let none : ⊥ = cc in none)
+
+    -- and what fits is answered
+    answers_whole : (s : Status) (values : List Matrix) → HasMatrices (request c r.limit) (whole_input bytes) values → misfit c.task values ≡ None →
+        (Rose r.out.faults r.out_after.faults → ⊥) → Outcome r c bytes s → IsOrMemory status.Done s
+    answers_whole s values has fits calm (Wanting memory) = inr memory
+    answers_whole s values has fits calm (Faulty line k fault e) = absurd (no_fault (request c r.limit) (whole_input bytes) values line k has fault)
+    answers_whole s values has fits calm (Refused m) =
+        let same = one_list (request c r.limit) (whole_input bytes) values m.values has m.reads in
+        let both : None ≡ Some s = sym fits ∙ ap (misfit c.task) same ∙ m.refused in
+        absurd (let none : ⊥ = cc in none)
+    answers_whole s values has fits calm (Answered values' has' fits' (inl done)) = inl done
+    answers_whole s values has fits calm (Answered values' has' fits' (inr rose)) = absurd (calm rose)
+
+  -- words that no command accepts
+  refuses_words : (s : Status) → Explains r input s → AreRefused r.words → IsOrMemory status.Usage s
+  refuses_words status.Done cause refused = absurd (refused cause.1.0 cause.1.1)
+  refuses_words status.No cause refused = absurd cause.0
+  refuses_words status.Usage cause refused = inl refl
+  refuses_words (status.BadText line k) cause refused = absurd (refused cause.0.0 cause.0.1)
+  refuses_words (status.Shape h w) cause refused = absurd (refused cause.0.0 cause.0.1)
+  refuses_words status.ReadFault cause refused = absurd (refused cause.0.0 cause.0.1)
+  refuses_words status.WriteFault cause refused = absurd (refused cause.2.0 cause.2.1)
+  refuses_words status.Memory cause refused = inr refl
+  refuses_words (status.Wide h w) cause refused = absurd (refused cause.0.0 cause.0.1)
+
+  -- a run that took this input, and ended for a cause, came to what it had to
+  ran : (s : Status) → Takes s → Explains r input s → Ran r s
+  ran s takes cause = record {
+    input = input;
+    draws = takes;
+    cause = cause;
+    complete = record {
+      usage = refuses_words s cause;
+      fault = λ c bytes line k offered fault. names_fault c bytes offered s line k fault (outcome c bytes offered s takes cause);
+      shape = λ c bytes t offered is. refuses_shape c bytes offered s t is (outcome c bytes offered s takes cause);
+      done = λ c bytes values offered has fits calm. answers_whole c bytes offered s values has fits calm (outcome c bytes offered s takes cause);
+    };
+  }
+
+abbrev run_between : List (List ℕ) → ℕ → SourceState → SourceState → SinkState → SinkState → Run
+run_between words limit old new out out' = record { words = words; limit = limit; source = old; source_after = new; out = out; out_after = out' }
 
 -- no answer was found
-pub ran_without : (words : List (List ℕ)) (limit : ℕ) (told told' : Option (List ℕ)) (f f' : ℕ) (held : Option (List ℕ)) (g : ℕ) (s : Status) →
-    Taking told told' (Finds words limit f f' (Err s)) → Ran words limit told told' f f' held held g g s
-ran_without words limit told told' f f' held g s found = record {
-  bytes = found.bytes;
-  ended = found.ended;
-  taken = found.taken;
-  spent = found.spent;
-  cause = found.holds held g;
-}
+pub ran_without : (words : List (List ℕ)) (limit : ℕ) (old new : SourceState) (out : SinkState) (s : Status) → WasFound words limit (Err s) old new → Ran (run_between words limit old new out out) s
+ran_without words limit old new out s was = ran (run_between words limit old new out out) was.input s was.draws (unwritten s was.found)
+  where
+    unwritten : (s : Status) → HasNoAnswer words limit was.input s → Explains (run_between words limit old new out out) was.input s
+    unwritten status.Done none = absurd none
+    unwritten status.No none = (none, refl)
+    unwritten status.Usage none = (none, refl)
+    unwritten (status.BadText line k) none = (none, refl)
+    unwritten (status.Shape h w) none = (none, refl)
+    unwritten status.ReadFault none = (none, refl)
+    unwritten status.WriteFault none = absurd none
+    unwritten status.Memory none = (none, refl)
+    unwritten (status.Wide h w) none = (none, refl)
 
--- of a source that tells and had a whole valid input left
-module _ (limit : ℕ) (told told' : Option (List ℕ)) (taken : List ℕ) (ended : Bool) (source : told ≡ before taken told') (spent : ended ≡ true → IsSpent told')
-    (c : Command) (bytes : List ℕ) (items : List Item) (rest : List Line) (left : told ≡ Some bytes) (reads : Reads bytes true limit (wanted c.task) c.modulus items rest) where
-  -- the bytes taken have no fault
-  no_fault : (d : Command) (line : ℕ) (k : Kind) → d ≡ c → FirstFault taken ended limit (wanted d.task) d.modulus line k → ⊥
-  no_fault d line k same fault =
-      let P : Command → Type 0 = λ d. FirstFault taken ended limit (wanted d.task) d.modulus line k in
-      let all : read c.modulus true limit 1 (wanted c.task) (lines bytes) ≡ Fault line k = said_of_all c.modulus limit (wanted c.task) taken ended bytes told told' (Fault line k) source spent left (subst P same fault) in
-      let both : Got items rest ≡ Fault line k = sym reads ∙ all in
-      cc
+-- an answer was found and written, or a part of it
+pub ran_done : (words : List (List ℕ)) (limit : ℕ) (old new : SourceState) (out out' : SinkState) (a : Answer) → WasFound words limit (Ok a) old new →
+    Gained (answer_text a) out out' → Ran (run_between words limit old new out out') status.Done
+ran_done words limit old new out out' a was gained = ran (run_between words limit old new out out') was.input status.Done was.draws (answer_text a, was.found, gained)
 
-  -- nor are matrices refused that are of the shapes wanted
-  no_misfit : (d : Command) (s : Status) → d ≡ c → misfit c.task (matrices c.modulus items) ≡ None → IsMisfit d taken ended limit s → ⊥
-  no_misfit d s same fits refused =
-      let m : IsMisfit c taken ended limit s = subst (λ d. IsMisfit d taken ended limit s) same refused in
-      let all = said_of_all c.modulus limit (wanted c.task) taken ended bytes told told' (Got m.items m.rest) source spent left m.reads in
-      let both : Got m.items all.0 ≡ Got items rest = sym all.1 ∙ reads in
-      let one : m.items ≡ items = cc in
-      let none : None ≡ Some s = sym fits ∙ ap (λ l. misfit c.task (matrices c.modulus l)) (sym one) ∙ m.refused in
-      cc
-
--- where no count rose either, the run was done or wanted memory
-completes_by : (words : List (List ℕ)) (limit : ℕ) (told told' : Option (List ℕ)) (f f' : ℕ) (held held' : Option (List ℕ)) (g g' : ℕ) (s : Status) (taken : List ℕ) (ended : Bool) →
-    told ≡ before taken told' → (ended ≡ true → IsSpent told') →
-    HasCause record { words = words; limit = limit; bytes = taken; ended = ended; faults = f; faults_after = f'; held = held; held_after = held'; failures = g; failures_after = g' } s → Completes words limit told f f' g g' s
-completes_by words limit told told' f f' held held' g g' status.Done taken ended source spent cause = λ c bytes items rest accepted prime left reads fits nf ng. inl refl
-completes_by words limit told told' f f' held held' g g' status.No taken ended source spent cause = λ c bytes items rest accepted prime left reads fits nf ng. absurd cause
-completes_by words limit told told' f f' held held' g g' status.Usage taken ended source spent cause = λ c bytes items rest accepted prime left reads fits nf ng. absurd (cause.0 c accepted)
-completes_by words limit told told' f f' held held' g g' (status.BadText line k) taken ended source spent cause = λ c bytes items rest accepted prime left reads fits nf ng.
-    absurd (no_fault limit told told' taken ended source spent c bytes items rest left reads cause.0 line k (one_command words cause.0 c cause.1 accepted) cause.2)
-completes_by words limit told told' f f' held held' g g' (status.Shape h w) taken ended source spent cause = λ c bytes items rest accepted prime left reads fits nf ng.
-    absurd (no_misfit limit told told' taken ended source spent c bytes items rest left reads cause.0 (status.Shape h w) (one_command words cause.0 c cause.1 accepted) fits cause.2)
-completes_by words limit told told' f f' held held' g g' status.ReadFault taken ended source spent cause = λ c bytes items rest accepted prime left reads fits nf ng. absurd (nf cause.3)
-completes_by words limit told told' f f' held held' g g' status.WriteFault taken ended source spent cause = λ c bytes items rest accepted prime left reads fits nf ng. absurd (ng cause.6)
-completes_by words limit told told' f f' held held' g g' status.Memory taken ended source spent cause = λ c bytes items rest accepted prime left reads fits nf ng. inr refl
-completes_by words limit told told' f f' held held' g g' (status.Wide h w) taken ended source spent cause = λ c bytes items rest accepted prime left reads fits nf ng.
-    absurd (no_misfit limit told told' taken ended source spent c bytes items rest left reads cause.0 (status.Wide h w) (one_command words cause.0 c cause.1 accepted) fits cause.2)
-
-pub completes : (words : List (List ℕ)) (limit : ℕ) (told told' : Option (List ℕ)) (f f' : ℕ) (held held' : Option (List ℕ)) (g g' : ℕ) (s : Status) →
-    Ran words limit told told' f f' held held' g g' s → Completes words limit told f f' g g' s
-completes words limit told told' f f' held held' g g' s ran = completes_by words limit told told' f f' held held' g g' s ran.bytes ran.ended ran.taken ran.spent ran.cause
+pub ran_failed : (words : List (List ℕ)) (limit : ℕ) (old new : SourceState) (out out' : SinkState) (a : Answer) (fault : WriteFault) → WasFound words limit (Ok a) old new →
+    Writes (Err fault) (answer_text a) out out' → Ran (run_between words limit old new out out') status.WriteFault
+ran_failed words limit old new out out' a fault was (part, rest, cut, gained) =
+    ran (run_between words limit old new out out') was.input status.WriteFault was.draws (part, rest, subst (IsAnswered words limit was.input) cut was.found, gained)

@@ -1,47 +1,51 @@
 -- One piece written after another.
-use Rattle.std.proofs.Common.{ℕ, false, true, ◌≡◌, ◌≤◌, List, [], ◌∷◌, ◌++◌, Option, None, Some, Result, Ok, Err, refl, sym, ap, subst, ◌∙◌, inl, inr, arith, append_assoc}
+use Rattle.std.proofs.Common.{ℕ, false, true, ◌≡◌, List, [], ◌∷◌, ◌++◌, Option, None, Some, Result, Ok, Err, refl, sym, ap, subst, ◌∙◌, arith, append_assoc}
 use Rattle.std.specs.Prelude.{codes}
 use Rattle.std.specs.Fmt.{decimal}
 use Rattle.std.specs.Result.{IsErr}
 use Rattle.sms_text.specs.declared.kind.Kind.{Kind}
 use Rattle.spasm_run.specs.declared.status.Status.{Status}
 use Rattle.spasm_run.specs.declared.status.Status.TheVariants as status
-use Rattle.spasm_run.specs.Ran.{fault_line, kind_number}
+use Rattle.spasm_run.specs.Status.{fault_line}
 use Rattle.sms_text.specs.declared.write.WriteFault.{WriteFault}
-use Rattle.sms_text.specs.Outside.{behind, Rose}
+use Rattle.sms_text.specs.Kind.{kind_number}
+use Rattle.sms_text.specs.Stream.{SinkState, Gained, GainedAndFailed, Rose, at_back, behind}
 use Rattle.sms_text.specs.Writing.{Writes}
 
 -- what is put behind a piece that was put
-pub behind_behind : (held : Option (List ℕ)) (a b : List ℕ) → behind (behind held a) b ≡ behind held (a ++ b)
-behind_behind None a b = refl
-behind_behind (Some h) a b = ap Some (append_assoc h a b)
+at_back_twice : (held : Option (List ℕ)) (a b : List ℕ) → at_back (at_back held a) b ≡ at_back held (a ++ b)
+at_back_twice None a b = refl
+at_back_twice (Some h) a b = ap Some (append_assoc h a b)
 
-rose_earlier : (f0 f g : ℕ) → f0 ≤ f → Rose f g → Rose f0 g
-rose_earlier f0 f g from (inl less) = inl (omega arith)
-rose_earlier f0 f g from (inr full) = inr full
+gained_then : (a b : List ℕ) (s s' s'' : SinkState) → Gained a s s' → Gained b s' s'' → Gained (a ++ b) s s''
+gained_then a b s s' s'' first then =
+    then ∙ ap (λ t. behind t b) first ∙ ap (λ h. record { held = h; faults = s.faults }) (at_back_twice s.held a b)
+
+failed_then : (a b : List ℕ) (s s' s'' : SinkState) → Gained a s s' → GainedAndFailed b s' s'' → GainedAndFailed (a ++ b) s s''
+failed_then a b s s' s'' first then =
+    let same : s'.faults ≡ s.faults = ap (λ t. t.faults) first in
+    record {
+      held = then.held ∙ ap (λ t. at_back t.held b) first ∙ at_back_twice s.held a b;
+      counts = omega (arith, same, then.counts);
+      rose = subst (λ f. Rose f s''.faults) same then.rose;
+    }
 
 -- a piece was written, and then another
-pub writes_then : (result : Result (Unit {0}) WriteFault) (a b : List ℕ) (h0 h1 h2 : Option (List ℕ)) (f0 f1 f2 : ℕ) → h1 ≡ behind h0 a → f0 ≤ f1 →
-    Writes result b h1 h2 f1 f2 → Writes result (a ++ b) h0 h2 f0 f2
-writes_then (Ok done) a b h0 h1 h2 f0 f1 f2 first count then = then ∙ ap (λ (h : Option (List ℕ)). behind h b) first ∙ behind_behind h0 a b
-writes_then (Err fault) a b h0 h1 h2 f0 f1 f2 first count (part, rest, cut, then, rose) = (
-  a ++ part,
-  rest,
-  ap (λ (l : List ℕ). a ++ l) cut ∙ sym (append_assoc a part rest),
-  then ∙ ap (λ (h : Option (List ℕ)). behind h part) first ∙ behind_behind h0 a part,
-  rose_earlier f0 f1 f2 count rose,
-)
+pub writes_then : (result : Result (Unit {0}) WriteFault) (a b : List ℕ) (s s' s'' : SinkState) → Gained a s s' → Writes result b s' s'' → Writes result (a ++ b) s s''
+writes_then (Ok done) a b s s' s'' first then = gained_then a b s s' s'' first then
+writes_then (Err fault) a b s s' s'' first (part, rest, cut, then) =
+    (a ++ part, rest, ap (λ (l : List ℕ). a ++ l) cut ∙ sym (append_assoc a part rest), failed_then a part s s' s'' first then)
 
 -- a piece was not written, so nor what follows it
-pub writes_stops : (result : Result (Unit {0}) WriteFault) (fault : WriteFault) (a b : List ℕ) (h0 h1 : Option (List ℕ)) (f0 f1 : ℕ) → IsErr result →
-    Writes (Err fault) a h0 h1 f0 f1 → Writes result (a ++ b) h0 h1 f0 f1
-writes_stops (Ok done) fault a b h0 h1 f0 f1 e h = let t : false ≡ true = e in cc
-writes_stops (Err fault') fault a b h0 h1 f0 f1 e (part, rest, cut, put, rose) =
-    (part, rest ++ b, ap (λ (l : List ℕ). l ++ b) cut ∙ append_assoc part rest b, put, rose)
+pub writes_stops : (result : Result (Unit {0}) WriteFault) (fault : WriteFault) (a b : List ℕ) (s s' : SinkState) → IsErr result →
+    Writes (Err fault) a s s' → Writes result (a ++ b) s s'
+writes_stops (Ok done) fault a b s s' e h = let t : false ≡ true = e in cc
+writes_stops (Err fault') fault a b s s' e (part, rest, cut, put) =
+    (part, rest ++ b, ap (λ (l : List ℕ). l ++ b) cut ∙ append_assoc part rest b, put)
 
 -- what was written, by another name
-pub writes_same : (result : Result (Unit {0}) WriteFault) (a b : List ℕ) (h0 h1 : Option (List ℕ)) (f0 f1 : ℕ) → a ≡ b → Writes result a h0 h1 f0 f1 → Writes result b h0 h1 f0 f1
-writes_same result a b h0 h1 f0 f1 e w = let P : List ℕ → Type 0 = λ l. Writes result l h0 h1 f0 f1 in subst P e w
+pub writes_same : (result : Result (Unit {0}) WriteFault) (a b : List ℕ) (s s' : SinkState) → a ≡ b → Writes result a s s' → Writes result b s s'
+writes_same result a b s s' e w = let P : List ℕ → Type 0 = λ l. Writes result l s s' in subst P e w
 
 -- the lines of faults that tell two numbers
 pub bad_text_line : (s : Status) (line : ℕ) (k : Kind) (n : ℕ) → s ≡ status.BadText line k → n ≡ kind_number k →

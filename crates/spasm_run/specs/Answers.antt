@@ -1,19 +1,23 @@
 -- What each command reads, and what it answers.
-use Rattle.std.specs.Prelude.{◌≡◌, ◌<◌, ◌⊎◌, ◌==◌, ◌&&◌, nat_lt, not, if◌then◌else◌, ℕ, List, [], ◌∷◌, ◌++◌, Option, None, Some, codes, length, slice_index}
+use Rattle.std.specs.Prelude.{◌≡◌, ◌+◌, ◌<◌, ◌≤◌, ◌⊎◌, ◌==◌, ◌&&◌, nat_lt, not, if◌then◌else◌, ℕ, List, [], ◌∷◌, ◌++◌, Option, None, Some, codes, length, slice_index}
 use Rattle.std.specs.Fmt.{decimal}
+use Rattle.std.specs.List.{flat_map}
 use Rattle.residue_words.specs.Matrix.{Matrix, row}
+use Rattle.residue_words.specs.declared.plain.Pair.{Pair}
+use Rattle.pivot_table.specs.Selected.{Selected}
 use Rattle.row_space.specs.Echelon.{HasRank, IsRref}
 use Rattle.row_space.specs.Inverse.{IsInverse}
 use Rattle.row_space.specs.Kernel.{IsKernel}
 use Rattle.row_space.specs.Solution.{IsReducedSolution, IsRefutingCombination, IsSolution}
-use Rattle.kernel_solve.specs.Columns.{column}
+use Rattle.kernel_solve.specs.Column.{column, column_of}
 use Rattle.sms_text.specs.Text.{Due, Header}
-use Rattle.sms_text.specs.Written.{text_of}
-use Rattle.sparse_rows.specs.Rows.{matrix_by, transposed}
+use Rattle.sms_text.specs.Written.{pair_line, text_of}
+use Rattle.sparse_rows.specs.Rows.{transposed}
+use Rattle.spasm_run.specs.declared.commands.TheConstants.{LARGEST_INVERTED}
 use Rattle.spasm_run.specs.declared.status.Status.{Status}
 use Rattle.spasm_run.specs.declared.status.Status.TheVariants.{Shape, Wide}
 use Rattle.spasm_run.specs.declared.words.Task.{Task}
-use Rattle.spasm_run.specs.declared.words.Task.TheVariants.{Rank, Rref, Kernel, Solve, LeftKernel, Inverse}
+use Rattle.spasm_run.specs.declared.words.Task.TheVariants.{Rank, Rref, Kernel, Solve, LeftKernel, Inverse, Pivots}
 
 -- the lines that are due at first: the headers of the matrices that are read
 abbrev pub wanted : Task → List Due
@@ -21,42 +25,55 @@ wanted Solve = Header ∷ Header ∷ []
 wanted task = Header ∷ []
 
 -- the status by which matrices of a wrong shape are refused: a right-hand side has to be a column as long as the matrix is high, and what is
--- inverted square, of at most 2^30 rows
+-- inverted square, of at most LARGEST_INVERTED rows
 abbrev pub misfit : Task → List Matrix → Option Status
-misfit Solve (A ∷ B ∷ []) = if (B.height == A.height) && (B.width == 1) then None else Some (Shape B.height B.width)
+misfit Solve (A ∷ B ∷ []) =
+    if (B.height == A.height) && (B.width == 1) then None else Some (Shape B.height B.width)
 misfit Inverse (A ∷ []) =
     if not (A.height == A.width) then Some (Shape A.height A.width) else
-    if nat_lt 1073741824 A.height then Some (Wide A.height A.width) else None
+    if nat_lt LARGEST_INVERTED A.height then Some (Wide A.height A.width) else None
 misfit task values = None
 
 abbrev pub rank_text : ℕ → List ℕ
 rank_text r = codes "rank " ++ decimal r ++ 10 ∷ []
 
--- the matrix of one column, and of one row, with these entries
-abbrev pub column_of : List ℕ → Matrix
-column_of x = matrix_by (length x) 1 (λ i j. slice_index x i)
-
-abbrev pub row_of : List ℕ → Matrix
-row_of y = record { height = 1; width = length y; rows = y ∷ [] }
+-- the matrix of one row with these entries
+abbrev pub as_row : List ℕ → Matrix
+as_row y = record { height = 1; width = length y; rows = y ∷ [] }
 
 -- the reduced solution of A x = b; or, where there is no solution, the refuting combination
 abbrev pub SolvesTo : ℕ → Matrix → List ℕ → List ℕ → Type 0
 SolvesTo p A b text =
     ((x : List ℕ) × IsReducedSolution p A b x × (text ≡ codes "solution\n" ++ text_of (column_of x)))
-    ⊎ ((y : List ℕ) × ((x : List ℕ) → ¬ IsSolution p A b x) × IsRefutingCombination p A b y × (text ≡ codes "no solution\n" ++ text_of (row_of y)))
+    ⊎ ((y : List ℕ) × ((x : List ℕ) → ¬ IsSolution p A b x) × IsRefutingCombination p A b y
+    × (text ≡ codes "no solution\n" ++ text_of (as_row y)))
 
 -- the inverse of A; or, where there is none, the first row of its kernel basis
 abbrev pub InvertsTo : ℕ → Matrix → List ℕ → Type 0
 InvertsTo p A text =
     ((B : Matrix) × IsInverse p A B × (text ≡ codes "inverse\n" ++ text_of B))
-    ⊎ ((K : Matrix) × ((B : Matrix) → ¬ IsInverse p A B) × IsKernel p A K × (0 < K.height) × (text ≡ codes "singular\n" ++ text_of (row_of (row K 0))))
+    ⊎ ((K : Matrix) × ((B : Matrix) → ¬ IsInverse p A B) × IsKernel p A K × (0 < K.height)
+    × (text ≡ codes "singular\n" ++ text_of (as_row (row K 0))))
 
--- the text is the answer to the command for these matrices
-abbrev pub AnswerOf : Task → ℕ → List Matrix → List ℕ → Type 0
-AnswerOf Rank p (A ∷ []) text = (r : ℕ) × HasRank p A r × (text ≡ rank_text r)
-AnswerOf Rref p (A ∷ []) text = (E : Matrix) × IsRref p A E × (text ≡ text_of E)
-AnswerOf Kernel p (A ∷ []) text = (K : Matrix) × IsKernel p A K × (text ≡ text_of K)
-AnswerOf Solve p (A ∷ B ∷ []) text = SolvesTo p A (column B) text
-AnswerOf LeftKernel p (A ∷ []) text = (K : Matrix) × IsKernel p (transposed A) K × (text ≡ text_of K)
-AnswerOf Inverse p (A ∷ []) text = InvertsTo p A text
-AnswerOf task p values text = ⊥
+-- the places of pivots, a line each, counted from 1
+abbrev pub pair_lines : List Pair → List ℕ
+pair_lines qs = flat_map (λ (q : Pair). pair_line (q.row + 1) (q.col + 1)) qs
+
+abbrev pub pivots_text : List Pair → List ℕ
+pivots_text qs = codes "pivots " ++ decimal (length qs) ++ 10 ∷ pair_lines qs
+
+-- the text is the answer to the command by this number of workers, for these matrices modulo p
+abbrev pub AnswerOf : Task → ℕ → ℕ → List Matrix → List ℕ → Type 0
+AnswerOf Rank p workers (A ∷ []) text = (r : ℕ) × HasRank p A r × (text ≡ rank_text r)
+AnswerOf Rref p workers (A ∷ []) text = (E : Matrix) × IsRref p A E × (text ≡ text_of E)
+AnswerOf Kernel p workers (A ∷ []) text = (K : Matrix) × IsKernel p A K × (text ≡ text_of K)
+AnswerOf Solve p workers (A ∷ B ∷ []) text = SolvesTo p A (column B) text
+AnswerOf LeftKernel p workers (A ∷ []) text = (K : Matrix) × IsKernel p (transposed A) K × (text ≡ text_of K)
+AnswerOf Inverse p workers (A ∷ []) text = InvertsTo p A text
+AnswerOf Pivots p workers (A ∷ []) text = (qs : List Pair) × Selected A workers qs × (text ≡ pivots_text qs)
+AnswerOf task p workers values text = ⊥
+
+-- the answer to a command for matrices of the shapes that are wanted is one text; the pivots where one worker searches
+abbrev pub IsOneAnswer : Type 0
+IsOneAnswer = (task : Task) (p workers : ℕ) (values : List Matrix) (text other : List ℕ) → 2 ≤ p → misfit task values ≡ None →
+    (task ≡ Pivots → workers ≡ 1) → AnswerOf task p workers values text → AnswerOf task p workers values other → text ≡ other

@@ -1,9 +1,9 @@
 pub mod Answers
-pub mod Faults
-pub mod Found
+pub mod Computed
+pub mod Input
 pub mod Line
 pub mod Options
 pub mod Plain
 pub mod Ran
-pub mod Taken
+pub mod Status
 pub mod Words

@@ -9,7 +9,7 @@ use Rattle.spasm_run.specs.declared.words.Task.TheVariants as task
 
 -- the tasks
 abbrev pub tasks : List Task
-tasks = task.Rank ∷ task.Rref ∷ task.Kernel ∷ task.Solve ∷ task.LeftKernel ∷ task.Inverse ∷ []
+tasks = task.Rank ∷ task.Rref ∷ task.Kernel ∷ task.Solve ∷ task.LeftKernel ∷ task.Inverse ∷ task.Pivots ∷ []
 
 -- the names of the options
 abbrev pub option_names : List (List ℕ)

@@ -24,19 +24,20 @@ IsNumber low high absent (Some w) n = IsInRange low high w n
 
 -- the number, if there is one
 abbrev pub IsNumberOf : ℕ → ℕ → ℕ → Option (List ℕ) → Option ℕ → Type 0
-IsNumberOf low high absent text result = MatchOption result ((n : ℕ) → ¬ IsNumber low high absent text n) (IsNumber low high absent text)
+IsNumberOf low high absent text result =
+    MatchOption result ((n : ℕ) → ¬ IsNumber low high absent text n) (IsNumber low high absent text)
 
 -- the rows give this number for the option
-abbrev pub Gives : Rule → List Row → ℕ → Type 0
-Gives rule rows n = IsNumber rule.low rule.high rule.absent (first_of rule.name rows) n
+abbrev pub RowsGive : Rule → List Row → ℕ → Type 0
+RowsGive rule rows n = IsNumber rule.low rule.high rule.absent (first_of rule.name rows) n
 
 -- the command that was entered and its rows ask for c
-pub record Says (entered : Option (List ℕ × List Row)) (c : Command) : Type 0 where
+pub record AsksFor (entered : Option (List ℕ × List Row)) (c : Command) : Type 0 where
   pub rows : List Row
   pub entered_as : entered ≡ Some (task_name c.task, rows)
-  pub modulus : Gives modulus_rule rows c.modulus
-  pub workers : Gives workers_rule rows c.workers
-  pub rounds : Gives rounds_rule rows c.rounds
+  pub modulus : RowsGive modulus_rule rows c.modulus
+  pub workers : RowsGive workers_rule rows c.workers
+  pub rounds : RowsGive rounds_rule rows c.rounds
 
 -- the command that these words ask for, if they are accepted
 abbrev pub IsCommandOf : List (List ℕ) → Option Command → Type 0

@@ -31,7 +31,15 @@ pub record AreReduced (p width : ℕ) (rows kept : List (List ℕ)) (leads : Lis
   pub steps : HasSteps (length kept) width (entry (of_rows width kept)) (slice_index leads)
   pub span : SameSpan p (of_rows width rows) (of_rows width kept)
 
--- with the row v, the kept rows and their leads become these: those reduce the rows and v where the former ones reduce the rows
-abbrev pub Reduces : ℕ → ℕ → List ℕ → List (List ℕ) → List ℕ → List (List ℕ) → List ℕ → Type 0
-Reduces p width v kept leads kept' leads' = IsPrime p → (rows : List (List ℕ)) → IsMatrix p (of_rows width rows) →
-    AreReduced p width rows kept leads → AreReduced p width (rows ++ v ∷ []) kept' leads'
+-- kept rows and their leads
+pub record KeptSteps : Type 0 where
+  pub kept : List (List ℕ)
+  pub leads : List ℕ
+
+abbrev pub steps : List (Vec ℕ Global) → List ℕ → KeptSteps
+steps kept leads = record { kept = lists kept; leads = leads }
+
+-- with the row v the kept rows became these: they reduce the rows and v where before they reduced the rows
+abbrev pub PassesRow : ℕ → ℕ → List ℕ → KeptSteps → KeptSteps → Type 0
+PassesRow p width v old new = IsPrime p → (rows : List (List ℕ)) → IsMatrix p (of_rows width rows) →
+    AreReduced p width rows old.kept old.leads → AreReduced p width (rows ++ v ∷ []) new.kept new.leads

@@ -1,10 +1,11 @@
 -- The words of the command line that are accepted.
-use Rattle.std.specs.Prelude.{◌≡◌, ◌≢◌, ◌≤◌, ℕ, Bool, true, false, List, [], ◌∷◌, ◌++◌, codes, IsTrue, map}
+use Rattle.std.specs.Prelude.{◌≡◌, ◌≢◌, ◌≤◌, ◌-◌, ℕ, Bool, true, false, List, [], ◌∷◌, ◌++◌, codes, IsTrue, map}
 use Rattle.std.specs.List.{Contains, flat_map}
+use Rattle.residue_words.specs.declared.modulus.TheConstants.{MODULUS_BOUND}
 use Rattle.sms_text.specs.Numbers.{is_number, value}
 use Rattle.spasm_run.specs.declared.words.Command.{Command}
 use Rattle.spasm_run.specs.declared.words.Task.{Task}
-use Rattle.spasm_run.specs.declared.words.Task.TheVariants.{Rank, Rref, Kernel, Solve, LeftKernel, Inverse}
+use Rattle.spasm_run.specs.declared.words.Task.TheVariants.{Rank, Rref, Kernel, Solve, LeftKernel, Inverse, Pivots}
 
 -- the name of a command, its first word
 abbrev pub task_name : Task → List ℕ
@@ -14,6 +15,7 @@ task_name Kernel = codes "kernel"
 task_name Solve = codes "solve"
 task_name LeftKernel = codes "leftkernel"
 task_name Inverse = codes "inverse"
+task_name Pivots = codes "pivots"
 
 -- an option that commands have: its name, the least and the largest number that it takes, and the number that stands where it is absent
 pub record Rule : Type 0 where
@@ -23,7 +25,7 @@ pub record Rule : Type 0 where
   pub absent : ℕ
 
 abbrev pub modulus_rule : Rule
-modulus_rule = record { name = codes "modulus"; low = 2; high = 281474976710655; absent = 42013 }
+modulus_rule = record { name = codes "modulus"; low = 2; high = MODULUS_BOUND - 1; absent = 42013 }
 
 abbrev pub workers_rule : Rule
 workers_rule = record { name = codes "workers"; low = 1; high = 64; absent = 1 }
@@ -56,8 +58,10 @@ IsInRange low high w n = IsTrue (is_number w) × (n ≡ value w) × (low ≤ n) 
 -- n is the value of the option among those given, and lies in its range; or it is the number that stands where it is absent
 pub data IsValueOf (options : List Given) (rule : Rule) (n : ℕ) : Type 0 where
   GivenOnce : (before : List Given) (joined : Bool) (w : List ℕ) (after : List Given) →
-      options ≡ before ++ (record { name = rule.name; value = w; joined = joined }) ∷ after → IsInRange rule.low rule.high w n → IsValueOf options rule n
-  Absent : ((g : Given) → Contains options g → g.name ≢ rule.name) → n ≡ rule.absent → IsValueOf options rule n
+      options ≡ before ++ (record { name = rule.name; value = w; joined = joined }) ∷ after →
+      IsInRange rule.low rule.high w n → IsValueOf options rule n
+  Absent : ((g : Given) → Contains options g → g.name ≢ rule.name) → n ≡ rule.absent →
+      IsValueOf options rule n
 
 -- each option has one of these names, and no name comes twice
 pub record AreKnown (options : List Given) (names : List (List ℕ)) : Type 0 where

@@ -1,23 +1,19 @@
 //! The top call of the program: from words and bytes to an answer.
 #![tactic(auto)]
 
-mod answers;
-#[cfg(test)]
-mod compare_tests;
-mod gate;
-mod input;
-mod plain;
-mod rank;
+mod answer;
+mod commands;
+mod numbered_text;
+mod plain_elimination;
+mod read_matrices;
+mod running;
 mod status;
-mod tell;
-#[cfg(test)]
-mod tests;
-mod top;
 pub mod words;
+mod written_pivots;
 
-pub use gate::{Gate, Open, Point};
-pub use plain::plain_rows;
-pub use rank::rank_of;
+pub use optimistic_search::{Gate, Open, Point};
+pub use commands::{LARGEST_INVERTED, at_most_one_answer};
+pub use plain_elimination::{plain_rows, rank_of};
+pub use running::{run, run_within};
 pub use status::Status;
-pub use top::{run, run_within};
 pub use words::{Command, Task, accepted_words_are_plain, at_most_one_command, read_words};

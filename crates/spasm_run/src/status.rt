@@ -1,10 +1,11 @@
 // How a run ends.
-ghost use Rattle.std.specs.Prelude.{◌≡◌};
-ghost use Rattle.spasm_run.specs.Faults.{status_of};
-ghost use Rattle.spasm_run.specs.Ran.{code_of, kind_number};
+ghost use Rattle.std.specs.Prelude.{◌≡◌, true};
+ghost use Rattle.sms_text.specs.Writing.{Writes};
 
-use sms_text::{Kind, TextError};
+use crate::numbered_text::write_two_numbers;
+use sms_text::{Kind, Sink, TextError, WriteFault, write_text};
 use std::alloc::AllocError;
+use std::fmt::{self, Display, Formatter};
 
 /// How a run ended. Each has a code, which is the program's exit status.
 #[derive(Clone, Copy, Debug, PartialEq, Eq)]
@@ -45,6 +46,8 @@ pub enum Status {
 }
 
 impl Status {
+    ghost use Rattle.spasm_run.specs.Status.{SaysWhy, code_of, fault_line, is_answered};
+
     /// The program's exit status.
     pub fn code(&self) -> u8
         ensures { result ≡ code_of self.now }
@@ -61,9 +64,81 @@ impl Status {
             Status::Wide { .. } => 9,
         }
     }
+
+    // Writes the fault line to the error stream, if the status has one. Where the stream fails, nothing more is done.
+    pub(crate) fn tell<E: Sink>(self, err: &mut E)
+        ensures did { SaysWhy self (E.state err.old) (E.state err.new) }
+        ensures silent { is_answered self ≡ true → err.new ≡ err.old }
+    {
+        match self {
+            Status::Done | Status::No => {}
+            _ => {
+                let _ = self.write_line(err);
+            }
+        }
+    }
+
+    // Writes the fault line; nothing, where the status has none.
+    fn write_line<E: Sink>(self, err: &mut E) -> Result<(), WriteFault>
+        ensures { Writes result (fault_line self) (E.state err.old) (E.state err.new) }
+    {
+        match self {
+            Status::Done => write_text(err, ""),
+            Status::No => write_text(err, ""),
+            Status::Usage => write_text(err, "error 2 usage\n"),
+            Status::BadText { line, kind } => {
+                write_two_numbers(err, "error 3 line ", line, " kind ", kind.number())
+            }
+            Status::Shape { height, width } => write_two_numbers(
+                err,
+                "error 4 shape ",
+                u64::from(height),
+                " ",
+                u64::from(width),
+            ),
+            Status::ReadFault => write_text(err, "error 6 read\n"),
+            Status::WriteFault => write_text(err, "error 7 write\n"),
+            Status::Memory => write_text(err, "error 8 memory\n"),
+            Status::Wide { height, width } => write_two_numbers(
+                err,
+                "error 9 wide ",
+                u64::from(height),
+                " ",
+                u64::from(width),
+            ),
+        }
+    }
+}
+
+impl Display for Status {
+    fn fmt<W: fmt::Write>(&self, f: &mut Formatter<W>) -> fmt::Result {
+        match self {
+            Status::Done => f.write_str("the answer was written"),
+            Status::No => f.write_str("what was to be checked isn't valid"),
+            Status::Usage => f.write_str("the words aren't accepted"),
+            Status::BadText { line, kind } => write!(f, "line {line} has a fault: {kind}"),
+            Status::Shape { height, width } => {
+                write!(
+                    f,
+                    "a matrix of {height} x {width} isn't of the shape that is wanted"
+                )
+            }
+            Status::ReadFault => f.write_str("the source failed"),
+            Status::WriteFault => f.write_str("the output failed"),
+            Status::Memory => f.write_str("memory was wanted"),
+            Status::Wide { height, width } => {
+                write!(
+                    f,
+                    "a matrix of {height} x {width} is too large for the command"
+                )
+            }
+        }
+    }
 }
 
 impl From<TextError> for Status {
+    ghost use Rattle.spasm_run.specs.Status.{status_of};
+
     ghost from_gives = { λ error status. status ≡ status_of error };
 
     // How a run ends whose text wasn't read.
@@ -83,25 +158,5 @@ impl From<AllocError> for Status {
 
     fn from(_error: AllocError) -> Status {
         Status::Memory
-    }
-}
-
-// The number by which the fault line tells a kind.
-pub fn kind_number(kind: Kind) -> u64
-    ensures { result ≡ kind_number kind }
-{
-    match kind {
-        Kind::Words => 1,
-        Kind::Number => 2,
-        Kind::Size => 3,
-        Kind::Row => 4,
-        Kind::Column => 5,
-        Kind::NoHeader => 6,
-        Kind::NoEnd => 7,
-        Kind::Long => 8,
-        Kind::Certificate => 9,
-        Kind::Divisor => 10,
-        Kind::Trace => 11,
-        Kind::Script => 12,
     }
 }

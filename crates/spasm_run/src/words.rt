@@ -5,7 +5,7 @@ ghost use Rattle.std.specs.Str.{bytes_eq};
 ghost use Rattle.clap.specs.Words.{first_value, found_of, subcommand_rows_of};
 ghost use Rattle.sms_text.specs.Numbers.{is_number, value};
 ghost use Rattle.spasm_run.specs.Words.{IsInRange};
-ghost use Rattle.spasm_run.specs.Options.{AcceptedIsPlain, IsCommandOf, IsNumberOf, IsOneCommand, AreTaken, Says, bytes_of};
+ghost use Rattle.spasm_run.specs.Options.{AcceptedIsPlain, IsCommandOf, IsNumberOf, IsOneCommand, AreTaken, AsksFor, bytes_of};
 
 pub mod line;
 #[cfg(test)]
@@ -13,13 +13,12 @@ mod tests;
 
 use clap::ArgMatches;
 use clap::error::ErrorKind;
+use residue_words::MODULUS_BOUND;
 use sms_text::capped;
 use std::alloc::{AllocError, Global};
 
-// The largest modulus, and above it a number that is as good as any larger one.
-const LARGEST: u64 = 281_474_976_710_655;
-
-const CAP: u64 = 281_474_976_710_656;
+// The largest number of an option, a modulus. The bound above it is as good as any larger number.
+const LARGEST: u64 = MODULUS_BOUND - 1;
 
 /// What is asked for.
 #[derive(Clone, Copy, Debug, PartialEq, Eq)]
@@ -36,6 +35,8 @@ pub enum Task {
     LeftKernel,
     /// The inverse of a matrix, or that there is none.
     Inverse,
+    /// The structural pivots of a matrix.
+    Pivots,
 }
 
 /// What is asked for, modulo what, and how it is to be worked out.
@@ -101,7 +102,9 @@ fn matches_of<'a>(alloc: Global, words: &'a [&'a str]) -> Result<Option<ArgMatch
 
 // The command that the matches give, where each number is in its range.
 fn command_of(matches: &ArgMatches<'_>) -> Option<Command>
-    ensures { MatchOption result ((c : Command) → ¬ Says (subcommand_rows_of matches.now) c) (Says (subcommand_rows_of matches.now)) }
+    ensures { MatchOption result
+        ((c : Command) → ¬ AsksFor (subcommand_rows_of matches.now) c)
+        (AsksFor (subcommand_rows_of matches.now)) }
 {
     let (name, options) = matches.subcommand()?;
     let task = line::task_of(name)?;
@@ -132,7 +135,7 @@ fn number_in(word: &[u8], low: u64, high: u64) -> Option<u64>
     requires { high ≤ LARGEST }
     ensures { MatchOption result ((n : ℕ) → ¬ IsInRange low high word.now n) (IsInRange low high word.now) }
 {
-    let number = capped(word, CAP)?;
+    let number = capped(word, MODULUS_BOUND)?;
     if number < low || high < number {
         return None;
     }

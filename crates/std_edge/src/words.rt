@@ -4,6 +4,7 @@ ghost use Rattle.std_edge.specs.Edge.{status_without};
 
 use std::alloc::Global;
 use std::env::{self, Env};
+use std::error::Error;
 use std::fmt::{self, Display, Formatter};
 use std::io::ErrorKind;
 
@@ -27,6 +28,8 @@ impl NoWords {
         }
     }
 }
+
+impl Error for NoWords {}
 
 impl Display for NoWords {
     fn fmt<W: fmt::Write>(&self, f: &mut Formatter<W>) -> fmt::Result {

@@ -9,7 +9,7 @@ use Rattle.residue_words.proofs.Lists.{not_in_nil, in_head, in_tail, in_cases, c
 use Rattle.pivot_table.specs.History.{Grown}
 use Rattle.pivot_table.proofs.Orders.{IsChain}
 use Rattle.triangular_solve.specs.Listing.{entry_flag, column_count}
-use Rattle.triangular_solve.specs.Triangle.{IsReady}
+use Rattle.pivot_table.specs.Order.{IsReady}
 
 pub flag_zero : (A : Matrix) (r d : ℕ) → entry A r d ≡ 0 → entry_flag A r d ≡ 0
 flag_zero A r d e = cond-true (eqb (entry A r d) 0) 0 1 (eq-eqb (entry A r d) 0 e)

@@ -1,6 +1,6 @@
-pub mod Columns
-pub mod Kept
+pub mod Accumulator
 pub mod Leads
+pub mod Led
 pub mod Listing
 pub mod PivotalColumns
 pub mod Queue

@@ -7,7 +7,7 @@ use Rattle.residue_words.specs.declared.plain.Pair.{Pair}
 use Rattle.row_space.specs.Factors.{col_at}
 use Rattle.sparse_rows.specs.Rows.{AreRising}
 use Rattle.pivot_table.specs.History.{Nonzero}
-use Rattle.triangular_solve.specs.Triangle.{IsReady}
+use Rattle.pivot_table.specs.Order.{IsReady}
 
 -- 1 where the row has a nonzero entry in the column, else 0; and how many of the pairs' rows have one
 abbrev pub entry_flag : Matrix → ℕ → ℕ → ℕ
@@ -22,7 +22,7 @@ abbrev pub SomeIsReady : Matrix → List Pair → Type 0
 SomeIsReady A left = (q : Pair) × Contains left q × IsReady A left q
 
 -- pairs at nonzero entries, by ascending columns, among any of which some pair is ready
-pub record ArePivots (A : Matrix) (pairs : List Pair) : Type 0 where
+pub record AreSortedPivots (A : Matrix) (pairs : List Pair) : Type 0 where
   pub nonzero : (p : Pair) → Contains pairs p → Nonzero A p.row p.col
   pub rising : AreRising (map (λ p. p.col) pairs)
   pub ready : (left : List Pair) (w : Pair) → ((p : Pair) → Contains left p → Contains pairs p) → Contains left w →

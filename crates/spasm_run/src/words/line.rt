@@ -10,13 +10,14 @@ use clap::{Arg, ArgAction};
 use std::alloc::{AllocError, Global};
 
 // Each command's name, with what it asks for.
-static TASKS: [(&str, Task); 6] = [
+static TASKS: [(&str, Task); 7] = [
     ("rank", Task::Rank),
     ("rref", Task::Rref),
     ("kernel", Task::Kernel),
     ("solve", Task::Solve),
     ("leftkernel", Task::LeftKernel),
     ("inverse", Task::Inverse),
+    ("pivots", Task::Pivots),
 ];
 
 // The options' names. Each command has each option.
@@ -42,7 +43,8 @@ pub fn command<'a>(alloc: Global) -> Result<clap::Command<'a>, AllocError>
 
 // The command of this name, with its options.
 fn with_options<'a>(alloc: Global, name: &'a str) -> Result<clap::Command<'a>, AllocError>
-    ensures { IfOk result (λ c. (app_of c ≡ command_named name.entry.now) × ((fields_of c).has_globals ≡ false)) }
+    ensures { IfOk result (λ c.
+        (app_of c ≡ command_named name.entry.now) × ((fields_of c).has_globals ≡ false)) }
 {
     let mut named = clap::Command::new(alloc, name);
     for option in &OPTIONS {

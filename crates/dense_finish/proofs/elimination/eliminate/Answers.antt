@@ -1,6 +1,7 @@
 use Rattle.std.proofs.Common.{◌≡◌, arith, length, subst}
 use Rattle.residue_words.specs.Matrix.{IsVector}
-use Rattle.dense_finish.specs.Elimination.{IsFound, block_row}
+use Rattle.dense_finish.specs.Block.{block_row}
+use Rattle.dense_finish.specs.Pivots.{AreFound}
 use Rattle.dense_finish.proofs.Growing.{found_own}
 use Rattle.dense_finish.proofs.Progress.{eliminated_begins, eliminated_behind, split_begins, split_behind}
 use Rattle.dense_finish.proofs.elimination.eliminate.Goals as goal
@@ -8,9 +9,9 @@ use Rattle.dense_finish.proofs.elimination.eliminate.Goals as goal
 pub loop-start-init : goal.loop-start-init
 loop-start-init g c = record {
   inside = omega arith;
-  found = c.in_ok-found.ensures.found;
-  eliminated = eliminated_begins c.args.block.now c.in_ok-found.found c.in_ok-found.ensures.none c.requires.residues;
-  split = λ prime. split_begins c.args.names.now c.args.block.now c.in_ok-found.found c.in_ok-found.ensures.none;
+  found = c.in_ok-pivots.ensures.found;
+  eliminated = eliminated_begins c.args.block.now c.in_ok-pivots.pivots c.in_ok-pivots.ensures.none c.requires.residues;
+  split = λ prime. split_begins c.args.columns.now c.args.block.now c.in_ok-pivots.pivots c.in_ok-pivots.ensures.none;
 }
 
 pub find_pivots-requires-clause-inside : goal.find_pivots-requires-clause-inside
@@ -25,17 +26,17 @@ find_pivots-requires-clause-eliminated g c κs within = c.loop-start.invariant.e
 pub loop-start-preserved : goal.loop-start-preserved
 loop-start-preserved g c =
     let p = c.args.p.now in
-    let names = c.args.names.now in
+    let names = c.args.columns.now in
     let end = c.min-end.result in
     let panel = c.in_ok-panel.panel in
-    let found : IsFound p names c.args.width end c.find_pivots.new.found =
-    subst (λ n. IsFound p names n end c.find_pivots.new.found) c.loop-start.invariant.found.wide c.in_ok-panel.ensures.found in
+    let found : AreFound p names c.args.width end c.find_pivots.new.pivots =
+    subst (λ n. AreFound p names n end c.find_pivots.new.pivots) c.loop-start.invariant.found.wide c.in_ok-panel.ensures.found in
     record {
       inside = omega arith;
       found = found;
-      eliminated = eliminated_behind found c.update.ensures.long c.update.ensures.before
-          (λ t a l. subst (λ n. IsVector p n (block_row c.update.new.rows t)) c.in_ok-panel.ensures.panel.wide (c.update.ensures.behind t a l).vector) c.in_ok-panel.ensures.eliminated;
-      split = λ prime. split_behind c.in_ok-panel.ensures.panel found.steps c.update.ensures.long c.update.ensures.before c.update.ensures.behind
+      eliminated = eliminated_behind found c.reduce_behind.ensures.long c.reduce_behind.ensures.before
+          (λ t a l. subst (λ n. IsVector p n (block_row c.reduce_behind.new.rows t)) c.in_ok-panel.ensures.panel.wide (c.reduce_behind.ensures.behind t a l).vector) c.in_ok-panel.ensures.eliminated;
+      split = λ prime. split_behind c.in_ok-panel.ensures.panel found.steps c.reduce_behind.ensures.long c.reduce_behind.ensures.before c.reduce_behind.ensures.behind
           (c.in_ok-panel.ensures.split prime c.args.block.now (c.loop-start.invariant.split prime));
     }
 

@@ -9,7 +9,7 @@ pub loop-t-init : goal.loop-t-init
 loop-t-init c =
     let empty : ℕ → Matrix = λ n. record { height = 0; width = n; rows = [] } in
     record {
-      modulus = c.in_ok-rows.ensures.modulus;
+      modulus = c.in_ok-rows.ensures.modulus ∙ c.modulus.ensures;
       settled = settled_none c.args.kept.now c.args.order.now c.in_ok-rows.rows.matrix (c.in_ok-rows.ensures.matrix ∙ ap empty c.width.ensures);
     }
 
@@ -19,11 +19,11 @@ append-requires-clause-height_small c = omega (arith, c.loop-t.invariant.settled
 pub append-requires-clause-modulus : goal.append-requires-clause-modulus
 append-requires-clause-modulus c =
     (shared_row c.args.kept.now c.args.order.now c.args.shares.now c.requires.some c.requires.shares c.loop-t.t c.loop-t-test.true c.index-shares-t.result c.in-Ok.share c.index.result.now c.index-shares-t.is c.in-Ok.is c.index.ensures (0, 0)).modulus
-    ∙ sym (c.loop-t.invariant.modulus ∙ c.requires.modulus)
+    ∙ sym c.loop-t.invariant.modulus
 
 pub append-requires-clause-width : goal.append-requires-clause-width
 append-requires-clause-width c =
-    (shared_row c.args.kept.now c.args.order.now c.args.shares.now c.requires.some c.requires.shares c.loop-t.t c.loop-t-test.true c.index-shares-t.result c.in-Ok.share c.index.result.now c.index-shares-t.is c.in-Ok.is c.index.ensures (0, 0)).vector.len
+    (shared_row c.args.kept.now c.args.order.now c.args.shares.now c.requires.some c.requires.shares c.loop-t.t c.loop-t-test.true c.index-shares-t.result c.in-Ok.share c.index.result.now c.index-shares-t.is c.in-Ok.is c.index.ensures (0, 0)).settled.vector.len
     ∙ sym c.loop-t.invariant.settled.width
 
 pub loop-t-preserved : goal.loop-t-preserved

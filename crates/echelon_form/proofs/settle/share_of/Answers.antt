@@ -9,11 +9,10 @@ loop-at-preserved c = record {
   gathered = subst (IsGathered c.args.kept.now c.args.order.now c.args.worker c.args.workers (c.loop-at.at + c.args.workers)) (sym c.in_ok-push.ensures.items)
       (gathered_more c.loop-at.invariant.gathered c.in_ok-settle_with.field-0 (λ d. record {
         modulus = c.in_ok-settle_with.ensures.modulus;
-        vector = c.in_ok-settle_with.ensures.residues;
-        settled = subst (λ (x : ℕ × ℕ). IsSettled c.args.kept.now.modulus c.args.kept.now.matrix c.args.kept.now.leads x.1 c.in_ok-settle_with.field-0.row)
+        settled = subst (λ (x : ℕ × ℕ). IsSettled c.args.kept.now x.1 c.in_ok-settle_with.field-0.row)
             (get_or_default c.args.order.now c.loop-at.at (0, 0) d c.loop-at-test.true) c.in_ok-settle_with.ensures.settled;
       }));
-  scratch = c.settle_with.ensures.scratch ∙ c.loop-at.invariant.scratch;
+  clear = c.settle_with.ensures.clear ∙ c.loop-at.invariant.clear;
 }
 
 pub returns : goal.returns

@@ -1,86 +1,135 @@
-use Rattle.std.proofs.Common.{rules, ℕ, ◌≡◌, ◌+◌, ◌<◌, ◌≤◌, ◌∙◌, List, ap, arith, length, slice_index, subst, sym}
-use Rattle.std.proofs.lemmas.List.Elements.{All-from_get_or}
-use Rattle.residue_words.specs.Matrix.{Matrix}
-use Rattle.row_space.specs.Kernel.{IsKernel}
-use Rattle.kernel_solve.specs.Columns.{basis_of}
-use Rattle.kernel_solve.proofs.Basis.{basis_kernel, basis_made, basis_matrix, columns_of}
-use Rattle.kernel_solve.proofs.Splitting.{order_below}
+use Rattle.std.proofs.Common.{ℕ, ◌≡◌, ◌<◌, ◌∙◌, ◌↔◌, Bool, List, ap, arith, length, slice_index, subst, sym, true, false}
+use Rattle.std.specs.Prelude.{IsTrue}
+use Rattle.sparse_rows.specs.Rows.{nonzeros, support}
+use Rattle.sparse_rows.proofs.Loops.{length_zeros, zero_at}
+use Rattle.kernel_solve.specs.Column.{column_at}
+use Rattle.kernel_solve.specs.ReadOff.{IsBasisRow}
+use Rattle.kernel_solve.proofs.Basis.{AreBasisRows, basis_columns, basis_free, basis_kernel, basis_lead, basis_none, column_free, column_sparse, column_spread, leads_before, row_given, turned_row}
+use Rattle.kernel_solve.proofs.Free.{rising_bound}
 use Rattle.kernel_solve.proofs.bases.kernel.Goals as goal
+use Rattle.kernel_solve.proofs.bases.kernel.Goals.{then-stands_at, else-stands_at+in_ok-write_basis_row+in_ok-append}
 
-pub select-requires-clause-inside : goal.select-requires-clause-inside
-select-requires-clause-inside c = All-from_get_or (λ j. j < c.in_ok-by_column.by_column.matrix.height) c.deref.result.now 0 (λ k l.
-    omega (arith, c.in_ok-columns.ensures.free_below k (omega (arith, ap length c.deref.ensures.value)), ap (λ xs. slice_index xs k) c.deref.ensures.value, c.width.ensures.value, ap (λ m. m.height) c.in_ok-by_column.ensures.matrix))
-
-pub arranged-requires-clause-inside : goal.arranged-requires-clause-inside
-arranged-requires-clause-inside c = All-from_get_or (λ j. j < c.in_ok-at_leads.at_leads.matrix.width + c.in_ok-at_free.at_free.matrix.width) c.deref-2.result.now 0 (λ k l.
+pub overflow_sub-height : goal.overflow_sub-height
+overflow_sub-height c =
+    let sound = c.leads-leads.ensures.sound in
     omega (
       arith,
-      order_below c.in_ok-columns.ensures k (omega (arith, ap length c.deref-2.ensures.value, c.in_ok-columns.ensures.order_long)),
-      ap (λ xs. slice_index xs k) c.deref-2.ensures.value,
-      c.in_ok-columns.ensures.free_long,
-      ap length c.leads.ensures.value,
-      c.leads.ensures.sound.rank,
-      ap (λ m. m.height) c.rows-rows.ensures.matrix,
-      ap (λ m. m.width) c.in_ok-at_leads.ensures.matrix,
-      ap (λ m. m.width) c.in_ok-free.ensures.matrix,
-      ap (λ m. m.width) c.in_ok-by_column.ensures.matrix,
-      ap (λ m. m.width) c.in_ok-at_free.ensures.matrix,
-      c.len.ensures,
-    ))
+      rising_bound c.args.form.now.leads c.args.form.now.matrix.width (λ k l. sound.leads.1.inside k (omega (arith, sound.rank))) (λ k t a b. sound.leads.1.rising k t a (omega (arith, sound.rank))),
+      sound.rank,
+      c.rank.ensures.value,
+      c.width-width.ensures.value,
+      ap (λ m. m.width) c.rows-rows.ensures.matrix,
+    )
 
-pub returns-clause-sound : goal.returns-clause-sound
-returns-clause-sound c =
-    let E : Matrix = c.args.form.now.matrix in
-    let p : ℕ = c.args.form.now.modulus in
-    let columns = columns_of c.width.result E.width c.args.form.now.leads c.leads.result.now c.in_ok-columns.columns.free.items c.in_ok-columns.columns.order.items
-    (c.width.ensures.value ∙ ap (λ m. m.width) c.rows-rows.ensures.matrix) c.leads.ensures.value c.in_ok-columns.ensures in
-    let same : c.in_ok-basis.basis.modulus ≡ p =
-    c.in_ok-basis.ensures.modulus ∙ c.in_ok-by_place.ensures.modulus ∙ c.in_ok-at_leads.ensures.modulus ∙ c.in_ok-free.ensures.modulus ∙ c.in_ok-by_column.ensures.modulus ∙ c.rows-rows.ensures.modulus in
-    let two : 2 ≤ p = omega (arith, c.modulus-modulus.ensures.two_or_more, c.modulus-modulus.ensures.value, c.rows-rows.ensures.modulus) in
-    let len : c.len.result ≡ length c.in_ok-columns.columns.free.items = first_of (omega (arith, c.len.ensures), search rules) in
-    let made : c.in_ok-basis.basis.matrix ≡ basis_of p E c.in_ok-columns.columns.free.items c.in_ok-columns.columns.order.items =
-    basis_made p c.in_ok-free.free.modulus c.len.result E c.rows-rows.result.now.matrix c.in_ok-by_column.by_column.matrix c.in_ok-free.free.matrix c.in_ok-at_leads.at_leads.matrix c.in_ok-at_free.at_free.matrix
-    c.in_ok-by_place.by_place.matrix c.in_ok-basis.basis.matrix c.in_ok-columns.columns.free.items c.deref.result.now c.in_ok-columns.columns.order.items c.deref-2.result.now
-    c.rows-rows.ensures.matrix c.in_ok-by_column.ensures.matrix c.in_ok-free.ensures.matrix c.deref.ensures.value c.in_ok-at_leads.ensures.matrix
-    (c.in_ok-free.ensures.modulus ∙ c.in_ok-by_column.ensures.modulus ∙ c.rows-rows.ensures.modulus) c.in_ok-at_free.ensures.matrix len c.in_ok-by_place.ensures.matrix c.deref-2.ensures.value c.in_ok-basis.ensures.matrix in
-    rw (same, made) (basis_matrix p E c.args.form.now.leads c.in_ok-columns.columns.free.items c.in_ok-columns.columns.order.items two c.leads.ensures.sound.matrix c.leads.ensures.sound.rank columns)
+pub loop-f-init : goal.loop-f-init
+loop-f-init c =
+    let modulus : c.modulus-modulus.result ≡ c.args.form.now.modulus = c.modulus-modulus.ensures.value ∙ c.rows-rows.ensures.modulus in
+    basis_none c.args.form.now c.in_ok-basis.basis c.new-row.result c.width-width.result (c.in_ok-basis.ensures.modulus ∙ modulus) c.in_ok-basis.ensures.matrix
+    (c.width-width.ensures.value ∙ ap (λ m. m.width) c.rows-rows.ensures.matrix) (c.new-row.ensures.modulus ∙ modulus) c.new-row.ensures.row
 
-pub returns-clause-width : goal.returns-clause-width
-returns-clause-width c =
-    let E : Matrix = c.args.form.now.matrix in
-    let p : ℕ = c.args.form.now.modulus in
-    let len : c.len.result ≡ length c.in_ok-columns.columns.free.items = first_of (omega (arith, c.len.ensures), search rules) in
-    let made : c.in_ok-basis.basis.matrix ≡ basis_of p E c.in_ok-columns.columns.free.items c.in_ok-columns.columns.order.items =
-    basis_made p c.in_ok-free.free.modulus c.len.result E c.rows-rows.result.now.matrix c.in_ok-by_column.by_column.matrix c.in_ok-free.free.matrix c.in_ok-at_leads.at_leads.matrix c.in_ok-at_free.at_free.matrix
-    c.in_ok-by_place.by_place.matrix c.in_ok-basis.basis.matrix c.in_ok-columns.columns.free.items c.deref.result.now c.in_ok-columns.columns.order.items c.deref-2.result.now
-    c.rows-rows.ensures.matrix c.in_ok-by_column.ensures.matrix c.in_ok-free.ensures.matrix c.deref.ensures.value c.in_ok-at_leads.ensures.matrix
-    (c.in_ok-free.ensures.modulus ∙ c.in_ok-by_column.ensures.modulus ∙ c.rows-rows.ensures.modulus) c.in_ok-at_free.ensures.matrix len c.in_ok-by_place.ensures.matrix c.deref-2.ensures.value c.in_ok-basis.ensures.matrix in
-    ap (λ m. m.width) made ∙ c.in_ok-columns.ensures.order_long ∙ c.width.ensures.value ∙ ap (λ m. m.width) c.rows-rows.ensures.matrix
+-- a column that is not the next lead is free
+not_next : (leads told : List ℕ) (next f : ℕ) (b : Bool) → told ≡ leads → (IsTrue b ↔ ((next < length told) × (slice_index told next ≡ f))) → b ≡ false →
+    (next < length leads) × (slice_index leads next ≡ f) → ⊥
+not_next leads told next f b same test never h =
+    let yes : b ≡ true = test.1 (omega (arith, h.0, ap length same), ap (λ xs. slice_index xs next) same ∙ h.1) in
+    cc
+
+pub write_basis_row-requires-clause-column : goal.write_basis_row-requires-clause-column
+write_basis_row-requires-clause-column c =
+    let form = c.args.form.now in
+    let sound = c.leads-leads.ensures.sound in
+    let inside : c.loop-f.f < form.matrix.width = omega (arith, c.loop-f-test.true, c.width-width.ensures.value, ap (λ m. m.width) c.rows-rows.ensures.matrix) in
+    let column = turned_row form.matrix c.rows-rows.result.now.matrix c.in_ok-columns.columns.matrix c.loop-f.f c.rows-rows.ensures.matrix c.in_ok-columns.ensures.matrix inside in
+    let free = column_free form sound c.loop-f.f c.loop-f.next c.loop-f.basis c.loop-f.row c.loop-f.invariant
+    (not_next form.leads c.leads-leads.result.now c.loop-f.next c.loop-f.f c.stands_at.result c.leads-leads.ensures.value c.stands_at.ensures c.if-stands_at.false) in
+    rw (c.clear.ensures.modulus, c.loop-f.invariant.row_modulus, c.leads-leads.ensures.value, c.cols.ensures.support, c.vals.ensures.values, column)
+    (column_sparse form.modulus form.matrix form.leads c.loop-f.f sound.matrix sound.leads inside free)
+
+pub write_basis_row-requires-clause-leads : goal.write_basis_row-requires-clause-leads
+write_basis_row-requires-clause-leads c = λ k l.
+    let sound = c.leads-leads.ensures.sound in
+    omega (
+      arith,
+      sound.leads.1.inside k (omega (arith, sound.rank, ap length c.leads-leads.ensures.value)),
+      ap (λ xs. slice_index xs k) c.leads-leads.ensures.value,
+      ap length c.clear.ensures.row,
+      length_zeros (length c.loop-f.row.row),
+      c.loop-f.invariant.row_length,
+    )
+
+pub write_basis_row-requires-clause-before : goal.write_basis_row-requires-clause-before
+write_basis_row-requires-clause-before c =
+    let form = c.args.form.now in
+    let sound = c.leads-leads.ensures.sound in
+    let inside : c.loop-f.f < form.matrix.width = omega (arith, c.loop-f-test.true, c.width-width.ensures.value, ap (λ m. m.width) c.rows-rows.ensures.matrix) in
+    let column = turned_row form.matrix c.rows-rows.result.now.matrix c.in_ok-columns.columns.matrix c.loop-f.f c.rows-rows.ensures.matrix c.in_ok-columns.ensures.matrix inside in
+    let free = column_free form sound c.loop-f.f c.loop-f.next c.loop-f.basis c.loop-f.row c.loop-f.invariant
+    (not_next form.leads c.leads-leads.result.now c.loop-f.next c.loop-f.f c.stands_at.result c.leads-leads.ensures.value c.stands_at.ensures c.if-stands_at.false) in
+    rw (c.leads-leads.ensures.value, c.cols.ensures.support, column) (leads_before form.modulus form.matrix form.leads c.loop-f.f sound.matrix sound.leads inside free)
+
+pub write_basis_row-requires-clause-free : goal.write_basis_row-requires-clause-free
+write_basis_row-requires-clause-free c =
+    let form = c.args.form.now in
+    rw c.leads-leads.ensures.value (column_free form c.leads-leads.ensures.sound c.loop-f.f c.loop-f.next c.loop-f.basis c.loop-f.row c.loop-f.invariant
+    (not_next form.leads c.leads-leads.result.now c.loop-f.next c.loop-f.f c.stands_at.result c.leads-leads.ensures.value c.stands_at.ensures c.if-stands_at.false))
+
+pub write_basis_row-requires-clause-inside : goal.write_basis_row-requires-clause-inside
+write_basis_row-requires-clause-inside c = omega (
+  arith,
+  ap length c.clear.ensures.row,
+  length_zeros (length c.loop-f.row.row),
+  c.loop-f.invariant.row_length,
+  c.width-width.ensures.value,
+  ap (λ m. m.width) c.rows-rows.ensures.matrix,
+)
+
+pub write_basis_row-requires-clause-zero : goal.write_basis_row-requires-clause-zero
+write_basis_row-requires-clause-zero c = λ j l. zero_at c.clear.new.self.row _ c.clear.ensures.row j l
+
+pub append-requires-clause-width : goal.append-requires-clause-width
+append-requires-clause-width c =
+    c.write_basis_row.ensures.length ∙ ap length c.clear.ensures.row ∙ length_zeros _ ∙ c.loop-f.invariant.row_length ∙ sym c.loop-f.invariant.rows.width
+
+pub loop-f-preserved : goal.loop-f-preserved
+loop-f-preserved c =
+    let form = c.args.form.now in
+    let sound = c.leads-leads.ensures.sound in
+    let s = c.loop-f.invariant in
+    elim c.if-stands_at.branch [
+      | then-stands_at w ↦
+          let here = c.stands_at.ensures.0 w.if-stands_at.true in
+          rw (w.next-is, w.basis-is, w.row-is)
+          (basis_lead form sound c.loop-f.f c.loop-f.next c.loop-f.basis c.loop-f.row s (omega (arith, here.0, ap length c.leads-leads.ensures.value))
+          (sym (ap (λ xs. slice_index xs c.loop-f.next) c.leads-leads.ensures.value) ∙ here.1))
+      | else-stands_at+in_ok-write_basis_row+in_ok-append w ↦
+          let none = not_next form.leads c.leads-leads.result.now c.loop-f.next c.loop-f.f c.stands_at.result c.leads-leads.ensures.value c.stands_at.ensures w.if-stands_at.false in
+          let inside : c.loop-f.f < form.matrix.width = omega (arith, c.loop-f-test.true, c.width-width.ensures.value, ap (λ m. m.width) c.rows-rows.ensures.matrix) in
+          let column = turned_row form.matrix c.rows-rows.result.now.matrix c.in_ok-columns.columns.matrix c.loop-f.f c.rows-rows.ensures.matrix c.in_ok-columns.ensures.matrix inside in
+          let free = column_free form sound c.loop-f.f c.loop-f.next c.loop-f.basis c.loop-f.row s none in
+          let modulus : w.write_basis_row.new.to.modulus ≡ form.modulus = w.write_basis_row.ensures.modulus ∙ w.clear.ensures.modulus ∙ s.row_modulus in
+          let made : IsBasisRow form.modulus form.leads (column_at form.matrix c.loop-f.f) c.loop-f.f w.write_basis_row.new.to.row =
+          row_given form.modulus w.write_basis_row.new.to.modulus form.leads c.leads-leads.result.now (column_at form.matrix c.loop-f.f) c.loop-f.f w.cols.result.now w.vals.result.now w.write_basis_row.new.to.row
+          modulus c.leads-leads.ensures.value (w.cols.ensures.support ∙ ap support column) (w.vals.ensures.values ∙ ap nonzeros column)
+          (column_spread form.modulus form.matrix form.leads c.loop-f.f sound.matrix sound.leads inside free) w.in_ok-write_basis_row.ensures.row in
+          rw (w.next-is, w.basis-is, w.row-is)
+          (basis_free form sound c.loop-f.f c.loop-f.next c.loop-f.basis c.loop-f.row s (omega (arith, c.modulus-modulus.ensures.two_or_more, c.modulus-modulus.ensures.value, c.rows-rows.ensures.modulus)) none
+          w.append.new.self w.write_basis_row.new.to (w.append.ensures.modulus ∙ s.modulus) w.in_ok-append.ensures.matrix modulus
+          (w.write_basis_row.ensures.length ∙ ap length w.clear.ensures.row ∙ length_zeros _ ∙ s.row_length) made)
+    ]
 
 pub returns-clause-height : goal.returns-clause-height
 returns-clause-height c =
-    let E : Matrix = c.args.form.now.matrix in
-    let p : ℕ = c.args.form.now.modulus in
-    let len : c.len.result ≡ length c.in_ok-columns.columns.free.items = first_of (omega (arith, c.len.ensures), search rules) in
-    let made : c.in_ok-basis.basis.matrix ≡ basis_of p E c.in_ok-columns.columns.free.items c.in_ok-columns.columns.order.items =
-    basis_made p c.in_ok-free.free.modulus c.len.result E c.rows-rows.result.now.matrix c.in_ok-by_column.by_column.matrix c.in_ok-free.free.matrix c.in_ok-at_leads.at_leads.matrix c.in_ok-at_free.at_free.matrix
-    c.in_ok-by_place.by_place.matrix c.in_ok-basis.basis.matrix c.in_ok-columns.columns.free.items c.deref.result.now c.in_ok-columns.columns.order.items c.deref-2.result.now
-    c.rows-rows.ensures.matrix c.in_ok-by_column.ensures.matrix c.in_ok-free.ensures.matrix c.deref.ensures.value c.in_ok-at_leads.ensures.matrix
-    (c.in_ok-free.ensures.modulus ∙ c.in_ok-by_column.ensures.modulus ∙ c.rows-rows.ensures.modulus) c.in_ok-at_free.ensures.matrix len c.in_ok-by_place.ensures.matrix c.deref-2.ensures.value c.in_ok-basis.ensures.matrix in
-    omega (arith, ap (λ m. m.height) made, c.in_ok-columns.ensures.free_long, ap length c.leads.ensures.value, c.leads.ensures.sound.rank, c.width.ensures.value, ap (λ m. m.width) c.rows-rows.ensures.matrix)
+    let form = c.args.form.now in
+    let sound = c.leads-leads.ensures.sound in
+    let s = c.loop-f.invariant in
+    let end : c.loop-f.f ≡ form.matrix.width = omega (arith, c.loop-f.auto, c.loop-f-test.false, c.width-width.ensures.value, ap (λ m. m.width) c.rows-rows.ensures.matrix) in
+    omega (arith, (basis_columns form sound c.loop-f.f c.loop-f.next c.loop-f.basis c.loop-f.row s end).long, sound.rank, s.rows.height)
 
 pub returns-clause-kernel : goal.returns-clause-kernel
-returns-clause-kernel c = λ q A prime form.
-    let E : Matrix = c.args.form.now.matrix in
-    let p : ℕ = c.args.form.now.modulus in
-    let leads : List ℕ = c.args.form.now.leads in
-    let free : List ℕ = c.in_ok-columns.columns.free.items in
-    let order : List ℕ = c.in_ok-columns.columns.order.items in
-    let columns = columns_of c.width.result E.width leads c.leads.result.now free order (c.width.ensures.value ∙ ap (λ m. m.width) c.rows-rows.ensures.matrix) c.leads.ensures.value c.in_ok-columns.ensures in
-    let len : c.len.result ≡ length c.in_ok-columns.columns.free.items = first_of (omega (arith, c.len.ensures), search rules) in
-    let made : c.in_ok-basis.basis.matrix ≡ basis_of p E c.in_ok-columns.columns.free.items c.in_ok-columns.columns.order.items =
-    basis_made p c.in_ok-free.free.modulus c.len.result E c.rows-rows.result.now.matrix c.in_ok-by_column.by_column.matrix c.in_ok-free.free.matrix c.in_ok-at_leads.at_leads.matrix c.in_ok-at_free.at_free.matrix
-    c.in_ok-by_place.by_place.matrix c.in_ok-basis.basis.matrix c.in_ok-columns.columns.free.items c.deref.result.now c.in_ok-columns.columns.order.items c.deref-2.result.now
-    c.rows-rows.ensures.matrix c.in_ok-by_column.ensures.matrix c.in_ok-free.ensures.matrix c.deref.ensures.value c.in_ok-at_leads.ensures.matrix
-    (c.in_ok-free.ensures.modulus ∙ c.in_ok-by_column.ensures.modulus ∙ c.rows-rows.ensures.modulus) c.in_ok-at_free.ensures.matrix len c.in_ok-by_place.ensures.matrix c.deref-2.ensures.value c.in_ok-basis.ensures.matrix in
-    rw made (subst (λ t. IsKernel q A (basis_of t E free order)) (sym form.modulus) (basis_kernel q A E leads free order prime (form.rref prime) form.leads columns))
+returns-clause-kernel c = λ p A prime given.
+    let form = c.args.form.now in
+    let sound = c.leads-leads.ensures.sound in
+    let s = c.loop-f.invariant in
+    let end : c.loop-f.f ≡ form.matrix.width = omega (arith, c.loop-f.auto, c.loop-f-test.false, c.width-width.ensures.value, ap (λ m. m.width) c.rows-rows.ensures.matrix) in
+    let columns = basis_columns form sound c.loop-f.f c.loop-f.next c.loop-f.basis c.loop-f.row s end in
+    basis_kernel p A form.matrix form.leads s.free c.loop-f.basis.matrix prime (given.rref prime) given.leads columns (subst (λ q. AreBasisRows q form.matrix form.leads s.free c.loop-f.basis.matrix) given.modulus s.rows)

@@ -1,15 +1,16 @@
-use Rattle.std.proofs.Common.{rules, ℕ, ◌≡◌, ◌+◌, ◌-◌, ◌<◌, ◌≤◌, ◌∙◌, List, ap, arith, length, slice_index, true, false}
-use Rattle.std.proofs.lemmas.List.Elements.{All-from_get_or}
-use Rattle.residue_words.specs.Matrix.{Matrix, zeros}
-use Rattle.sparse_rows.proofs.Loops.{length_zeros}
-use Rattle.kernel_solve.specs.Columns.{AreColumns}
-use Rattle.kernel_solve.proofs.Read.{column_made, column_matrix, column_of, column_solves, lead_refutes}
-use Rattle.kernel_solve.proofs.Splitting.{below_last, order_below}
-use Rattle.kernel_solve.proofs.Basis.{columns_of}
+use Rattle.std.proofs.Common.{ℕ, ◌≡◌, ◌+◌, ◌-◌, ◌<◌, ◌∙◌, ◌↔◌, Bool, List, ap, arith, length, slice_index, subst, sym, true, false}
+use Rattle.std.specs.Prelude.{IsTrue}
+use Rattle.residue_words.specs.Matrix.{Matrix, IsMatrix}
+use Rattle.echelon_form.specs.Form.{Form, IsEchelon}
+use Rattle.residue_words.proofs.Vectors.{length_list_of}
+use Rattle.kernel_solve.specs.Column.{column, column_at}
+use Rattle.kernel_solve.specs.ReadOff.{IsAtLeads}
+use Rattle.kernel_solve.proofs.Free.{below_last}
+use Rattle.kernel_solve.proofs.Read.{column_solves, lead_refutes}
 use Rattle.kernel_solve.proofs.systems.solution.Goals as goal
 
 pub returns-then-ends_at-clause-answers : goal.returns-then-ends_at-clause-answers
-returns-then-ends_at-clause-answers c = λ p A b prime m v form x.
+returns-then-ends_at-clause-answers c = λ p A B prime ma mb heights narrow form x.
     let E : Matrix = c.args.form.now.matrix in
     let leads : List ℕ = c.args.form.now.leads in
     let at_end = c.ends_at.ensures.0 c.if-ends_at.true in
@@ -19,98 +20,57 @@ returns-then-ends_at-clause-answers c = λ p A b prime m v form x.
       at_end.1,
       ap (λ ls. slice_index ls (length ls - 1)) c.leads-leads.ensures.value,
       c.width-last.ensures.value,
-      ap (λ m. m.width) c.rows-rows.ensures.matrix,
+      ap (λ m. m.width) c.rows.ensures.matrix,
       form.width,
     ) in
-    lead_refutes p A b E leads prime.two_or_more m v (form.rref prime) form.leads some last x
+    lead_refutes p A B E leads prime.two_or_more ma mb heights narrow (form.rref prime) form.leads some last x
 
-pub split_columns-requires-clause-rising : goal.split_columns-requires-clause-rising
-split_columns-requires-clause-rising c = λ k t a b. omega (
+-- where the last lead is not the last column, all leads are before it
+leads_below : (form : Form) → IsEchelon form → (last : ℕ) → form.matrix.width ≡ last + 1 → (told : List ℕ) → told ≡ form.leads → (b : Bool) →
+    (IsTrue b ↔ ((0 < length told) × (slice_index told (length told - 1) ≡ last))) → b ≡ false → (k : ℕ) → k < length form.leads → slice_index form.leads k < last
+leads_below form sound last width told same b test never =
+    below_last last form.matrix.width form.leads width (λ k l. sound.leads.1.inside k (omega (arith, sound.rank))) (λ s t a b. sound.leads.1.rising s t a (omega (arith, sound.rank)))
+    (λ h. let ends : b ≡ true = test.1 (omega (arith, h.0, ap length same), ap (λ ls. slice_index ls (length ls - 1)) same ∙ h.1) in cc)
+
+pub at_leads-requires-clause-long : goal.at_leads-requires-clause-long
+at_leads-requires-clause-long c =
+    ap length c.in_ok-side.ensures.row ∙ length_list_of c.rows-2.result.now.matrix.height _ ∙ ap (λ m. m.height) c.rows-2.ensures.matrix
+    ∙ sym (ap length c.leads-leads.ensures.value ∙ c.leads-leads.ensures.sound.rank)
+
+pub at_leads-requires-clause-inside : goal.at_leads-requires-clause-inside
+at_leads-requires-clause-inside c = rw c.leads-leads.ensures.value (leads_below c.args.form.now c.leads-leads.ensures.sound (c.width-last.result - 1)
+    (omega (arith, c.width-last.ensures.value, ap (λ m. m.width) c.rows.ensures.matrix, c.requires)) c.leads-leads.result.now c.leads-leads.ensures.value c.ends_at.result c.ends_at.ensures c.if-ends_at.false)
+
+pub at_leads-requires-clause-rising : goal.at_leads-requires-clause-rising
+at_leads-requires-clause-rising c = λ k t a b. omega (
   arith,
   (c.leads-leads.ensures.sound.leads.1.rising) k t a (omega (arith, ap length c.leads-leads.ensures.value)),
   ap (λ ls. slice_index ls k) c.leads-leads.ensures.value,
   ap (λ ls. slice_index ls t) c.leads-leads.ensures.value,
 )
 
-pub one_row-requires : goal.one_row-requires
-one_row-requires c = omega (arith, ap length c.new.ensures.row, length_zeros c.len.result, c.len.ensures, c.in_ok-columns.ensures.free_long, c.width-last.ensures.bound)
-
-pub arranged-requires-clause-widths : goal.arranged-requires-clause-widths
-arranged-requires-clause-widths c = omega (
-  arith,
-  ap (λ m. m.width) c.in_ok-at_leads.ensures.matrix,
-  ap (λ m. m.width) c.in_ok-by_column.ensures.matrix,
-  ap (λ m. m.height) c.rows-rows.ensures.matrix,
-  c.leads-leads.ensures.sound.rank,
-  ap length c.leads-leads.ensures.value,
-  ap (λ m. m.width) c.in_ok-at_free.ensures.matrix,
-  ap length c.new.ensures.row,
-  length_zeros c.len.result,
-  c.len.ensures,
-  c.in_ok-columns.ensures.free_long,
-  c.width-last.ensures.bound,
-)
-
-pub arranged-requires-clause-inside : goal.arranged-requires-clause-inside
-arranged-requires-clause-inside c = All-from_get_or (λ j. j < c.in_ok-at_leads.at_leads.matrix.width + c.in_ok-at_free.at_free.matrix.width) c.deref.result.now 0 (λ k l.
-    omega (
-      arith,
-      order_below c.in_ok-columns.ensures k (omega (arith, ap length c.deref.ensures.value, c.in_ok-columns.ensures.order_long)),
-      ap (λ xs. slice_index xs k) c.deref.ensures.value,
-      ap (λ m. m.width) c.in_ok-at_leads.ensures.matrix,
-      ap (λ m. m.width) c.in_ok-by_column.ensures.matrix,
-      ap (λ m. m.height) c.rows-rows.ensures.matrix,
-      c.leads-leads.ensures.sound.rank,
-      ap length c.leads-leads.ensures.value,
-      ap (λ m. m.width) c.in_ok-at_free.ensures.matrix,
-      ap length c.new.ensures.row,
-      length_zeros c.len.result,
-      c.len.ensures,
-      c.in_ok-columns.ensures.free_long,
-    ))
-
 pub returns-clause-shape : goal.returns-clause-shape
 returns-clause-shape c =
-    let E : Matrix = c.args.form.now.matrix in
-    let p : ℕ = c.args.form.now.modulus in
-    let last : ℕ = c.width-last.result - 1 in
-    let z : List ℕ = c.new.result.row in
-    let free : List ℕ = c.in_ok-columns.columns.free.items in
-    let order : List ℕ = c.in_ok-columns.columns.order.items in
-    let leads : List ℕ = c.args.form.now.leads in
-    let columns : AreColumns last leads free order = columns_of last last leads c.leads-leads.result.now free order (omega arith) c.leads-leads.ensures.value c.in_ok-columns.ensures in
-    let width : c.width-last.result ≡ E.width = c.width-last.ensures.value ∙ ap (λ m. m.width) c.rows-rows.ensures.matrix in
-    let two : 2 ≤ p = omega (arith, c.modulus-modulus.ensures.two_or_more, c.modulus-modulus.ensures.value, c.rows-rows.ensures.modulus) in
-    let len : c.len.result ≡ length free = first_of (omega (arith, c.len.ensures), search rules) in
-    let side : z ≡ zeros (length free) = c.new.ensures.row ∙ ap zeros len in
-    let made : c.in_ok-x.x.matrix ≡ column_of E last z order =
-    column_made E c.rows-rows.result.now.matrix c.in_ok-by_column.by_column.matrix c.in_ok-at_leads.at_leads.matrix c.in_ok-at_free.at_free.matrix c.in_ok-x.x.matrix last z order c.deref.result.now
-    c.rows-rows.ensures.matrix c.in_ok-by_column.ensures.matrix c.in_ok-at_leads.ensures.matrix c.in_ok-at_free.ensures.matrix c.in_ok-x.ensures.matrix c.deref.ensures.value in (
-      c.in_ok-x.ensures.modulus ∙ c.in_ok-at_leads.ensures.modulus ∙ c.in_ok-by_column.ensures.modulus ∙ c.rows-rows.ensures.modulus,
-      rw made (column_matrix p E last leads free order z two c.leads-leads.ensures.sound.matrix (omega (arith, width, c.requires)) c.leads-leads.ensures.sound.rank columns side),
-      omega (arith, ap (λ m. m.height) made, columns.order_long, width, c.requires),
-      ap (λ m. m.width) made,
+    let modulus : c.in_ok-side.side.modulus ≡ c.args.form.now.modulus = c.in_ok-side.ensures.modulus ∙ c.rows-2.ensures.modulus in (
+      c.in_ok-x.ensures.modulus ∙ modulus,
+      subst (λ q. IsMatrix q c.in_ok-x.x.matrix) (c.in_ok-x.ensures.modulus ∙ modulus) c.in_ok-x.ensures.sound,
+      omega (arith, c.in_ok-x.ensures.height, c.width-last.ensures.value, ap (λ m. m.width) c.rows.ensures.matrix, c.requires),
+      c.in_ok-x.ensures.width,
     )
 
 pub returns-clause-answers : goal.returns-clause-answers
-returns-clause-answers c = λ q A b prime m v form.
+returns-clause-answers c = λ p A B prime ma mb heights narrow form.
     let E : Matrix = c.args.form.now.matrix in
-    let last : ℕ = c.width-last.result - 1 in
-    let z : List ℕ = c.new.result.row in
-    let free : List ℕ = c.in_ok-columns.columns.free.items in
-    let order : List ℕ = c.in_ok-columns.columns.order.items in
     let leads : List ℕ = c.args.form.now.leads in
-    let columns : AreColumns last leads free order = columns_of last last leads c.leads-leads.result.now free order (omega arith) c.leads-leads.ensures.value c.in_ok-columns.ensures in
-    let width : c.width-last.result ≡ E.width = c.width-last.ensures.value ∙ ap (λ m. m.width) c.rows-rows.ensures.matrix in
-    let same : last ≡ A.width = omega (arith, width, form.width) in
-    let len : c.len.result ≡ length free = first_of (omega (arith, c.len.ensures), search rules) in
-    let side : z ≡ zeros (length free) = c.new.ensures.row ∙ ap zeros len in
-    let below : (k : ℕ) → k < length leads → slice_index leads k < last = λ k l.
-    below_last last E.width leads (omega (arith, width, c.requires)) (λ k l. c.leads-leads.ensures.sound.leads.1.inside k (omega (arith, c.leads-leads.ensures.sound.rank))) (λ s t a b. c.leads-leads.ensures.sound.leads.1.rising s t a (omega (arith, c.leads-leads.ensures.sound.rank)))
-    (λ h. let at_end : c.ends_at.result ≡ true = c.ends_at.ensures.1 (omega (arith, h.0, ap length c.leads-leads.ensures.value), ap (λ ls. slice_index ls (length ls - 1)) c.leads-leads.ensures.value ∙ h.1) in let not_at_end : c.ends_at.result ≡ false = c.if-ends_at.false in cc) k l in
-    let made : c.in_ok-x.x.matrix ≡ column_of E last z order =
-    column_made E c.rows-rows.result.now.matrix c.in_ok-by_column.by_column.matrix c.in_ok-at_leads.at_leads.matrix c.in_ok-at_free.at_free.matrix c.in_ok-x.x.matrix last z order c.deref.result.now
-    c.rows-rows.ensures.matrix c.in_ok-by_column.ensures.matrix c.in_ok-at_leads.ensures.matrix c.in_ok-at_free.ensures.matrix c.in_ok-x.ensures.matrix c.deref.ensures.value in (
-      ap (λ m. m.height) made ∙ columns.order_long ∙ same,
-      rw made (column_solves q E last leads free order z prime.two_or_more form.matrix (omega (arith, width, c.requires)) c.leads-leads.ensures.sound.rank columns side A b m v (form.rref prime) form.leads below same),
+    let last : ℕ = c.width-last.result - 1 in
+    let width : c.width-last.result ≡ E.width = c.width-last.ensures.value ∙ ap (λ m. m.width) c.rows.ensures.matrix in
+    let same : last ≡ A.width = omega (arith, width, form.width, narrow) in
+    let modulus : c.in_ok-x.x.modulus ≡ p = c.in_ok-x.ensures.modulus ∙ c.in_ok-side.ensures.modulus ∙ c.rows-2.ensures.modulus ∙ form.modulus in
+    let side : c.in_ok-side.side.row ≡ column_at E last = c.in_ok-side.ensures.row ∙ ap (λ m. column_at m last) c.rows-2.ensures.matrix in
+    let at : IsAtLeads leads (column_at E last) (column c.in_ok-x.x.matrix) =
+    subst (λ u. IsAtLeads leads u (column c.in_ok-x.x.matrix)) side (subst (λ ls. IsAtLeads ls c.in_ok-side.side.row (column c.in_ok-x.x.matrix)) c.leads-leads.ensures.value c.in_ok-x.ensures.entries) in (
+      c.in_ok-x.ensures.height ∙ same,
+      column_solves p A B E leads prime.two_or_more ma mb heights narrow (form.rref prime) form.leads c.in_ok-x.x.matrix last
+          (subst (λ q. IsMatrix q c.in_ok-x.x.matrix) modulus c.in_ok-x.ensures.sound) c.in_ok-x.ensures.height c.in_ok-x.ensures.width same at
+          (leads_below c.args.form.now c.leads-leads.ensures.sound last (omega (arith, width, c.requires)) c.leads-leads.result.now c.leads-leads.ensures.value c.ends_at.result c.ends_at.ensures c.if-ends_at.false),
     )

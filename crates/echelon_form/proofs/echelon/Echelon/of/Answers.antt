@@ -1,21 +1,15 @@
-use Rattle.std.proofs.Common.{ℕ, ◌∙◌, List, ap, length, map, subst}
-use Rattle.echelon_form.specs.Settling.{AreSettled}
-use Rattle.echelon_form.proofs.Settled.{echelon_of_form, form_of_settled}
+use Rattle.std.proofs.Common.{◌≡◌, ◌∙◌, ap, arith}
+use Rattle.std.proofs.lemmas.Result.{IfOk-weaker}
+use Rattle.residue_words.specs.Matrix.{Matrix}
+use Rattle.sparse_rows.specs.Rows.{narrowed}
+use Rattle.echelon_form.specs.Form.{widened_form}
+use Rattle.echelon_form.proofs.Widening.{narrow_form}
 use Rattle.echelon_form.proofs.echelon.Echelon.of.Goals as goal
 
-pub invariant_of-result : goal.invariant_of-result
-invariant_of-result g c =
-    let order : List (ℕ × ℕ) = c.in_ok-order.order.items in
-    let settled : AreSettled c.in_ok-kept.kept order (length order) c.in_ok-merged.field-0.matrix =
-    subst (λ o. AreSettled c.in_ok-kept.kept o (length o) c.in_ok-merged.field-0.matrix) c.deref-2.ensures.value c.in_ok-merged.ensures.settled in
-    echelon_of_form {p = c.args.rows.now.modulus} {A = c.args.rows.now.matrix} _
-    (form_of_settled c.order_of.ensures.sound c.in_ok-order.ensures.order settled (c.in_ok-leads_of.ensures ∙ ap (map (λ (x : ℕ × ℕ). x.0)) c.deref-4.ensures.value)
-    (c.in_ok-merged.ensures.modulus ∙ c.modulus.ensures.value) c.in_ok-kept.ensures.modulus c.in_ok-kept.ensures.width c.in_ok-kept.ensures.span)
-
-pub returns : goal.returns
-returns g c =
-    let order : List (ℕ × ℕ) = c.in_ok-order.order.items in
-    let settled : AreSettled c.in_ok-kept.kept order (length order) c.in_ok-merged.field-0.matrix =
-    subst (λ o. AreSettled c.in_ok-kept.kept o (length o) c.in_ok-merged.field-0.matrix) c.deref-2.ensures.value c.in_ok-merged.ensures.settled in
-    form_of_settled c.order_of.ensures.sound c.in_ok-order.ensures.order settled (c.in_ok-leads_of.ensures ∙ ap (map (λ (x : ℕ × ℕ). x.0)) c.deref-4.ensures.value)
-    (c.in_ok-merged.ensures.modulus ∙ c.modulus.ensures.value) c.in_ok-kept.ensures.modulus c.in_ok-kept.ensures.width c.in_ok-kept.ensures.span
+pub returns-in_ok-settled : goal.returns-in_ok-settled
+returns-in_ok-settled g c =
+    let A : Matrix = c.args.rows.now.matrix in
+    let is : c.in_ok-narrow.narrow.matrix ≡ narrowed A c.in_ok-columns.columns.items = c.in_ok-narrow.ensures.matrix ∙ ap (narrowed A) c.deref.ensures.value in
+    IfOk-weaker c.widened.result _ _ (λ e made.
+    narrow_form (omega (arith, c.modulus.ensures.value, c.modulus.ensures.two_or_more)) c.modulus.ensures.sound c.in_ok-columns.ensures.enough is c.in_ok-narrow.ensures.modulus c.width.ensures.value
+    c.in_ok-settled.ensures (made ∙ ap (widened_form c.in_ok-settled.field-0 c.width.result) c.deref-then-is_wide.ensures.value)) c.widened.ensures

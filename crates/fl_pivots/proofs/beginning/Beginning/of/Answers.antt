@@ -1,5 +1,5 @@
 use Rattle.std.proofs.Common.{◌<◌, length, slice_index, subst, sym, ap, refl, arith}
-use Rattle.fl_pivots.specs.Leftmost.{BeginsAt}
+use Rattle.pivot_table.specs.Leftmost.{BeginsAt}
 use Rattle.fl_pivots.proofs.Listing.{begins, weight_small}
 use Rattle.fl_pivots.proofs.beginning.Beginning.of.Goals as goal
 

@@ -1,29 +1,23 @@
-use Rattle.std.proofs.Common.{◌≡◌, ◌∙◌, [], ◌∷◌, ◌++◌, ap, ap₂, arith, length, subst, sym}
-use Rattle.sparse_rows.specs.Rows.{ResidueMatrix}
-use Rattle.sparse_rows.specs.Stored.{IsSparse, spread, with_row}
-use Rattle.sparse_rows.proofs.Stored.{matrix_push, stored_push}
+use Rattle.std.proofs.Common.{◌∙◌, ◌++◌, [], ◌∷◌, ap, arith}
+use Rattle.sparse_rows.proofs.Expanding.{empty_length, filled_length, listed_few, listed_push, listed_skip, placed_height}
 use Rattle.sparse_rows.proofs.rows.Rows.append_slices.Goals as goal
-use Rattle.sparse_rows.proofs.rows.Rows.append_slices.Goals.{In_ok-push}
 
-columns : (c : In_ok-push) → c.extend_from_slice.new.self.items ≡ c.self.inside.cols.items ++ c.args.cols.now
-columns c = c.in_ok-extend_from_slice.ensures.items
+pub returns-then-is_empty-clause-matrix : goal.returns-then-is_empty-clause-matrix
+returns-then-is_empty-clause-matrix c =
+    listed_skip c.self.inside.every_row _ _ _ _ c.if-self.false c.self.invariant (ap (λ m. m.matrix) c.self.view_is) c.args.cols.now c.args.vals.now (empty_length _ _ c.is_empty.ensures c.if-is_empty.true)
 
-values : (c : In_ok-push) → c.extend_from_slice-2.new.self.items ≡ c.self.inside.vals.items ++ c.args.vals.now
-values c = c.in_ok-extend_from_slice-2.ensures.items ∙ ap (λ xs. xs ++ c.args.vals.now) c.reserve-2.ensures.items
-
-starts : (c : In_ok-push) → c.push.new.self.items ≡ c.self.inside.starts.items ++ length (c.self.inside.cols.items ++ c.args.cols.now) ∷ []
-starts c =
-    let total : c.len.result ≡ length (c.self.inside.cols.items ++ c.args.cols.now) = c.len.ensures ∙ c.extend_from_slice.new.self.ok.0 ∙ ap length (columns c) in
-    c.in_ok-push.ensures.items ∙ ap₂ (λ xs e. xs ++ e ∷ []) c.reserve.ensures.items total
-
-sparse : (c : In_ok-push) → IsSparse c.self.inside.modulus c.self.inside.width c.args.cols.now c.args.vals.now
-sparse c = subst (λ (m : ResidueMatrix). IsSparse m.modulus m.matrix.width c.args.cols.now c.args.vals.now) (sym c.self.view_is) c.requires.sparse
+pub append_slices-requires-2-clause-height_small : goal.append_slices-requires-2-clause-height_small
+append_slices-requires-2-clause-height_small c =
+    omega (arith, listed_few c.self.inside.every_row _ _ _ c.if-self.false c.self.invariant, placed_height c.self.inside.every_row _ _ _ c.self.invariant, c.requires.height_small, ap (λ m. m.matrix.height) c.self.view_is)
 
 pub invariant_of-self-2 : goal.invariant_of-self-2
 invariant_of-self-2 c =
-    rw (starts c, columns c, values c) (stored_push _ _ _ _ _ c.self.invariant _ _ (sparse c) (omega (arith, c.requires.height_small, ap (λ m. m.matrix.height) c.self.view_is, c.self.invariant.parts.long)))
+    (listed_push c.self.inside.every_row c.self.inside.height _ _ _ _ _ c.args.cols.now c.args.vals.now c.if-self.false c.height.ensures.sound c.self.invariant (ap (λ m. m.matrix) c.self.view_is)
+    (omega (arith, placed_height c.self.inside.every_row _ _ _ c.self.invariant, c.requires.height_small, ap (λ m. m.matrix.height) c.self.view_is)) c.requires.sparse (filled_length _ _ c.is_empty.ensures c.if-is_empty.false)
+    (c.in_ok-push.ensures.items ∙ ap (λ xs. xs ++ c.self.inside.height ∷ []) c.reserve.ensures.items) c.in_ok-append_slices-2.ensures.matrix).0
 
 pub returns-clause-matrix : goal.returns-clause-matrix
 returns-clause-matrix c =
-    rw (starts c, columns c, values c) (matrix_push _ _ _ _ _ c.self.invariant _ _ (sparse c)
-    ∙ ap (λ m. with_row m.matrix (spread m.matrix.width c.args.cols.now c.args.vals.now)) c.self.view_is)
+    (listed_push c.self.inside.every_row c.self.inside.height _ _ _ _ _ c.args.cols.now c.args.vals.now c.if-self.false c.height.ensures.sound c.self.invariant (ap (λ m. m.matrix) c.self.view_is)
+    (omega (arith, placed_height c.self.inside.every_row _ _ _ c.self.invariant, c.requires.height_small, ap (λ m. m.matrix.height) c.self.view_is)) c.requires.sparse (filled_length _ _ c.is_empty.ensures c.if-is_empty.false)
+    (c.in_ok-push.ensures.items ∙ ap (λ xs. xs ++ c.self.inside.height ∷ []) c.reserve.ensures.items) c.in_ok-append_slices-2.ensures.matrix).1

@@ -1,68 +1,57 @@
-use Rattle.std.proofs.Common.{ℕ, ◌≡◌, ◌+◌, ◌<◌, ◌∙◌, [], ◌++◌, ap, ap₂, arith, length, slice_index, subst, sym}
-use Rattle.residue_words.specs.Matrix.{IsMatrix, row}
-use Rattle.sparse_rows.specs.Rows.{ResidueMatrix}
+use Rattle.std.proofs.Common.{ℕ, ◌≡◌, ◌+◌, ◌-◌, ◌∙◌, [], ap, ap₂, arith, length, sym}
+use Rattle.residue_words.specs.Matrix.{Matrix}
+use Rattle.sparse_rows.specs.Rows.{with_zeros}
 use Rattle.sparse_rows.specs.Stored.{with_row}
-use Rattle.sparse_rows.proofs.Loops.{beside_more, beside_row, length_zeros, sized, zero_at}
-use Rattle.sparse_rows.proofs.Stored.{stored_sound}
+use Rattle.sparse_rows.proofs.FilledRows.{beside_zeros, first_beside}
+use Rattle.sparse_rows.proofs.Loops.{beside_more, length_zeros, sized}
 use Rattle.sparse_rows.proofs.rows.Rows.beside.Goals as goal
 
 pub loop-i-init : goal.loop-i-init
 loop-i-init c =
-    let left : c.self.inside.width ≡ c.args.self.now.matrix.width = ap (λ m. m.matrix.width) c.self.view_is in
-    let right : c.right.inside.width ≡ c.args.right.now.matrix.width = ap (λ m. m.matrix.width) c.right.view_is in
-    let modulus : c.self.inside.modulus ≡ c.args.self.now.modulus = ap (λ m. m.modulus) c.self.view_is in
-    record {
-      modulus = c.in_ok-rows.ensures.modulus ∙ modulus;
-      matrix = c.in_ok-rows.ensures.matrix ∙ ap₂ (λ a b. sized 0 (a + b) []) left right;
-      row_modulus = c.new-row.ensures.modulus ∙ modulus;
-      row_length = ap length c.new-row.ensures.row ∙ length_zeros _ ∙ ap₂ ◌+◌ left right;
-    }
-
-pub copy_shifted-requires-clause-width : goal.copy_shifted-requires-clause-width
-copy_shifted-requires-clause-width c = omega (arith, ap length c.clear.ensures.row, length_zeros (length c.loop-i.row.row), c.loop-i.invariant.row_length)
-
-pub copy_shifted-requires-clause-behind : goal.copy_shifted-requires-clause-behind
-copy_shifted-requires-clause-behind c = λ k a b. zero_at c.clear.new.self.row _ c.clear.ensures.row k b
-
-pub copy_shifted-requires-in-loop-i-clause-width : goal.copy_shifted-requires-in-loop-i-clause-width
-copy_shifted-requires-in-loop-i-clause-width c =
-    omega (arith, ap length c.clear.ensures.row, length_zeros (length c.loop-i.row.row), c.loop-i.invariant.row_length, c.copy_shifted.ensures.length, ap (λ m. m.matrix.width) c.self.view_is)
-
-pub append-requires-clause-width : goal.append-requires-clause-width
-append-requires-clause-width c =
-    omega (
-      arith,
-      ap length c.clear.ensures.row,
-      length_zeros (length c.loop-i.row.row),
-      c.loop-i.invariant.row_length,
-      c.copy_shifted.ensures.length,
-      c.copy_shifted-in-loop-i.ensures.length,
-      ap (λ m. m.width) c.loop-i.invariant.matrix,
+    let A : Matrix = c.args.self.now.matrix in
+    let B : Matrix = c.args.right.now.matrix in
+    let made : c.in_ok-rows.rows.matrix ≡ first_beside A B 0 = c.in_ok-rows.ensures.matrix ∙ ap₂ (λ a b. sized 0 (a + b) []) c.width.ensures.value c.width-2.ensures.value in (
+      omega (arith, ap (λ m. m.height) made),
+      record {
+        modulus = c.in_ok-rows.ensures.modulus ∙ c.modulus-2.ensures.value;
+        matrix = made ∙ ap (first_beside A B) (sym (ap (λ m. m.height) made));
+        row_modulus = c.new-row.ensures.modulus ∙ c.modulus-3.ensures.value;
+        row_length = ap length c.new-row.ensures.row ∙ length_zeros _ ∙ ap₂ ◌+◌ c.width.ensures.value c.width-2.ensures.value;
+      },
     )
 
 pub loop-i-preserved : goal.loop-i-preserved
 loop-i-preserved c =
-    let A : ResidueMatrix = c.args.self.now in
-    let B : ResidueMatrix = c.args.right.now in
-    let i : ℕ = c.loop-i.i in
-    let low : i < A.matrix.height = omega (arith, c.loop-i-test.true, c.height-i-end.ensures.value) in
-    let left : c.self.inside.width ≡ A.matrix.width = ap (λ m. m.matrix.width) c.self.view_is in
-    let sound : IsMatrix A.modulus A.matrix = subst (λ (m : ResidueMatrix). IsMatrix m.modulus m.matrix) c.self.view_is (stored_sound c.self.invariant) in
-    let sound_right : IsMatrix B.modulus B.matrix = subst (λ (m : ResidueMatrix). IsMatrix m.modulus m.matrix) c.right.view_is (stored_sound c.right.invariant) in
-    let long : length c.copy_shifted-in-loop-i.new.to.row ≡ A.matrix.width + B.matrix.width =
-    c.copy_shifted-in-loop-i.ensures.length ∙ c.copy_shifted.ensures.length ∙ ap length c.clear.ensures.row ∙ length_zeros _ ∙ c.loop-i.invariant.row_length in
-    let new : c.copy_shifted-in-loop-i.new.to.row ≡ row A.matrix i ++ row B.matrix i =
-    beside_row (row A.matrix i) (row B.matrix i) c.copy_shifted.new.to.row c.copy_shifted-in-loop-i.new.to.row A.matrix.width B.matrix.width
-    (sound.each i low).len (sound_right.each i (omega (arith, c.requires.heights))).len long
-    (λ j l. ap (slice_index c.copy_shifted.new.to.row) (let e : j ≡ 0 + j = omega arith in e) ∙ c.in_ok-copy_shifted.ensures.inside j l)
-    (λ j l. c.in_ok-copy_shifted-2.ensures.before j (omega arith))
-    (λ j l. ap (λ w. slice_index c.copy_shifted-in-loop-i.new.to.row (w + j)) (sym left) ∙ c.in_ok-copy_shifted-2.ensures.inside j l) in
-    record {
-      modulus = c.append.ensures.modulus ∙ c.loop-i.invariant.modulus;
-      matrix = c.in_ok-append.ensures.matrix ∙ ap (λ m. with_row m c.copy_shifted-in-loop-i.new.to.row) c.loop-i.invariant.matrix ∙ beside_more A.matrix B.matrix i _ _ new;
-      row_modulus = c.copy_shifted-in-loop-i.ensures.modulus ∙ c.copy_shifted.ensures.modulus ∙ c.clear.ensures.modulus ∙ c.loop-i.invariant.row_modulus;
-      row_length = long;
-    }
+    let A : Matrix = c.args.self.now.matrix in
+    let B : Matrix = c.args.right.now.matrix in
+    let h : ℕ = c.loop-i.rows.matrix.height in
+    let i : ℕ = c.in-Some.i in
+    let n = c.in-Some.ensures in
+    let here : c.height-in-loop-i.result ≡ h = c.height-in-loop-i.ensures.value in
+    let behind : h + (i - h) ≡ i = omega (arith, n.low) in
+    let zeros : c.append_zeros.new.self.matrix ≡ first_beside A B i =
+    c.in_ok-append_zeros.ensures.matrix ∙ ap₂ (λ m d. with_zeros m (i - d)) c.loop-i.invariant.1.matrix c.height-in-Some.ensures.value
+    ∙ beside_zeros c.height.ensures.sound c.modulus.ensures.sound c.requires.heights h (i - h) (omega (arith, n.below)) (λ k a b. n.left k (omega arith) (omega arith)) (λ k a b. n.right k (omega arith) (omega arith))
+    ∙ ap (first_beside A B) behind in
+    let made : c.append.new.self.matrix ≡ first_beside A B (i + 1) =
+    c.in_ok-append.ensures.matrix ∙ ap (λ m. with_row m c.row_beside.new.to.row) zeros ∙ beside_more A B i _ _ c.in_ok-row_beside.ensures.row in (
+      omega (arith, ap (λ m. m.height) made, n.below),
+      record {
+        modulus = c.append.ensures.modulus ∙ c.append_zeros.ensures.modulus ∙ c.loop-i.invariant.1.modulus;
+        matrix = made ∙ ap (first_beside A B) (sym (ap (λ m. m.height) made));
+        row_modulus = c.row_beside.ensures.modulus ∙ c.loop-i.invariant.1.row_modulus;
+        row_length = c.row_beside.ensures.length ∙ c.loop-i.invariant.1.row_length;
+      },
+    )
 
-pub copy_shifted-requires-in-loop-i-clause-sound : goal.copy_shifted-requires-in-loop-i-clause-sound
-copy_shifted-requires-in-loop-i-clause-sound c = subst (λ (m : ResidueMatrix). IsMatrix m.modulus m.matrix) c.right.view_is (stored_sound c.right.invariant)
+pub returns-clause-matrix : goal.returns-clause-matrix
+returns-clause-matrix c =
+    let A : Matrix = c.args.self.now.matrix in
+    let B : Matrix = c.args.right.now.matrix in
+    let h : ℕ = c.loop-i.rows.matrix.height in
+    let here : c.height-in-loop-i.result ≡ h = c.height-in-loop-i.ensures.value in
+    let behind : h + (A.height - h) ≡ A.height = omega (arith, c.loop-i.invariant.0) in
+    let z = c.in_default.ensures in
+    c.in_ok-append_zeros-2.ensures.matrix ∙ ap₂ with_zeros c.loop-i.invariant.1.matrix (ap₂ ◌-◌ c.height-2.ensures.value c.height-3.ensures.value)
+    ∙ beside_zeros c.height.ensures.sound c.modulus.ensures.sound c.requires.heights h (A.height - h) (omega arith) (λ k a b. z.0 k (omega arith) (omega arith)) (λ k a b. z.1 k (omega arith) (omega (arith, c.requires.heights)))
+    ∙ ap (first_beside A B) behind

@@ -1,5 +1,9 @@
+use Rattle.std.proofs.Common.{◌≤◌, ◌-◌}
 use Rattle.sparse_rows.proofs.Loops.{IsBesideSoFar}
 use Rattle.sparse_rows.proofs.rows.Rows.beside.Given as goal
 
 abbrev pub invariant-loop-i : goal.invariant-loop-i
-invariant-loop-i l = IsBesideSoFar l.fn.self l.fn.right l.i l.rows l.row
+invariant-loop-i l = (l.rows.matrix.height ≤ l.self.matrix.height) × IsBesideSoFar l.self l.right l.rows.matrix.height l.rows l.row
+
+abbrev pub decreases-loop-i : goal.decreases-loop-i
+decreases-loop-i l = l.self.matrix.height - l.rows.matrix.height

@@ -1,36 +1,38 @@
-use Rattle.std.proofs.Common.{◌≡◌, ◌<◌, ◌-◌, ◌+◌, ◌∙◌, ap, ap₂, arith, length, slice_index, slice_range, sym}
+use Rattle.std.proofs.Common.{◌≡◌, ◌∙◌, ap, arith, length, subst, sym}
 use Rattle.residue_words.specs.Matrix.{row}
+use Rattle.sparse_rows.specs.Columns.{IsAbsent, IsAt}
 use Rattle.sparse_rows.specs.Rows.{nonzeros, support}
-use Rattle.sparse_rows.specs.Stored.{IsSparse, part}
-use Rattle.sparse_rows.proofs.Stored.{nonzeros_stored, starts_below, support_stored}
+use Rattle.sparse_rows.proofs.Expanding.{listed, listed_row, nonzeros_zeros, support_zeros, unlisted_row}
+use Rattle.sparse_rows.proofs.Renaming.{rising_short}
 use Rattle.sparse_rows.proofs.rows.Rows.cols.Goals as goal
-use Rattle.sparse_rows.proofs.rows.Rows.cols.Goals.{After-part}
+use Rattle.sparse_rows.proofs.rows.Rows.cols.Goals.{After-cols-in-Some}
 
-pub part-requires-clause-within : goal.part-requires-clause-within
-part-requires-clause-within c =
-    let end : c.args.i + 1 < length c.self.inside.starts.items = omega (arith, c.requires, ap (λ m. m.matrix.height) c.self.view_is) in
-    rw (c.deref.ensures.value, c.deref-2.ensures.value) (starts_below c.self.invariant.parts (c.args.i + 1) (omega arith))
+pub place_of-requires : goal.place_of-requires
+place_of-requires c = rw c.deref.ensures.value (listed c.self.inside.every_row _ _ _ c.if-self.false c.self.invariant).1.rising
 
-inside : (c : After-part) → c.args.i < length c.self.inside.starts.items - 1
-inside c = omega (arith, c.requires, ap (λ m. m.matrix.height) c.self.view_is)
+pub overflow_cast-place : goal.overflow_cast-place
+overflow_cast-place c =
+    let l = listed c.self.inside.every_row c.self.inside.height c.self.inside.rows.items _ c.if-self.false c.self.invariant in
+    record { fits = omega (arith, rising_short c.self.inside.rows.items c.self.inside.height l.1.rising l.1.below, l.0, c.in-Some.ensures.0, ap length c.deref.ensures.value) }
 
-found : (c : After-part) → c.part.result.now ≡ part c.self.inside.starts.items c.self.inside.cols.items c.args.i
-unfolding part
-found c = c.part.ensures ∙ ap₂ (λ xs ss. slice_range xs (slice_index ss c.args.i) (slice_index ss (c.args.i + 1))) c.deref.ensures.value c.deref-2.ensures.value
+-- the row that is stored in the place found
+there : (c : After-cols-in-Some) → row c.args.self.now.matrix c.args.i ≡ row c.self.inside.stored.matrix c.in-Some.place
+there c =
+    let at = subst (λ xs. IsAt xs c.args.i c.in-Some.place) c.deref.ensures.value c.in-Some.ensures in
+    listed_row c.self.inside.every_row _ _ _ _ c.if-self.false c.self.invariant (ap (λ m. m.matrix) c.self.view_is) c.args.i c.in-Some.place at.0 at.1
 
--- the row as it is stored
-stored : (c : After-part) → IsSparse c.self.inside.modulus c.self.inside.width c.part.result.now (part c.self.inside.starts.items c.self.inside.vals.items c.args.i)
-stored c = rw (found c) (c.self.invariant.each c.args.i (inside c))
+pub returns-in-Some-clause-support : goal.returns-in-Some-clause-support
+returns-in-Some-clause-support c = c.cols-in-Some.ensures.support ∙ ap support (sym (there c))
 
-pub returns-clause-support : goal.returns-clause-support
-returns-clause-support c = found c ∙ sym (support_stored c.self.invariant c.args.i (inside c)) ∙ ap (λ m. support (row m.matrix c.args.i)) c.self.view_is
+pub returns-in-Some-clause-same_length : goal.returns-in-Some-clause-same_length
+returns-in-Some-clause-same_length c = c.cols-in-Some.ensures.same_length ∙ ap (λ v. length (nonzeros v)) (sym (there c))
 
-pub returns-clause-same_length : goal.returns-clause-same_length
-returns-clause-same_length c =
-    (stored c).long ∙ ap length (sym (nonzeros_stored c.self.invariant c.args.i (inside c)) ∙ ap (λ m. nonzeros (row m.matrix c.args.i)) c.self.view_is)
+pub returns-in-None-clause-support : goal.returns-in-None-clause-support
+returns-in-None-clause-support c =
+    sym (ap support (unlisted_row c.self.inside.every_row _ _ _ _ c.if-self.false c.self.invariant (ap (λ m. m.matrix) c.self.view_is) c.args.i c.requires
+    (subst (λ xs. IsAbsent xs c.args.i) c.deref.ensures.value c.in-None.ensures)) ∙ support_zeros c.self.inside.stored.matrix.width)
 
-pub returns-clause-below_width : goal.returns-clause-below_width
-returns-clause-below_width c = λ k l. omega (arith, (stored c).below k l, ap (λ m. m.matrix.width) c.self.view_is)
-
-pub returns-clause-ascending : goal.returns-clause-ascending
-returns-clause-ascending c = (stored c).rising
+pub returns-in-None-clause-same_length : goal.returns-in-None-clause-same_length
+returns-in-None-clause-same_length c =
+    sym (ap (λ v. length (nonzeros v)) (unlisted_row c.self.inside.every_row _ _ _ _ c.if-self.false c.self.invariant (ap (λ m. m.matrix) c.self.view_is) c.args.i c.requires
+    (subst (λ xs. IsAbsent xs c.args.i) c.deref.ensures.value c.in-None.ensures)) ∙ ap length (nonzeros_zeros c.self.inside.stored.matrix.width))

@@ -1,19 +1,80 @@
-use Rattle.std.proofs.Common.{arith}
-use Rattle.sparse_rows.specs.declared.cells.Cell.{Cell}
-use Rattle.sparse_rows.proofs.Cuts.{cells_matrix, cells_stored}
+use Rattle.std.proofs.Common.{ℕ, ◌≡◌, ◌<◌, ◌∙◌, ap, arith, map, subst, sym}
+use Rattle.std.specs.List.{All}
+use Rattle.std.proofs.lemmas.List.Elements.{All-weaker}
+use Rattle.sparse_rows.specs.Cells.{IsWithin, place_of, renumbered, row_of, weight}
+use Rattle.sparse_rows.specs.Columns.{AreOccurring}
+use Rattle.sparse_rows.specs.Placed.{AreNamed, expanded}
+use Rattle.sparse_rows.specs.Rows.{matrix_by}
+use Rattle.sparse_rows.proofs.Filling.{rows_low}
+use Rattle.sparse_rows.proofs.Renumbering.{is_numbered, occurring_among, occurring_few}
 use Rattle.sparse_rows.proofs.rows.Rows.from_cells.Goals as goal
 
--- a cell
-abbrev some : Cell
-some = record { place = 0; val = 0 }
+pub occurring-requires : goal.occurring-requires
+occurring-requires c =
+    rw (c.deref.ensures.value, c.in_ok-numbers.ensures) (rows_low c.args.cells.now c.args.height (All-weaker (IsWithin c.args.height c.args.width) (λ t. row_of t < c.args.height) (λ t h. h.row) c.args.cells.now c.requires.within))
 
-pub invariant_of-result : goal.invariant_of-result
-invariant_of-result c =
-    rw (c.in_ok-columns.ensures, c.in_ok-values.ensures)
-    (cells_stored _ _ _ _ _ c.in_ok-row_starts.ensures c.requires.entries c.requires.within some c.requires.height_small c.requires.width_small
-    (omega (arith, c.p.ensures.value, c.p.ensures.two_or_more)) (omega (arith, c.p.ensures.value, c.p.ensures.in_range)))
+pub places_among-requires-clause-few : goal.places_among-requires-clause-few
+places_among-requires-clause-few c =
+    rw c.deref-2.ensures.value (omega (
+      arith,
+      c.requires.height_small,
+      occurring_few c.args.height (map row_of c.args.cells.now) c.in_ok-rows.rows.items (subst (λ xs. AreOccurring xs c.in_ok-rows.rows.items) (c.deref.ensures.value ∙ c.in_ok-numbers.ensures) c.in_ok-rows.ensures)
+          (rows_low c.args.cells.now c.args.height (All-weaker (IsWithin c.args.height c.args.width) (λ t. row_of t < c.args.height) (λ t h. h.row) c.args.cells.now c.requires.within)),
+    ))
+
+pub places_among-requires-clause-among : goal.places_among-requires-clause-among
+places_among-requires-clause-among c =
+    rw (c.deref-2.ensures.value, c.deref-3.ensures.value) (occurring_among c.in_ok-numbers.numbers.items c.in_ok-rows.rows.items (subst (λ xs. AreOccurring xs c.in_ok-rows.rows.items) c.deref.ensures.value c.in_ok-rows.ensures))
+
+pub overflow_cast-len : goal.overflow_cast-len
+overflow_cast-len c = record {
+  fits = omega (
+    arith,
+    c.len.ensures,
+    c.in_ok-rows.rows.ok.0,
+    (is_numbered c.args.modulus c.args.height c.args.width c.args.cells.now _ _ _ _ _ _ c.requires.height_small c.requires.width_small c.requires.entries c.requires.within
+        (c.deref.ensures.value ∙ c.in_ok-numbers.ensures) (c.deref-3.ensures.value ∙ c.in_ok-numbers.ensures) c.in_ok-rows.ensures c.deref-2.ensures.value c.in_ok-places.ensures
+        (c.in_ok-cells.ensures ∙ ap (λ ks. renumbered ks c.args.cells.now) c.deref-4.ensures.value)).few,
+  );
+}
+
+pub from_cells-requires-2-clause-height_small : goal.from_cells-requires-2-clause-height_small
+from_cells-requires-2-clause-height_small c =
+    omega (
+      arith,
+      c.len.ensures,
+      c.in_ok-rows.rows.ok.0,
+      (is_numbered c.args.modulus c.args.height c.args.width c.args.cells.now _ _ _ _ _ _ c.requires.height_small c.requires.width_small c.requires.entries c.requires.within
+          (c.deref.ensures.value ∙ c.in_ok-numbers.ensures) (c.deref-3.ensures.value ∙ c.in_ok-numbers.ensures) c.in_ok-rows.ensures c.deref-2.ensures.value c.in_ok-places.ensures
+          (c.deref-5.ensures.value ∙ c.in_ok-cells.ensures ∙ ap (λ ks. renumbered ks c.args.cells.now) c.deref-4.ensures.value)).few,
+    )
+
+pub from_cells-requires-2-clause-within : goal.from_cells-requires-2-clause-within
+from_cells-requires-2-clause-within c =
+    subst (λ h. All (IsWithin h c.args.width) c.deref-5.result.now) (sym (c.len.ensures ∙ c.in_ok-rows.rows.ok.0)) (is_numbered c.args.modulus c.args.height c.args.width c.args.cells.now _ _ _ _ _ _ c.requires.height_small c.requires.width_small c.requires.entries c.requires.within
+    (c.deref.ensures.value ∙ c.in_ok-numbers.ensures) (c.deref-3.ensures.value ∙ c.in_ok-numbers.ensures) c.in_ok-rows.ensures c.deref-2.ensures.value c.in_ok-places.ensures
+    (c.deref-5.ensures.value ∙ c.in_ok-cells.ensures ∙ ap (λ ks. renumbered ks c.args.cells.now) c.deref-4.ensures.value)).within
+
+pub from_cells-requires-2-clause-entries : goal.from_cells-requires-2-clause-entries
+from_cells-requires-2-clause-entries c =
+    (is_numbered c.args.modulus c.args.height c.args.width c.args.cells.now _ _ _ _ _ _ c.requires.height_small c.requires.width_small c.requires.entries c.requires.within
+    (c.deref.ensures.value ∙ c.in_ok-numbers.ensures) (c.deref-3.ensures.value ∙ c.in_ok-numbers.ensures) c.in_ok-rows.ensures c.deref-2.ensures.value c.in_ok-places.ensures
+    (c.deref-5.ensures.value ∙ c.in_ok-cells.ensures ∙ ap (λ ks. renumbered ks c.args.cells.now) c.deref-4.ensures.value)).entries
+
+pub invariant_of-result-2 : goal.invariant_of-result-2
+invariant_of-result-2 c = (
+  c.requires.height_small,
+  subst (AreNamed c.args.height c.in_ok-rows.rows.items)
+      (sym (c.in_ok-from_cells-2.ensures.matrix ∙ ap (λ h. matrix_by h c.args.width (λ r j. weight (place_of r j) c.deref-5.result.now)) (c.len.ensures ∙ c.in_ok-rows.rows.ok.0)))
+      (is_numbered c.args.modulus c.args.height c.args.width c.args.cells.now _ _ _ _ _ _ c.requires.height_small c.requires.width_small c.requires.entries c.requires.within
+      (c.deref.ensures.value ∙ c.in_ok-numbers.ensures) (c.deref-3.ensures.value ∙ c.in_ok-numbers.ensures) c.in_ok-rows.ensures c.deref-2.ensures.value c.in_ok-places.ensures
+      (c.deref-5.ensures.value ∙ c.in_ok-cells.ensures ∙ ap (λ ks. renumbered ks c.args.cells.now) c.deref-4.ensures.value)).named,
+)
 
 pub returns-clause-matrix : goal.returns-clause-matrix
 returns-clause-matrix c =
-    rw (c.in_ok-columns.ensures, c.in_ok-values.ensures)
-    (cells_matrix _ _ _ _ _ c.in_ok-row_starts.ensures c.requires.entries c.requires.within some c.requires.width_small)
+    ap (expanded c.args.height c.in_ok-rows.rows.items)
+    (c.in_ok-from_cells-2.ensures.matrix ∙ ap (λ h. matrix_by h c.args.width (λ r j. weight (place_of r j) c.deref-5.result.now)) (c.len.ensures ∙ c.in_ok-rows.rows.ok.0))
+    ∙ (is_numbered c.args.modulus c.args.height c.args.width c.args.cells.now _ _ _ _ _ _ c.requires.height_small c.requires.width_small c.requires.entries c.requires.within
+    (c.deref.ensures.value ∙ c.in_ok-numbers.ensures) (c.deref-3.ensures.value ∙ c.in_ok-numbers.ensures) c.in_ok-rows.ensures c.deref-2.ensures.value c.in_ok-places.ensures
+    (c.deref-5.ensures.value ∙ c.in_ok-cells.ensures ∙ ap (λ ks. renumbered ks c.args.cells.now) c.deref-4.ensures.value)).matrix

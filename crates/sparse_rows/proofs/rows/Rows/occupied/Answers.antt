@@ -1,15 +1,10 @@
 use Rattle.std.proofs.Common.{subst}
 use Rattle.std.proofs.lemmas.Result.{IfOk-weaker}
-use Rattle.sparse_rows.specs.Columns.{AreOccurring}
 use Rattle.sparse_rows.specs.Rows.{AreOccupied, ResidueMatrix}
-use Rattle.sparse_rows.proofs.FilledRows.{occupied_stored}
-use Rattle.sparse_rows.proofs.Transposed.{columns_below}
+use Rattle.sparse_rows.proofs.Expanding.{placed_occupied}
 use Rattle.sparse_rows.proofs.rows.Rows.occupied.Goals as goal
-
-pub occurring-requires : goal.occurring-requires
-occurring-requires c = rw c.deref.ensures.value (columns_below c.self.invariant)
 
 pub returns : goal.returns
 returns c =
-    IfOk-weaker c.occurring.result _ _ (λ found h. subst (λ (m : ResidueMatrix). AreOccupied m.matrix found.items) c.self.view_is
-    (occupied_stored c.self.invariant found.items (subst (λ xs. AreOccurring xs found.items) c.deref.ensures.value h))) c.occurring.ensures
+    IfOk-weaker c.occupied.result _ _ (λ found h. subst (λ (m : ResidueMatrix). AreOccupied m.matrix found.items) c.self.view_is
+    (placed_occupied c.self.inside.every_row _ _ _ found.items c.self.invariant h)) c.occupied.ensures

@@ -1,8 +1,7 @@
-use Rattle.std.proofs.Common.{ℕ, ◌≡◌, ◌%◌, ◌∙◌, List, ap, arith, length, subst}
+use Rattle.std.proofs.Common.{ℕ, ◌≡◌, ◌%◌, ◌∙◌, List, ap, arith, length}
 use Rattle.residue_words.specs.Matrix.{IsMatrix, row}
 use Rattle.sparse_rows.specs.Rows.{ResidueMatrix, nonzeros, support}
 use Rattle.sparse_rows.proofs.Loops.{sparse_dot, sparse_dot_all, sparse_dot_more, sparse_dot_none}
-use Rattle.sparse_rows.proofs.Stored.{stored_sound}
 use Rattle.sparse_rows.proofs.rows.Rows.row_times.Goals as goal
 
 pub loop-k-init : goal.loop-k-init
@@ -10,14 +9,14 @@ loop-k-init c = sparse_dot_none _ _ _ _
 
 pub loop-k-preserved : goal.loop-k-preserved
 loop-k-preserved c =
-    let p : c.self.inside.modulus ≡ c.args.self.now.modulus = ap (λ m. m.modulus) c.self.view_is in
+    let p : c.modulus-modulus.result ≡ c.args.self.now.modulus = c.modulus-modulus.ensures.value in
     sparse_dot_more c.args.self.now.modulus _ _ _ c.loop-k.k _ _ _ c.loop-k.invariant (rw p at c.mul-product.ensures.value) (rw p at c.add-sum.ensures.value)
 
 pub returns : goal.returns
 returns c =
     let M : ResidueMatrix = c.args.self.now in
     let v : List ℕ = row M.matrix c.args.i in
-    let sound : IsMatrix M.modulus M.matrix = subst (λ (m : ResidueMatrix). IsMatrix m.modulus m.matrix) c.self.view_is (stored_sound c.self.invariant) in
+    let sound : IsMatrix M.modulus M.matrix = c.modulus-modulus.ensures.sound in
     let all : c.loop-k.k ≡ length (support v) = omega (arith, ap length c.cols-cols.ensures.support) in
     let sums : sparse_dot c.cols-cols.result.now c.vals-vals.result.now c.args.x.now c.loop-k.k ≡ sparse_dot (support v) (nonzeros v) c.args.x.now (length (support v)) =
     rw (c.cols-cols.ensures.support, c.vals-vals.ensures.values) (ap (sparse_dot (support v) (nonzeros v) c.args.x.now) all) in

@@ -1,4 +1,4 @@
-use Rattle.std.proofs.Common.{ℕ, ◌≡◌, ◌<◌, ◌∙◌, ap, ap₂, get_or, subst, sym, take}
+use Rattle.std.proofs.Common.{ℕ, ◌≡◌, ◌<◌, ◌∙◌, ap, ap₂, get_or, sym, take}
 use Rattle.std.proofs.lemmas.List.{take_more}
 use Rattle.std.proofs.lemmas.List.Elements.{All-get_or}
 use Rattle.residue_words.specs.Matrix.{IsMatrix, row}
@@ -6,14 +6,13 @@ use Rattle.sparse_rows.specs.Rows.{ResidueMatrix, selected}
 use Rattle.sparse_rows.specs.Stored.{spread, with_row}
 use Rattle.sparse_rows.proofs.Loops.{selected_more}
 use Rattle.sparse_rows.proofs.Spread.{spread_support}
-use Rattle.sparse_rows.proofs.Stored.{stored_sound}
 use Rattle.sparse_rows.proofs.rows.Rows.select.Goals as goal
 
 pub loop-i-preserved : goal.loop-i-preserved
 loop-i-preserved c =
     let A : ResidueMatrix = c.args.self.now in
     let i : ℕ = get_or c.args.rows.now c.loop-i.i-index 0 in
-    let sound : IsMatrix A.modulus A.matrix = subst (λ (m : ResidueMatrix). IsMatrix m.modulus m.matrix) c.self.view_is (stored_sound c.self.invariant) in
+    let sound : IsMatrix A.modulus A.matrix = c.modulus.ensures.sound in
     let low : i < A.matrix.height = All-get_or (λ k. k < A.matrix.height) c.args.rows.now c.loop-i.i-index 0 c.loop-i-test.true c.requires.inside in
     let width : c.loop-i.made.matrix.width ≡ A.matrix.width = ap (λ m. m.width) c.loop-i.invariant.matrix in
     let new : spread c.loop-i.made.matrix.width c.cols.result.now c.vals.result.now ≡ row A.matrix i =

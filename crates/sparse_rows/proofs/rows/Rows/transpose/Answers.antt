@@ -1,27 +1,37 @@
-use Rattle.std.proofs.Common.{◌-◌, ◌∙◌, ap, arith, length, sym}
-use Rattle.sparse_rows.specs.Rows.{transposed}
-use Rattle.sparse_rows.specs.Stored.{part_numbers}
-use Rattle.sparse_rows.proofs.Transposed.{columns_below, length_part_numbers, transposed_grouped}
+use Rattle.std.proofs.Common.{◌≡◌, ◌∙◌, ap, ap₂, cond, subst, sym}
+use Rattle.residue_words.specs.Matrix.{Matrix}
+use Rattle.sparse_rows.specs.Columns.{GoTo}
+use Rattle.sparse_rows.specs.Placed.{AreNamed, expanded}
+use Rattle.sparse_rows.specs.Rows.{narrowed, transposed, widened}
+use Rattle.sparse_rows.proofs.Expanding.{listed, transposed_listed, transposed_placed, turned_sound}
 use Rattle.sparse_rows.proofs.rows.Rows.transpose.Goals as goal
+use Rattle.sparse_rows.proofs.rows.Rows.transpose.Goals.{In_ok-with_columns-2}
 
-pub group-requires-clause-others : goal.group-requires-clause-others
-group-requires-clause-others c =
-    let s = c.self.inside.starts.items in
-    ap length (c.deref-3.ensures.value ∙ c.in_ok-rows.ensures ∙ ap (λ t. part_numbers (length t - 1) t) c.deref.ensures.value)
-    ∙ length_part_numbers (length s - 1) _ s c.self.invariant.parts (length s - 1) (omega arith) ∙ c.self.invariant.parts.last ∙ ap length (sym c.deref-2.ensures.value)
+pub returns-then-stores_every_row-clause-matrix : goal.returns-then-stores_every_row-clause-matrix
+returns-then-stores_every_row-clause-matrix c =
+    transposed_placed c.self.inside.every_row c.self.inside.height c.self.inside.rows.items c.self.inside.stored.matrix _ c.self.invariant
+    (c.in_ok-with_columns.ensures.matrix ∙ ap₂ (λ T rs. cond c.self.inside.every_row T (widened T c.self.inside.height rs)) c.in_ok-stored.ensures.matrix c.deref.ensures.value)
+    ∙ ap (λ m. transposed m.matrix) c.self.view_is
 
-pub group-requires-clause-keys : goal.group-requires-clause-keys
-group-requires-clause-keys c = λ k l. rw c.deref-2.ensures.value (columns_below c.self.invariant k (omega (arith, ap length c.deref-2.ensures.value)))
+pub with_columns-requires-2-clause-rows : goal.with_columns-requires-2-clause-rows
+with_columns-requires-2-clause-rows c = λ e.
+    let l = listed c.self.inside.every_row c.self.inside.height c.self.inside.rows.items c.self.inside.stored.matrix e c.self.invariant in
+    let w : c.in_ok-stored-2.stored.matrix.width ≡ c.self.inside.stored.matrix.height = ap (λ M. M.width) c.in_ok-stored-2.ensures.matrix ∙ ap (λ M. M.height) c.in_ok-narrowed.ensures.matrix in
+    subst (GoTo c.in_ok-stored-2.stored.matrix.width c.self.inside.height) (sym c.deref-3.ensures.value) record { many = l.1.many ∙ sym w; rising = l.1.rising; below = l.1.below }
 
-pub invariant_of-result : goal.invariant_of-result
-invariant_of-result c = (transposed_grouped c.self.inside.modulus c.self.inside.width c.height.result c.self.inside.starts.items c.self.inside.cols.items c.self.inside.vals.items
-    c.deref-2.result.now c.deref-3.result.now c.deref-4.result.now _ _ _ c.self.invariant (c.height.ensures.value ∙ sym (ap (λ m. m.matrix.height) c.self.view_is)) c.deref-2.ensures.value
-    (c.deref-3.ensures.value ∙ c.in_ok-rows.ensures ∙ ap (λ t. part_numbers (length t - 1) t) c.deref.ensures.value) c.deref-4.ensures.value
-    c.in_ok-grouped.ensures.starts c.in_ok-grouped.ensures.others c.in_ok-grouped.ensures.vals c.in_ok-grouped.ensures.others_length c.in_ok-grouped.ensures.vals_length).0
+both : (c : In_ok-with_columns-2) →
+    AreNamed c.self.inside.stored.matrix.width c.in_ok-columns.columns.items c.in_ok-with_columns-2.field-0.matrix
+    × (expanded c.self.inside.stored.matrix.width c.in_ok-columns.columns.items c.in_ok-with_columns-2.field-0.matrix ≡ transposed c.args.self.now.matrix)
+both c =
+    let S : Matrix = c.self.inside.stored.matrix in
+    let t = transposed_listed c.self.inside.every_row c.self.inside.height c.self.inside.rows.items S c.in_ok-with_columns-2.field-0.matrix c.in_ok-columns.columns.items
+    (turned_sound c.in_ok-columns.columns.items c.modulus.ensures.sound c.in_ok-columns.ensures) c.self.invariant c.in_ok-columns.ensures
+    (c.in_ok-with_columns-2.ensures.matrix ∙ ap₂ (λ T rs. cond c.self.inside.every_row T (widened T c.self.inside.height rs))
+    (c.in_ok-stored-2.ensures.matrix ∙ ap transposed (c.in_ok-narrowed.ensures.matrix ∙ ap (narrowed S) c.deref-2.ensures.value)) c.deref-3.ensures.value) in
+    (t.0, t.1 ∙ ap (λ m. transposed m.matrix) c.self.view_is)
+
+pub invariant_of-result-2 : goal.invariant_of-result-2
+invariant_of-result-2 c = (c.width-width.ensures.bound, subst (λ w. AreNamed w c.in_ok-columns.columns.items c.in_ok-with_columns-2.field-0.matrix) (sym c.width-width.ensures.value) (both c).0)
 
 pub returns-clause-matrix : goal.returns-clause-matrix
-returns-clause-matrix c = (transposed_grouped c.self.inside.modulus c.self.inside.width c.height.result c.self.inside.starts.items c.self.inside.cols.items c.self.inside.vals.items
-    c.deref-2.result.now c.deref-3.result.now c.deref-4.result.now _ _ _ c.self.invariant (c.height.ensures.value ∙ sym (ap (λ m. m.matrix.height) c.self.view_is)) c.deref-2.ensures.value
-    (c.deref-3.ensures.value ∙ c.in_ok-rows.ensures ∙ ap (λ t. part_numbers (length t - 1) t) c.deref.ensures.value) c.deref-4.ensures.value
-    c.in_ok-grouped.ensures.starts c.in_ok-grouped.ensures.others c.in_ok-grouped.ensures.vals c.in_ok-grouped.ensures.others_length c.in_ok-grouped.ensures.vals_length).1
-    ∙ ap (λ m. transposed m.matrix) c.self.view_is
+returns-clause-matrix c = ap (λ w. expanded w c.in_ok-columns.columns.items c.in_ok-with_columns-2.field-0.matrix) c.width-width.ensures.value ∙ (both c).1

@@ -1,0 +1,85 @@
+# What the timed scripts share; each sources it at the repository's root. Texts are made in bench/out.
+mkdir -p bench/out
+
+# random_text M N PER FILE SEED: M rows of PER entries from 1 to 42012 at random places of N, in order.
+random_text() {
+    python3 - "$@" <<'P'
+import random, sys
+m, n, per, path, seed = int(sys.argv[1]), int(sys.argv[2]), int(sys.argv[3]), sys.argv[4], int(sys.argv[5])
+random.seed(seed)
+with open(path, "w") as f:
+    f.write(f"{m} {n} M\n")
+    for i in range(1, m + 1):
+        f.writelines(f"{i} {j} {random.randrange(1, 42013)}\n" for j in sorted(random.sample(range(1, n + 1), per)))
+    f.write("0 0 0\n")
+P
+}
+
+# one_row_text N FILE: one row of N entries, in order, some of them 0 modulo 42013.
+one_row_text() {
+    python3 - "$@" <<'P'
+import random, sys
+n, path = int(sys.argv[1]), sys.argv[2]
+random.seed(1)
+with open(path, "w") as f:
+    f.write(f"1 {n} M\n")
+    f.writelines(f"1 {j} {random.randrange(-999999999, 999999999)}\n" for j in range(1, n + 1))
+    f.write("0 0 0\n")
+P
+}
+
+# shuffled_text FROM TO: the entries of a text in no order.
+shuffled_text() {
+    python3 - "$@" <<'P'
+import random, sys
+random.seed(2)
+with open(sys.argv[1]) as f:
+    lines = f.readlines()
+entries = lines[1:-1]
+random.shuffle(entries)
+with open(sys.argv[2], "w") as f:
+    f.writelines(lines[:1] + entries + lines[-1:])
+P
+}
+
+# summed_text M N COUNT FILE: COUNT entries at random places of a matrix, which fall on one another.
+summed_text() {
+    python3 - "$@" <<'P'
+import random, sys
+m, n, count, path = int(sys.argv[1]), int(sys.argv[2]), int(sys.argv[3]), sys.argv[4]
+random.seed(2)
+with open(path, "w") as f:
+    f.write(f"{m} {n} M\n")
+    f.writelines(f"{random.randint(1, m)} {random.randint(1, n)} {random.randrange(1, 42013)}\n" for _ in range(count))
+    f.write("0 0 0\n")
+P
+}
+
+# timed_program: builds the timed program where it isn't built or is older than its sources, and prints its path.
+timed_program() {
+    local program=crates/spasm_timed/out/spasm_timed
+    if test ! -x "$program" || test -n "$(find crates.txt crates/*/src crates/*/specs crates/*/proofs -newer "$program" -type f | head -n 1)"; then
+        (cd crates/spasm_timed && rt run < /dev/null) > bench/out/build.log 2>&1 || { tail -n 30 bench/out/build.log >&2; exit 1; }
+        touch "$program"
+    fi
+    echo "$program"
+}
+
+# best FIELD TEXT COMMAND..: the least of the numbers that stand as the FIELD-th word in the output of three runs on the text.
+best() {
+    local field=$1 text=$2
+    shift 2
+    for _ in 1 2 3; do "$@" < "$text"; done | awk -v k="$field" 'NR == 1 || $k + 0 < least + 0 { least = $k } END { print least }'
+}
+
+# seconds_and_peak COMMAND..: runs a command, and prints its seconds and its peak memory in KiB.
+seconds_and_peak() {
+    { /usr/bin/time -f '%e %M' "$@" > /dev/null 2>&3; } 3>&1 | tail -n 1
+}
+
+# flint TASK TEXT: FLINT's seconds for TASK (rank or rref) modulo 42013, best of three; nothing where its library isn't installed
+# (Debian: libflint-dev).
+flint() {
+    gcc -O2 -o bench/out/flint bench/flint.c -lflint -lgmp -lm 2> /dev/null || { echo "FLINT isn't installed: no comparison" >&2; return 0; }
+    best 2 "$2" bench/out/flint "$1" 42013
+}

@@ -1,0 +1,23 @@
+-- The factors that a dense elimination gives.
+use Rattle.std.specs.Prelude.{◌≡◌, ◌≢◌, ◌<◌, ℕ, List, length, slice_index}
+use Rattle.residue_words.specs.Residues.{IsPrime}
+use Rattle.residue_words.specs.Matrix.{Matrix, IsMatrix, entry}
+use Rattle.row_space.specs.Factors.{AreFactors, FitAsFactors}
+use Rattle.dense_finish.specs.Block.{entry_of}
+use Rattle.dense_finish.specs.declared.factors.Factors.{Factors}
+
+-- factors of A modulo p: sizes, residues and places of pivots for every modulus, and valid ones for a prime one
+pub record IsFactored (p : ℕ) (A : Matrix) (f : Factors) : Type 0 where
+  pub left_modulus : f.l.modulus ≡ p
+  pub right_modulus : f.u.modulus ≡ p
+  pub fit : FitAsFactors p A f.pivots f.l.matrix f.u.matrix
+  pub factors : IsPrime p → AreFactors p A f.pivots f.l.matrix f.u.matrix
+
+-- the left factor: at each of these rows the coefficients of a row of the block, and zeros at the others
+pub record IsLeft (m : ℕ) (rows columns : List ℕ) (block : List (List ℕ)) (L : Matrix) : Type 0 where
+  pub height : L.height ≡ m
+  pub width : L.width ≡ length columns
+  pub filled : (t k : ℕ) → t < length rows → k < length columns →
+      entry L (slice_index rows t) k ≡ entry_of block t (slice_index columns k)
+  pub others : (i k : ℕ) → i < m → k < length columns →
+      ((t : ℕ) → t < length rows → slice_index rows t ≢ i) → entry L i k ≡ 0

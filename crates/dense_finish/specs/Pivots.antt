@@ -1,0 +1,115 @@
+-- The pivots that an elimination has found, and the rows of its block meanwhile.
+use Rattle.std.specs.Prelude.{◌≡◌, ◌≢◌, ◌<◌, ◌≤◌, ◌+◌, ℕ, true, false, List, [], ◌∷◌, ◌++◌, length, slice_index, slice_index_or, slice_set}
+use Rattle.residue_words.specs.Matrix.{Matrix, IsMatrix, entry}
+use Rattle.residue_words.specs.declared.plain.Pair.{Pair}
+use Rattle.row_space.specs.Factors.{row_at, col_at}
+use Rattle.row_space.specs.Rows.{HasSteps}
+use Rattle.sparse_rows.specs.Stored.{with_row}
+use Rattle.dense_finish.specs.Block.{AreVectors, block_row, entry_of}
+use Rattle.dense_finish.specs.Dense.{Scatters}
+use Rattle.dense_finish.specs.Panel.{ArePivots, Continues, PanelRows}
+use Rattle.dense_finish.specs.Splitting.{IsSplit, IsTaken, PivotSequence}
+use Rattle.dense_finish.specs.declared.pivots.Pivots.{Pivots}
+
+-- how many pivots there are
+abbrev pub count : Pivots → ℕ
+count f = length f.columns.items
+
+-- the entry of U at row k and the j-th of these columns
+abbrev pub filled_entry : Matrix → List ℕ → ℕ → ℕ → ℕ
+filled_entry U columns k j = entry U k (slice_index columns j)
+
+-- the pivots as a block with these columns has them
+abbrev pub pivot_sequence : (p : ℕ) (columns : List ℕ) → Pivots → PivotSequence p (length columns)
+pivot_sequence p columns f = record {
+  column = slice_index f.columns.items;
+  entry = filled_entry f.u.matrix columns;
+}
+
+-- pivots of the first i rows: their rows ascend, their rows of U stand in steps and are 0 but at the block's
+-- columns, and their columns are marked
+pub record AreFound (p : ℕ) (columns : List ℕ) (width i : ℕ) (f : Pivots) : Type 0 where
+  pub modulus : f.u.modulus ≡ p
+  pub matrix : IsMatrix p f.u.matrix
+  pub wide : f.u.matrix.width ≡ width
+  pub height : f.u.matrix.height ≡ count f
+  pub long : length f.rows.items ≡ count f
+  pub few : count f ≤ i
+  pub inside : (k : ℕ) → k < count f → slice_index f.rows.items k < i
+  pub rising : (k t : ℕ) → k < t → t < count f → slice_index f.rows.items k < slice_index f.rows.items t
+  pub steps : HasSteps (count f) (length columns) (filled_entry f.u.matrix columns) (slice_index f.columns.items)
+  pub unnamed : (k x : ℕ) → k < count f → x < width →
+      ((j : ℕ) → j < length columns → slice_index columns j ≢ x) → entry f.u.matrix k x ≡ 0
+  pub marks : length f.taken.items ≡ length columns
+  pub marked : (k : ℕ) → k < count f →
+      slice_index_or f.taken.items (slice_index f.columns.items k) false ≡ true
+  pub only : (j : ℕ) → j < length columns → slice_index_or f.taken.items j false ≡ true →
+      IsTaken (count f) (slice_index f.columns.items) j
+
+-- a pivot's row and column in the block, and its row's entries there
+pub record NewPivot : Type 0 where
+  pub row : ℕ
+  pub column : ℕ
+  pub entries : List ℕ
+
+abbrev pub pivot_at : ℕ → ℕ → List ℕ → NewPivot
+pivot_at i c q = record { row = i; column = c; entries = q }
+
+-- behind the pivots of `old` stands this one of a block with these columns
+pub record AddsPivot (filled : List ℕ) (pivot : NewPivot) (old new : Pivots) : Type 0 where
+  pub rows : new.rows.items ≡ old.rows.items ++ pivot.row ∷ []
+  pub columns : new.columns.items ≡ old.columns.items ++ pivot.column ∷ []
+  pub taken : new.taken.items ≡ slice_set old.taken.items pivot.column true
+  pub modulus : new.u.modulus ≡ old.u.modulus
+  pub row : List ℕ
+  pub put : Scatters old.u.matrix.width filled pivot.entries row
+  pub matrix : new.u.matrix ≡ with_row old.u.matrix row
+
+-- the first i rows hold coefficients alone: of a pivot's row the last, at its column, is not 0
+pub record AreEliminated (p n i : ℕ) (f : Pivots) (rows : List (List ℕ)) : Type 0 where
+  pub vectors : AreVectors p n rows
+  pub clear : (t j : ℕ) → t < i → j < n → (IsTaken (count f) (slice_index f.columns.items) j → ⊥) →
+      entry_of rows t j ≡ 0
+  pub leads : (k : ℕ) → k < count f →
+      entry_of rows (slice_index f.rows.items k) (slice_index f.columns.items k) ≢ 0
+  pub after : (k t : ℕ) → k < t → t < count f →
+      entry_of rows (slice_index f.rows.items k) (slice_index f.columns.items t) ≡ 0
+
+-- how far an elimination is: the pivots, the rows as they are, and how many of them are done
+pub record Stage : Type 0 where
+  pub pivots : Pivots
+  pub rows : List (List ℕ)
+  pub done : ℕ
+
+abbrev pub stage : Pivots → List (List ℕ) → ℕ → Stage
+stage f rows i = record { pivots = f; rows = rows; done = i }
+
+-- the block's rows split into these: those that are done by all pivots, the others by the first r
+pub record AreSplit (p : ℕ) (columns : List ℕ) (r : ℕ) (block : List (List ℕ)) (s : Stage) : Type 0 where
+  pub long : length s.rows ≡ length block
+  pub done : (t : ℕ) → t < s.done → t < length block →
+      IsSplit (pivot_sequence p columns s.pivots) (count s.pivots) (block_row block t) (block_row s.rows t)
+  pub ahead : (t : ℕ) → s.done ≤ t → t < length block →
+      IsSplit (pivot_sequence p columns s.pivots) r (block_row block t) (block_row s.rows t)
+
+-- whatever block splits into `old` by its pivots splits into `new`, whose rows ahead are reduced by those of `old`
+abbrev pub KeepsSplit : ℕ → List ℕ → Stage → Stage → Type 0
+KeepsSplit p columns old new = (block : List (List ℕ)) →
+    AreSplit p columns (count old.pivots) block old → AreSplit p columns (count old.pivots) block new
+
+-- all rows of the block split by all pivots
+abbrev pub SplitBy : ℕ → List ℕ → Pivots → List (List ℕ) → List (List ℕ) → Type 0
+SplitBy p columns f block rows = AreSplit p columns (count f) block (stage f rows (length block))
+
+-- the panel holds the pivots from the r-th on
+pub record IsPanelFrom (p : ℕ) (columns : List ℕ) (r : ℕ) (f : Pivots) (panel : PanelRows) : Type 0 where
+  pub wide : panel.width ≡ length columns
+  pub pivots : ArePivots p panel
+  pub total : r + length panel.columns ≡ count f
+  pub continues : Continues (pivot_sequence p columns f) r panel
+
+-- the pivots' places in the matrix, whose rows and columns with entries are these
+pub record ArePlaces (f_rows f_columns rows columns : List ℕ) (pivots : List Pair) : Type 0 where
+  pub long : length pivots ≡ length f_rows
+  pub row : (k : ℕ) → k < length f_rows → row_at pivots k ≡ slice_index rows (slice_index f_rows k)
+  pub column : (k : ℕ) → k < length f_rows → col_at pivots k ≡ slice_index columns (slice_index f_columns k)

@@ -1,0 +1,147 @@
+// The ways to add a multiple of a row, against values from outside and one another.
+ghost use Rattle.residue_words.specs.declared.modulus.TheConstants.{MODULUS_BOUND};
+ghost use Rattle.residue_words.specs.declared.shoup.TheConstants.{LANE_BOUND};
+ghost use Rattle.std.specs.Prelude.{◌≡◌, ◌<◌, ◌≤◌, ℕ, length, slice_index};
+
+use crate::residue::Residue;
+use crate::row_addition::{axpy, axpy_plainly};
+use residue_words::{LANE_BOUND, MODULUS_BOUND, Modulus};
+use std::process::Abort;
+use std::test::Fail;
+
+// Each row: p, a, the entries of `out` and of y, and the sums.
+const SUMS: [(u64, u64, [u64; 3], [u64; 3], [u64; 3]); 2] = [
+    (7, 3, [1, 2, 3], [4, 5, 6], [6, 3, 0]),
+    (
+        2147483647,
+        2147483646,
+        [2147483646, 0, 1],
+        [2147483646, 1, 0],
+        [0, 2147483646, 1],
+    ),
+];
+
+const MODULI: [u64; 6] = [2, 7, 42013, 2147483647, 2147483659, 281474976710597];
+
+const LONGEST: usize = 40;
+
+// Residues of a simple generator.
+fn fill(out: &mut [u64], seed: u64, p: u64)
+    requires { 2 ≤ p }
+    ensures { (k : ℕ) → k < length out.old → slice_index out.new k < p }
+{
+    let mut x = seed;
+    for k in 0..out.len() {
+        x = x
+            .wrapping_mul(6364136223846793005)
+            .wrapping_add(1442695040888963407);
+        out[k] = (x >> 16) % p;
+    }
+}
+
+fn assert_residues(rt: &impl Abort, row: &[u64], p: u64)
+    ensures { (k : ℕ) → k < length row.now → slice_index row.now k < p }
+{
+    for x in row {
+        assert!(rt; *x < p);
+    }
+}
+
+#[test]
+fn sums_agree_with_values_from_outside(rt: HostRuntime) -> Result<(), Fail> {
+    for (p, a, mut out, y, sums) in SUMS {
+        assert!(rt; 2 <= p && p < MODULUS_BOUND && a < p);
+        assert_residues(&rt, &out, p);
+        assert_residues(&rt, &y, p);
+        axpy(&mut out, a, &y, &Modulus::new(p));
+        assert_eq!(rt; out, sums, "modulo {p}");
+    }
+    Ok(())
+}
+
+#[test]
+fn zeros_become_multiples(rt: HostRuntime) -> Result<(), Fail> {
+    let modulus = Modulus::new(7);
+    let mut out = [0u64; 37];
+    let mut y = [0u64; 37];
+    for k in 0..37 {
+        y[k] = k as u64 % 7;
+    }
+    assert_residues(&rt, &out, 7);
+    assert_residues(&rt, &y, 7);
+    axpy(&mut out, 3, &y, &modulus);
+    for k in 0..37 {
+        assert_eq!(rt; out[k], 3 * k as u64 % 7, "at {k}");
+    }
+    let mut none: [u64; 0] = [];
+    axpy(&mut none, 3, &[], &modulus);
+    assert_eq!(rt; none, []);
+    Ok(())
+}
+
+// The residues of one row, in 32 bits.
+fn narrow(out: &mut [u32], row: &[u64], p: u64)
+    requires lengths { length row.now ≡ length out.old }
+    requires in_range { p < LANE_BOUND }
+    requires residues { (k : ℕ) → k < length row.now → slice_index row.now k < p }
+    ensures { (k : ℕ) → k < length out.old → slice_index out.new k < p }
+{
+    for k in 0..out.len() {
+        out[k] = row[k] as u32;
+    }
+}
+
+// All ways on rows of one length, whose entries come from a simple generator.
+fn assert_all_ways_agree(rt: &impl Abort, p: u64, a: u64, length: usize)
+    requires two_or_more { 2 ≤ p }
+    requires factor { a < p }
+    requires in_range { p < MODULUS_BOUND }
+    requires short { length ≤ 40 }
+{
+    let modulus = Modulus::new(p);
+    let mut row = [0u64; LONGEST];
+    let mut y = [0u64; LONGEST];
+    let row = &mut row[..length];
+    let y = &mut y[..length];
+    fill(row, 1, p);
+    fill(y, 2, p);
+    let mut by_lanes = [0u64; LONGEST];
+    let by_lanes = &mut by_lanes[..length];
+    fill(by_lanes, 1, p);
+    axpy(by_lanes, a, y, &modulus);
+    let mut in_64_bits = [0u64; LONGEST];
+    let in_64_bits = &mut in_64_bits[..length];
+    fill(in_64_bits, 1, p);
+    <u64 as Residue>::add_multiple(in_64_bits, a, y, &modulus);
+    let mut in_32_bits = [0u32; LONGEST];
+    let in_32_bits = &mut in_32_bits[..length];
+    let is_narrow = p < LANE_BOUND;
+    if is_narrow {
+        let mut y_in_32_bits = [0u32; LONGEST];
+        let y_in_32_bits = &mut y_in_32_bits[..length];
+        narrow(in_32_bits, row, p);
+        narrow(y_in_32_bits, y, p);
+        <u32 as Residue>::add_multiple(in_32_bits, a, y_in_32_bits, &modulus);
+    }
+    axpy_plainly(row, a, y, &modulus);
+    for k in 0..length {
+        assert_eq!(rt; by_lanes[k], row[k], "entry {k} of {length} modulo {p}");
+        assert_eq!(rt; in_64_bits[k], row[k], "entry {k} of {length} modulo {p}");
+        assert!(rt;
+            !is_narrow || u64::from(in_32_bits[k]) == row[k],
+            "entry {k} of {length} modulo {p}"
+        );
+    }
+}
+
+#[test]
+fn all_ways_agree(rt: HostRuntime) -> Result<(), Fail> {
+    for p in MODULI {
+        assert!(rt; 2 <= p && p < MODULUS_BOUND);
+        for length in 0..=LONGEST {
+            assert_all_ways_agree(&rt, p, p - 1, length);
+            assert_all_ways_agree(&rt, p, p / 2, length);
+        }
+    }
+    Ok(())
+}

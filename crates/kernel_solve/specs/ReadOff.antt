@@ -1,0 +1,18 @@
+-- What is read off the columns of an echelon form (textbook): a row of the kernel basis, and a solution.
+use Rattle.std.specs.Prelude.{◌≡◌, ◌≢◌, ◌<◌, ◌-◌, ◌%◌, ℕ, List, length, slice_index}
+
+-- column j is free: no row leads there
+abbrev pub IsFree : List ℕ → ℕ → Type 0
+IsFree leads j = (k : ℕ) → k < length leads → slice_index leads k ≢ j
+
+-- the row of the kernel basis for a free column f, which is `column` in the form with these leads:
+-- 1 at f, at each lead the negative of the column's entry in the lead's row, and 0 elsewhere
+pub record IsBasisRow (p : ℕ) (leads column : List ℕ) (f : ℕ) (v : List ℕ) : Type 0 where
+  pub one : slice_index v f ≡ 1
+  pub at_lead : (k : ℕ) → k < length leads → slice_index v (slice_index leads k) ≡ (p - slice_index column k) % p
+  pub elsewhere : (j : ℕ) → j < length v → j ≢ f → IsFree leads j → slice_index v j ≡ 0
+
+-- x has the entries of `column` at the leads, and 0 elsewhere
+pub record IsAtLeads (leads column x : List ℕ) : Type 0 where
+  pub at_lead : (k : ℕ) → k < length leads → slice_index x (slice_index leads k) ≡ slice_index column k
+  pub elsewhere : (j : ℕ) → j < length x → IsFree leads j → slice_index x j ≡ 0

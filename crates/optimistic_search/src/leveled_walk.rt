@@ -1,0 +1,281 @@
+// The least alive column by levels: a walk leaves out the columns whose level is above that of every candidate.
+ghost use Rattle.std.specs.Prelude.{◌≡◌, ◌<◌, ◌≤◌, ◌++◌, ◌∷◌, ℕ, [], length, slice_index, IsTrue, IfOk, false};
+ghost use Rattle.std.specs.List.{Contains};
+ghost use Rattle.pivot_table.specs.History.{Alive, Grown, HasCol, HasRow, row_weight};
+ghost use Rattle.optimistic_search.specs.Indexed.{IsAliveAt, LeadsTo, support_of};
+ghost use Rattle.optimistic_search.specs.Levels.{AreLevels, FreeAreLow, IsLevel, IsLow, IsOut, LowAreBegun, LowAreTaken};
+ghost use Rattle.optimistic_search.specs.Marks.{AllBetween, AreBelow, Grows};
+ghost use Rattle.optimistic_search.specs.Reached.{AreReached};
+ghost use Rattle.optimistic_search.specs.Walked.{IsLeastAlive};
+
+use crate::levels::Levels;
+use crate::marks::Marks;
+use crate::pivots::Pivots;
+use crate::raising::raise_all;
+use residue_words::plain::Pair;
+use sparse_rows::Rows;
+use std::alloc::{AllocError, Global};
+use std::marker::Model;
+
+// The place of the first of these columns that no step leads to and that is in no pair.
+fn sure_place(pivots: &Pivots, levels: &Levels, cols: &[u32]) -> usize
+    requires cols { AreBelow pivots.now.rows.matrix.width cols.now }
+    requires long { length levels.now ≡ pivots.now.rows.matrix.width }
+    ensures high { result ≤ length cols.now }
+    ensures free { result < length cols.now → ¬ HasCol pivots.now.pairs (slice_index cols.now result) }
+    ensures lowest { result < length cols.now → slice_index levels.now (slice_index cols.now result) ≡ 0 }
+{
+    for k in 0..cols.len() {
+        if levels.at(cols[k]) == 0 && pivots.is_free(cols[k]) {
+            return k;
+        }
+    }
+    cols.len()
+}
+
+// The level of a column that is in no pair; 0 at the others.
+fn level_of(pivots: &Pivots, levels: &Levels, c: u32) -> u32
+    requires inside { c < pivots.now.rows.matrix.width }
+    requires long { length levels.now ≡ pivots.now.rows.matrix.width }
+    ensures { (¬ HasCol pivots.now.pairs c) → slice_index levels.now c ≤ result }
+{
+    if pivots.is_free(c) { levels.at(c) } else { 0 }
+}
+
+// The highest level among those of the first columns that are in no pair.
+fn highest(pivots: &Pivots, levels: &Levels, cols: &[u32], end: usize) -> u32
+    requires cols { AreBelow pivots.now.rows.matrix.width cols.now }
+    requires long { length levels.now ≡ pivots.now.rows.matrix.width }
+    requires end { end ≤ length cols.now }
+    ensures { FreeAreLow pivots.now.pairs (IsLow levels.now result) cols.now end }
+{
+    let mut most = 0;
+    for k in 0..end {
+        most = level_of(pivots, levels, cols[k]).max(most);
+    }
+    most
+}
+
+// Marks column j, if it isn't yet and its level is at most the bound.
+fn add_low(levels: &Levels, marks: &mut Marks, j: u32, bound: u32)
+    requires inside { j < marks.old.width }
+    requires long { length levels.now ≡ marks.old.width }
+    ensures width { marks.new.width ≡ marks.old.width }
+    ensures grows { Grows (λ i. i ≡ j) marks.old.list marks.new.list }
+    ensures has { IsLow levels.now bound j → Contains marks.new.list j }
+{
+    if levels.at(j) <= bound {
+        marks.add(j);
+    }
+}
+
+// Marks those of these columns whose level is at most the bound.
+fn add_all_low(levels: &Levels, marks: &mut Marks, cols: &[u32], bound: u32)
+    requires inside { AreBelow marks.old.width cols.now }
+    requires long { length levels.now ≡ marks.old.width }
+    ensures width { marks.new.width ≡ marks.old.width }
+    ensures grows { Grows (Contains cols.now) marks.old.list marks.new.list }
+    ensures all { (j : ℕ) → Contains cols.now j → IsLow levels.now bound j → Contains marks.new.list j }
+{
+    for k in 0..cols.len() {
+        add_low(levels, marks, cols[k], bound);
+    }
+}
+
+// Marks column j where it is pivotal and its level is at most the bound.
+fn begin_one(pivots: &Pivots, levels: &Levels, marks: &mut Marks, j: u32, bound: u32)
+    requires inside { j < pivots.now.rows.matrix.width }
+    requires width { marks.old.width ≡ pivots.now.rows.matrix.width }
+    requires long { length levels.now ≡ pivots.now.rows.matrix.width }
+    ensures width { marks.new.width ≡ marks.old.width }
+    ensures grows { Grows (λ i. (i ≡ j) × HasCol pivots.now.pairs j) marks.old.list marks.new.list }
+    ensures has { HasCol pivots.now.pairs j → IsLow levels.now bound j → Contains marks.new.list j }
+{
+    if let Some(_row) = pivots.find(j) {
+        add_low(levels, marks, j, bound);
+    }
+}
+
+// Marks the pivotal columns of the row's support whose level is at most the bound.
+fn begin_at(pivots: &Pivots, levels: &Levels, marks: &mut Marks, row: u32, bound: u32)
+    requires inside { row < pivots.now.rows.matrix.height }
+    requires width { marks.old.width ≡ pivots.now.rows.matrix.width }
+    requires long { length levels.now ≡ pivots.now.rows.matrix.width }
+    requires none { marks.old.list ≡ [] }
+    ensures width { marks.new.width ≡ marks.old.width }
+    ensures reached { AreReached pivots.now.rows.matrix pivots.now.pairs row marks.new.list }
+    ensures begun { LowAreBegun pivots.now row (IsLow levels.now bound) marks.new.list }
+{
+    let cols = pivots.rows().cols(row);
+    for k in 0..cols.len() {
+        begin_one(pivots, levels, marks, cols[k], bound);
+    }
+}
+
+// Marks what column c leads to in a step, up to the bound's level.
+fn take_up(pivots: &Pivots, levels: &Levels, marks: &mut Marks, c: u32, bound: u32)
+    requires inside { c < pivots.now.rows.matrix.width }
+    requires width { marks.old.width ≡ pivots.now.rows.matrix.width }
+    requires long { length levels.now ≡ pivots.now.rows.matrix.width }
+    ensures width { marks.new.width ≡ marks.old.width }
+    ensures grows { Grows (LeadsTo pivots.now c) marks.old.list marks.new.list }
+    ensures all { LowAreTaken pivots.now c (IsLow levels.now bound) marks.new.list }
+{
+    if let Some(row) = pivots.find(c) {
+        add_all_low(levels, marks, pivots.rows().cols(row), bound);
+    }
+}
+
+// Whether column c is neither marked nor in a pair.
+fn is_left(pivots: &Pivots, marks: &Marks, c: u32) -> bool
+    requires inside { c < pivots.now.rows.matrix.width }
+    requires width { marks.now.width ≡ pivots.now.rows.matrix.width }
+    ensures unmarked { IsTrue result → ¬ Contains marks.now.list c }
+    ensures free { IsTrue result → ¬ HasCol pivots.now.pairs c }
+    ensures no { result ≡ false → IsOut pivots.now.pairs marks.now.list c }
+{
+    if marks.has(c) {
+        return false;
+    }
+    pivots.is_free(c)
+}
+
+// The place of the first of these columns, from `from` on and before `end`, that is neither marked nor in a pair; else `end`.
+fn pass_over(pivots: &Pivots, marks: &Marks, cols: &[u32], from: usize, end: usize) -> usize
+    requires cols { AreBelow pivots.now.rows.matrix.width cols.now }
+    requires width { marks.now.width ≡ pivots.now.rows.matrix.width }
+    requires from { from ≤ end }
+    requires end { end ≤ length cols.now }
+    ensures low { from ≤ result }
+    ensures high { result ≤ end }
+    ensures passed { AllBetween (IsOut pivots.now.pairs marks.now.list) cols.now from result }
+    ensures unmarked { result < end → ¬ Contains marks.now.list (slice_index cols.now result) }
+    ensures free { result < end → ¬ HasCol pivots.now.pairs (slice_index cols.now result) }
+{
+    let mut at = from;
+    while at < end {
+        if is_left(pivots, marks, cols[at]) {
+            return at;
+        }
+        at += 1;
+    }
+    at
+}
+
+// Takes up the marked columns until nothing is left to take up or no candidate before place `sure` is left. Answers the place
+// of the first candidate, or `sure`.
+fn go_on(
+    pivots: &Pivots,
+    levels: &Levels,
+    marks: &mut Marks,
+    row: u32,
+    bound: u32,
+    sure: usize,
+) -> usize
+    requires inside { row < pivots.now.rows.matrix.height }
+    requires width { marks.old.width ≡ pivots.now.rows.matrix.width }
+    requires long { length levels.now ≡ pivots.now.rows.matrix.width }
+    requires sure { sure ≤ row_weight pivots.now.rows.matrix row }
+    requires fresh { ¬ HasRow pivots.now.pairs row }
+    requires rises { IsLevel pivots.now.rows.matrix pivots.now.pairs (slice_index levels.now) }
+    requires low { FreeAreLow pivots.now.pairs (IsLow levels.now bound) (support_of pivots.now row) sure }
+    requires reached { AreReached pivots.now.rows.matrix pivots.now.pairs row marks.old.list }
+    requires begun { LowAreBegun pivots.now row (IsLow levels.now bound) marks.old.list }
+    ensures width { marks.new.width ≡ marks.old.width }
+    ensures before { (k : ℕ) → k < result → ¬ IsAliveAt pivots.now row k }
+    ensures there { result < sure → IsAliveAt pivots.now row result }
+    ensures within { result ≤ sure }
+{
+    let cols = pivots.rows().cols(row);
+    let mut passed = pass_over(pivots, marks, cols, 0, sure);
+    let mut taken = 0;
+    while passed < sure && taken < marks.len() {
+        let c = marks.at(taken);
+        take_up(pivots, levels, marks, c, bound);
+        taken += 1;
+        passed = pass_over(pivots, marks, cols, passed, sure);
+    }
+    passed
+}
+
+// The place in the row's support of its first alive column, or the support's length.
+fn first_alive(pivots: &Pivots, levels: &Levels, marks: &mut Marks, row: u32) -> usize
+    requires inside { row < pivots.now.rows.matrix.height }
+    requires fresh { ¬ HasRow pivots.now.pairs row }
+    requires width { marks.old.width ≡ pivots.now.rows.matrix.width }
+    requires levels { AreLevels pivots.now.rows.matrix pivots.now.pairs levels.now }
+    requires none { marks.old.list ≡ [] }
+    ensures width { marks.new.width ≡ marks.old.width }
+    ensures before { (k : ℕ) → k < result → ¬ IsAliveAt pivots.now row k }
+    ensures there { result < row_weight pivots.now.rows.matrix row → IsAliveAt pivots.now row result }
+    ensures within { result ≤ row_weight pivots.now.rows.matrix row }
+{
+    let cols = pivots.rows().cols(row);
+    let sure = sure_place(pivots, levels, cols);
+    let bound = highest(pivots, levels, cols, sure);
+    begin_at(pivots, levels, marks, row, bound);
+    go_on(pivots, levels, marks, row, bound, sure)
+}
+
+// Pairs of a matrix, with the level of each column: the longest path of steps that leads to it. A column that no step leads to is
+// alive without a walk, and a path to a column goes over lower levels only. Contracts see the matrix and the pairs.
+// It takes 13 bytes a column and 8 bytes a pair that there can be.
+#[derive(Drop)]
+pub(crate) struct LeveledWalk<'a> {
+    pivots: Pivots<'a>,
+    marks: Marks,
+    levels: Levels,
+}
+
+impl<'a> Model for LeveledWalk<'a> {
+    ghost use Rattle.optimistic_search.specs.Indexed.{Indexed};
+    ghost use Rattle.optimistic_search.specs.Levels.{IsAtRest};
+
+    ghost Value = { Indexed };
+
+    ghost view = { λ l. record { rows = l.pivots.rows; pairs = l.pivots.pairs } };
+
+    ghost invariant = { λ l. IsAtRest l.pivots l.marks l.levels };
+}
+
+impl<'a> LeveledWalk<'a> {
+    // No pair.
+    pub(crate) fn new(alloc: Global, rows: &'a Rows) -> Result<Self, AllocError>
+        ensures { IfOk result (λ l. l ≡ record { rows = rows.now; pairs = [] }) }
+    {
+        Ok(LeveledWalk {
+            pivots: Pivots::new(alloc, rows)?,
+            marks: Marks::new(alloc, rows.width())?,
+            levels: Levels::new(alloc, rows.width())?,
+        })
+    }
+
+    // The least alive column of a row; None where it is dead.
+    pub(crate) fn least_alive(&mut self, row: u32) -> Option<u32>
+        requires { row < self.old.rows.matrix.height }
+        ensures same { self.new ≡ self.old }
+        ensures column { IsLeastAlive self.old.rows.matrix self.old.pairs row result }
+    {
+        if !self.pivots.has_candidate(row) {
+            return None;
+        }
+        let cols = self.pivots.rows().cols(row);
+        let at = first_alive(&self.pivots, &self.levels, &mut self.marks, row);
+        self.marks.clear();
+        if at >= cols.len() {
+            return None;
+        }
+        Some(cols[at])
+    }
+
+    // Appends a pair that is alive to a list that is grown.
+    pub(crate) fn push(&mut self, pair: Pair)
+        requires grown { Grown self.old.rows.matrix self.old.pairs }
+        requires alive { Alive self.old.rows.matrix self.old.pairs pair.row pair.col }
+        ensures { self.new ≡ record self.old { pairs = self.old.pairs ++ pair ∷ [] } }
+    {
+        self.pivots.push(pair);
+        self.marks.mark(pair.col);
+        raise_all(&self.pivots, &mut self.levels, &mut self.marks);
+    }
+}

@@ -1,0 +1,79 @@
+// Levels raised until they rise along each step.
+ghost use Rattle.std.specs.Prelude.{◌≡◌, ◌≢◌, ◌<◌, ◌≤◌, ◌+◌, ◌⊎◌, ℕ, [], length, slice_index};
+ghost use Rattle.std.specs.List.{Contains};
+ghost use Rattle.sparse_rows.specs.declared.rows.TheConstants.{LARGEST_SIZE};
+ghost use Rattle.pivot_table.specs.History.{Grown, HasCol};
+ghost use Rattle.optimistic_search.specs.Levels.{AreLevels, AreRaised, AreRaisedBut};
+ghost use Rattle.optimistic_search.specs.Raising.{Stays, work};
+
+use crate::levels::Levels;
+use crate::marks::Marks;
+use crate::pivots::Pivots;
+
+// Raises column d above the level of column c, if need be, where d stands in the row of the pair in column c. A column that is
+// raised is marked.
+fn raise_column(pivots: &Pivots, levels: &mut Levels, marks: &mut Marks, c: u32, level: u32, d: u32)
+    requires width { marks.old.width ≡ pivots.now.rows.matrix.width }
+    requires long { length levels.old ≡ pivots.now.rows.matrix.width }
+    requires inside { d < pivots.now.rows.matrix.width }
+    requires level { slice_index levels.old c ≡ level }
+    requires low { level < length pivots.now.pairs }
+    requires few { length pivots.now.pairs ≤ LARGEST_SIZE }
+    requires fresh { ¬ Contains marks.old.list c }
+    ensures width { marks.new.width ≡ marks.old.width }
+    ensures kept { (e : ℕ) → Contains marks.old.list e → Contains marks.new.list e }
+    ensures fresh { ¬ Contains marks.new.list c }
+    ensures others { (e : ℕ) → e ≢ d → slice_index levels.new e ≡ slice_index levels.old e }
+    ensures long { length levels.new ≡ length levels.old }
+    ensures raised { slice_index levels.old d ≤ slice_index levels.new d }
+    ensures own { d ≢ c → level < slice_index levels.new d }
+    ensures same { d ≡ c → slice_index levels.new d ≡ slice_index levels.old d }
+    ensures by_one { Stays levels.old levels.new d ⊎ (slice_index levels.new d ≡ level + 1) }
+    ensures marked { Stays levels.old levels.new d ⊎ (HasCol pivots.now.pairs d → Contains marks.new.list d) }
+    ensures work { work pivots.now levels.new marks.new ≤ work pivots.now levels.old marks.old }
+{
+    if d == c || levels.at(d) > level {
+        return;
+    }
+    levels.put(d, level + 1);
+    if let Some(_row) = pivots.find(d) {
+        marks.add(d);
+    }
+}
+
+// Raises what column c leads to in a step above c.
+fn raise_steps(pivots: &Pivots, levels: &mut Levels, marks: &mut Marks, c: u32)
+    requires grown { Grown pivots.now.rows.matrix pivots.now.pairs }
+    requires inside { c < pivots.now.rows.matrix.width }
+    requires width { marks.old.width ≡ pivots.now.rows.matrix.width }
+    requires fresh { ¬ Contains marks.old.list c }
+    requires levels { AreRaisedBut pivots.now c levels.old marks.old.list }
+    ensures width { marks.new.width ≡ marks.old.width }
+    ensures levels { AreRaised pivots.now.rows.matrix pivots.now.pairs levels.new marks.new.list }
+    ensures work { work pivots.now levels.new marks.new ≤ work pivots.now levels.old marks.old }
+{
+    let level = levels.at(c);
+    if let Some(row) = pivots.find(c) {
+        // Tells that there are few rows, and so few pairs.
+        let rows = pivots.rows();
+        let _ = rows.height();
+        let cols = rows.cols(row);
+        for k in 0..cols.len() {
+            raise_column(pivots, levels, marks, c, level, cols[k]);
+        }
+    }
+}
+
+// Raises levels until they rise along each step.
+pub(crate) fn raise_all(pivots: &Pivots, levels: &mut Levels, marks: &mut Marks)
+    requires grown { Grown pivots.now.rows.matrix pivots.now.pairs }
+    requires width { marks.old.width ≡ pivots.now.rows.matrix.width }
+    requires levels { AreRaised pivots.now.rows.matrix pivots.now.pairs levels.old marks.old.list }
+    ensures width { marks.new.width ≡ marks.old.width }
+    ensures none { marks.new.list ≡ [] }
+    ensures levels { AreLevels pivots.now.rows.matrix pivots.now.pairs levels.new }
+{
+    while let Some(c) = marks.pop() {
+        raise_steps(pivots, levels, marks, c);
+    }
+}

@@ -1,0 +1,163 @@
+// The walk on the example of histories, and both searches on small matrices.
+ghost use Rattle.sparse_rows.specs.declared.rows.TheConstants.{LARGEST_SIZE};
+ghost use Rattle.std.specs.Prelude.{◌≡◌, ◌<◌, ◌≤◌, ◌+◌, [], None, IfOk};
+ghost use Rattle.pivot_table.specs.Example.{example};
+
+use crate::{Open, Steps, Walk, search, search_by_walk};
+use pivot_table::Book;
+use residue_words::Modulus;
+use residue_words::plain::Pair;
+use sparse_rows::{Rows, RowsBuilder};
+use std::alloc::{AllocError, Global};
+use std::marker::Brand;
+use std::sync::ledger::{Blank, Ledger};
+use std::test::Fail;
+use std::thread::Threads;
+
+// The rows (1, 0, 0), (1, 1, 1) and (1, 1, 2) modulo 7.
+fn example_rows(alloc: Global) -> Result<Rows, AllocError>
+    ensures { IfOk result (λ rows. rows.matrix ≡ example) }
+{
+    let mut builder = RowsBuilder::new(alloc, 3, 3, Modulus::new(7))?;
+    builder.push(0, 0, 1)?;
+    builder.push(1, 0, 1)?;
+    builder.push(1, 1, 1)?;
+    builder.push(1, 2, 1)?;
+    builder.push(2, 0, 1)?;
+    builder.push(2, 1, 1)?;
+    builder.push(2, 2, 2)?;
+    builder.finish()
+}
+
+// What is alive least for row 1 with the pair (0, 0), and then once row 2 has the column 1: the first takes at most 4 steps, the
+// second at most 3 more, and the pair (0, 0) none.
+fn overtaken<L: Ledger>(walk: &mut Walk, steps: &mut Steps<L>) -> [Option<u32>; 2]
+    requires matrix { walk.old.rows.matrix ≡ example }
+    requires pairs { walk.old.pairs ≡ [] }
+    requires closed { walk.old.current ≡ None }
+    ensures { steps.new ≤ steps.old + 7 }
+{
+    walk.extend(Pair { row: 0, col: 0 }, steps);
+    walk.begin(1, steps);
+    let first = walk.least_alive();
+    walk.extend(Pair { row: 2, col: 1 }, steps);
+    [first, walk.least_alive()]
+}
+
+// The same with a count of its own.
+fn answers<L: Ledger>(alloc: Global, blank: Blank) -> Result<[Option<u32>; 2], AllocError>
+    requires name { blank.name ≡ L.name }
+    requires parts { blank.parts ≡ L.parts }
+    requires some { 0 < blank.parts }
+{
+    let rows = example_rows(alloc)?;
+    let mut walk = Walk::new(alloc, &rows)?;
+    let mut steps = Steps::<L>::new(blank);
+    Ok(overtaken(&mut walk, &mut steps))
+}
+
+#[test]
+fn a_walk_is_carried_on(rt: HostRuntime) -> Result<(), Fail> {
+    let found = answers::<Brand>(rt.alloc(), Blank::new(1))?;
+    assert_eq!(rt; found[0], Some(1));
+    assert_eq!(rt; found[1], None);
+    Ok(())
+}
+
+// The matrix of m x n modulo 7 with a 1 at each of these places that lies inside.
+fn ones(alloc: Global, m: u32, n: u32, places: &[(u32, u32)]) -> Result<Rows, AllocError>
+    requires height { m ≤ LARGEST_SIZE }
+    requires width { n ≤ LARGEST_SIZE }
+{
+    let mut builder = RowsBuilder::new(alloc, m, n, Modulus::new(7))?;
+    for (i, j) in places {
+        if *i < m && *j < n {
+            builder.push(*i, *j, 1)?;
+        }
+    }
+    builder.finish()
+}
+
+// Places in no order, from a linear congruential generator.
+fn scattered(alloc: Global, count: u32, seed: u32) -> Result<Vec<(u32, u32)>, AllocError> {
+    let mut places = Vec::new(alloc);
+    let mut state = seed;
+    for _ in 0..count {
+        let row = state.wrapping_mul(1_664_525).wrapping_add(1_013_904_223);
+        state = row.wrapping_mul(1_664_525).wrapping_add(1_013_904_223);
+        places.push((row >> 27, state >> 27))?;
+    }
+    Ok(places)
+}
+
+// Whether rooks on these squares of a board of 4 x 4 leave each other alone.
+fn are_apart(a: u32, b: u32) -> bool {
+    a / 4 != b / 4 && a % 4 != b % 4
+}
+
+// The faces of three rooks with their pairs: the boundary map of the chessboard complex of 4 x 4, where each pair of squares
+// has a column.
+fn chessboard(alloc: Global) -> Result<Vec<(u32, u32)>, AllocError> {
+    let mut places = Vec::new(alloc);
+    let mut face = 0u32;
+    for a in 0..16u32 {
+        for b in a..16u32 {
+            for c in b..16u32 {
+                if are_apart(a, b) && are_apart(a, c) && are_apart(b, c) {
+                    places.push((face, a * 16 + b))?;
+                    places.push((face, a * 16 + c))?;
+                    places.push((face, b * 16 + c))?;
+                    face = face.wrapping_add(1);
+                }
+            }
+        }
+    }
+    Ok(places)
+}
+
+// How many pairs the search finds, if the search by walks finds the same and a search of what was found finds no more.
+fn agreed<R: Threads + Sync>(
+    rt: &R,
+    alloc: Global,
+    rows: &Rows,
+) -> Result<Option<usize>, AllocError> {
+    let found = search(rt, alloc, Book::empty(alloc, rows)?, 1, &Open)?;
+    let walked = search_by_walk(alloc, Book::empty(alloc, rows)?)?;
+    let many = found.pairs().len();
+    if found.pairs() != walked.pairs() {
+        return Ok(None);
+    }
+    let again = search(rt, alloc, found, 64, &Open)?;
+    if again.pairs() != walked.pairs() {
+        return Ok(None);
+    }
+    Ok(Some(many))
+}
+
+#[test]
+fn the_example_has_two_pairs(rt: HostRuntime) -> Result<(), Fail> {
+    let rows = example_rows(rt.alloc())?;
+    let book = search(&rt, rt.alloc(), Book::empty(rt.alloc(), &rows)?, 1, &Open)?;
+    let wanted = [Pair { row: 0, col: 0 }, Pair { row: 1, col: 1 }];
+    assert_eq!(rt; book.pairs(), wanted.as_slice());
+    Ok(())
+}
+
+#[test]
+fn both_searches_agree(rt: HostRuntime) -> Result<(), Fail> {
+    let alloc = rt.alloc();
+    let faces = chessboard(alloc)?;
+    assert!(rt; agreed(&rt, alloc, &ones(alloc, 96, 256, &faces)?)?.is_some());
+    for (m, n, count) in &[
+        (0u32, 0u32, 0u32),
+        (1, 1, 1),
+        (5, 0, 3),
+        (32, 32, 60),
+        (32, 20, 150),
+        (16, 32, 90),
+    ] {
+        let places = scattered(alloc, *count, *m)?;
+        assert!(rt; agreed(&rt, alloc, &ones(alloc, *m, *n, &places)?)?.is_some());
+    }
+    Ok(())
+}

@@ -1,5 +1,0 @@
-use Rattle.pivot_table.proofs.Example.{worked}
-use Rattle.pivot_table.proofs.example_is_worked.Goals as goal
-
-pub returns : goal.returns
-returns c = worked

@@ -1,0 +1,25 @@
+-- Line by line.
+use Rattle.std.proofs.Common.{length, refl, sym, ap, ◌∙◌}
+use Rattle.std.proofs.lemmas.Result.{err_from_is_err_and}
+use Rattle.sms_text.proofs.WrittenRows.{added_nothing, added_more, added_fault, added_all, entry_lines_from, entry_lines_end, row_text_is}
+use Rattle.sms_text.proofs.writing_rows.add_row.Goals as goal
+
+pub loop-k-init : goal.loop-k-init
+loop-k-init g c = added_nothing _ _ _ _ refl
+
+pub loop-k-preserved : goal.loop-k-preserved
+loop-k-preserved g c =
+    added_more _ _ _ _ _ _ _ (entry_lines_from c.args.i c.loop-k.k c.cols-cols.result.now c.vals-vals.result.now c.loop-k-test.true (c.vals-vals.ensures.same_length ∙ sym (ap length c.cols-cols.ensures.support)))
+    c.loop-k.invariant c.in_ok-add_entry.ensures
+
+pub returns-in_err-add_entry : goal.returns-in_err-add_entry
+returns-in_err-add_entry g c =
+    let fault = err_from_is_err_and c.from_residual.result c.from_residual.ensures.1 in
+    rw (fault.1, row_text_is _ _ _ c.cols-cols.result.now c.vals-vals.result.now c.requires.sound c.requires.row c.cols-cols.ensures.support c.vals-vals.ensures.values)
+    (added_fault _ _ _ _ _ _ _ _ (entry_lines_from c.args.i c.loop-k.k c.cols-cols.result.now c.vals-vals.result.now c.loop-k-test.true (c.vals-vals.ensures.same_length ∙ sym (ap length c.cols-cols.ensures.support)))
+    c.loop-k.invariant c.in_err-add_entry.ensures)
+
+pub returns : goal.returns
+returns g c =
+    rw (row_text_is _ _ _ c.cols-cols.result.now c.vals-vals.result.now c.requires.sound c.requires.row c.cols-cols.ensures.support c.vals-vals.ensures.values)
+    (added_all _ _ _ _ (entry_lines_end c.args.i c.loop-k.k _ _ c.loop-k-test.false) c.loop-k.invariant)

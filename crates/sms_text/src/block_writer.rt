@@ -1,0 +1,109 @@
+// A buffer in front of a sink.
+ghost use Rattle.std.specs.Prelude.{◌≡◌, ℕ, ◌+◌, ◌≤◌, List, [], length};
+ghost use Rattle.sms_text.specs.Writing.{Writes, Adds, output};
+ghost use Rattle.std.specs.Fmt.{decimal};
+ghost use Rattle.sms_text.specs.Written.{head_line, entry_line, pair_line, end_line};
+
+use crate::short_bytes::ShortBytes;
+use crate::stream::Sink;
+use crate::write::{WriteFault, entry, head, pair, put_all};
+use itoa::Buffer;
+use std::marker::Model;
+
+/// Bytes on their way to one sink, which reach it in blocks of more than 4,096 bytes and a last one of what is left. It takes no memory.
+/// After a fault what was waiting is given up, and the sink has a first part of what was written.
+#[derive(Debug, Drop)]
+pub struct BlockWriter {
+    waiting: ShortBytes<8192>,
+}
+
+impl Model for BlockWriter {
+    ghost Value = { List ℕ };
+
+    ghost view = { λ b. b.waiting };
+}
+
+impl BlockWriter {
+    /// Nothing is waiting.
+    pub fn new() -> BlockWriter
+        ensures { result ≡ [] }
+    {
+        BlockWriter {
+            waiting: ShortBytes::new(),
+        }
+    }
+
+    /// Sends what is waiting.
+    pub fn send<K: Sink>(&mut self, out: &mut K) -> Result<(), WriteFault>
+        ensures did { Writes result self.old (K.state out.old) (K.state out.new) }
+        ensures empty { self.new ≡ [] }
+    {
+        let sent = put_all(out, self.waiting.bytes());
+        self.waiting.clear();
+        sent
+    }
+
+    /// Adds a piece of at most 4,096 bytes. Nothing goes to the sink as long as there is room for 8,192 bytes.
+    pub fn add<K: Sink>(&mut self, out: &mut K, piece: &[u8]) -> Result<(), WriteFault>
+        requires { length piece.now ≤ 4096 }
+        ensures did { Adds result piece.now
+            (output self.old (K.state out.old)) (output self.new (K.state out.new)) }
+        ensures lazy { length self.old + length piece.now ≤ 8192 → out.new ≡ out.old }
+    {
+        if self.waiting.room() < piece.len() {
+            self.send(out)?;
+        }
+        self.waiting.push(piece);
+        Ok(())
+    }
+
+    /// Adds the header line of a matrix with m rows and n columns.
+    pub fn add_head<K: Sink>(&mut self, out: &mut K, m: u32, n: u32) -> Result<(), WriteFault>
+        ensures { Adds result (head_line m n)
+            (output self.old (K.state out.old)) (output self.new (K.state out.new)) }
+    {
+        let line = head(m, n);
+        self.add(out, line.bytes())
+    }
+
+    /// Adds the line of the value v at row i and column j, counted from 1.
+    pub fn add_entry<K: Sink>(
+        &mut self,
+        out: &mut K,
+        i: u32,
+        j: u32,
+        v: u64,
+    ) -> Result<(), WriteFault>
+        ensures { Adds result (entry_line i j v)
+            (output self.old (K.state out.old)) (output self.new (K.state out.new)) }
+    {
+        let line = entry(i, j, v);
+        self.add(out, line.bytes())
+    }
+
+    /// Adds a number in decimal.
+    pub fn add_number<K: Sink>(&mut self, out: &mut K, n: u64) -> Result<(), WriteFault>
+        ensures { Adds result (decimal n)
+            (output self.old (K.state out.old)) (output self.new (K.state out.new)) }
+    {
+        let mut digits = Buffer::new();
+        self.add(out, digits.format(n).as_bytes())
+    }
+
+    /// Adds a line of two numbers.
+    pub fn add_pair<K: Sink>(&mut self, out: &mut K, i: u32, j: u32) -> Result<(), WriteFault>
+        ensures { Adds result (pair_line i j)
+            (output self.old (K.state out.old)) (output self.new (K.state out.new)) }
+    {
+        let line = pair(i, j);
+        self.add(out, line.bytes())
+    }
+
+    /// Adds the closing line.
+    pub fn add_end<K: Sink>(&mut self, out: &mut K) -> Result<(), WriteFault>
+        ensures { Adds result end_line
+            (output self.old (K.state out.old)) (output self.new (K.state out.new)) }
+    {
+        self.add(out, b"0 0 0\n")
+    }
+}

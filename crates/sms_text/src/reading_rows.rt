@@ -1,0 +1,58 @@
+// Texts read as matrices.
+ghost use Rattle.std.specs.Prelude.{◌≡◌, ◌≤◌, None, IfOk};
+ghost use Rattle.sms_text.specs.declared.reader.TheConstants.{LARGEST_TEXT_SIZE};
+ghost use Rattle.sms_text.specs.Reading.{input};
+ghost use Rattle.sms_text.specs.ReadingRows.{RowsDid};
+
+use crate::kind::TextError;
+use crate::reader::Reader;
+use crate::stream::Source;
+use residue_words::Modulus;
+use sparse_rows::{Rows, RowsBuilder};
+use std::alloc::Global;
+
+/// Reads a text, from its header to its closing line, as a matrix modulo p: values given for one place are summed.
+///
+/// What stands behind the text is left for the next call. After a fault of the text or of the source the reader answers this error from
+/// then on. After want of memory it does so too, if it was the reader that wanted memory; if it was the matrix, the reader stands
+/// behind the last line that it took, where `open_text` says whether the text is still open.
+///
+/// Memory is wanted for the entries, 16 bytes each and 36 for a moment where their room grows, and then for the matrix beside them; the
+/// time is that of reading the lines and of sorting each row.
+pub fn read_rows<S: Source>(
+    reader: &mut Reader,
+    alloc: Global,
+    source: &mut S,
+    p: &Modulus,
+) -> Result<Rows, TextError>
+    requires { reader.old.open_text ≡ None }
+    ensures did { RowsDid p.now
+        (input reader.old (S.state source.old)) (input reader.new (S.state source.new)) result }
+    ensures closed { IfOk result (λ rows. reader.new.open_text ≡ None) }
+    ensures height { IfOk result (λ rows. rows.matrix.height ≤ LARGEST_TEXT_SIZE) }
+    ensures width { IfOk result (λ rows. rows.matrix.width ≤ LARGEST_TEXT_SIZE) }
+{
+    let head = match reader.header(source) {
+        Ok(head) => head,
+        Err(error) => return Err(error),
+    };
+    let Ok(mut builder) = RowsBuilder::new(alloc, head.m, head.n, *p) else {
+        return Err(TextError::Memory);
+    };
+    loop {
+        match reader.entry(source, &head, p) {
+            Ok(Some(entry)) => {
+                if builder.push(entry.i, entry.j, entry.v).is_err() {
+                    return Err(TextError::Memory);
+                }
+            }
+            Ok(None) => {
+                return match builder.finish() {
+                    Ok(rows) => Ok(rows),
+                    Err(_) => Err(TextError::Memory),
+                };
+            }
+            Err(error) => return Err(error),
+        }
+    }
+}

@@ -1,0 +1,10 @@
+use Rattle.std.proofs.Common.{ℕ, ◌≡◌, ◌+◌, ◌∙◌, List, [], ◌∷◌, ◌++◌, ap, ap₂, arith, length, slice_index, sym, take}
+use Rattle.std.proofs.lemmas.List.{length-take-le, take_all, take_more}
+use Rattle.sparse_rows.specs.declared.cells.Cell.{Cell}
+use Rattle.sparse_rows.specs.Cells.{renumbered}
+use Rattle.sparse_rows.proofs.Renumbering.{renumbered_next}
+use Rattle.sparse_rows.proofs.cells.renumbered.Goals as goal
+
+pub loop-k-preserved : goal.loop-k-preserved
+loop-k-preserved c =
+    renumbered_next c.args.rows.now c.args.cells.now c.loop-k.k _ _ _ _ _ c.requires c.loop-k-test.true c.loop-k.invariant c.in_ok-push.ensures.items c.new.ensures.place c.new.ensures.val c.column.ensures

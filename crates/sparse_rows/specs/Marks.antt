@@ -1,0 +1,46 @@
+-- Lists of which few items are not 0, and marks by bits.
+use Rattle.std.specs.Prelude.{◌≡◌, ◌≢◌, ◌<◌, ◌≤◌, ◌+◌, ◌*◌, ◌/◌, ◌%◌, ℕ, List, length, slice_index, slice_set}
+use Rattle.std.specs.Int.{bit_at}
+use Rattle.residue_words.specs.Matrix.{list_of}
+
+-- nothing stands in the list but zeros
+abbrev pub AllZero : List ℕ → Type 0
+AllZero xs = (j : ℕ) → j < length xs → slice_index xs j ≡ 0
+
+-- v is the first item that is not 0; it stands at c and is taken away
+pub record TakesFirst (old new : List ℕ) (c v : ℕ) : Type 0 where
+  pub inside : c < length old
+  pub value : v ≡ slice_index old c
+  pub nonzero : v ≢ 0
+  pub before : (j : ℕ) → j < c → slice_index old j ≡ 0
+  pub after : new ≡ slice_set old c 0
+
+-- column j has the first mark
+pub record IsFirstMark (marks : List ℕ) (j : ℕ) : Type 0 where
+  pub inside : j < length marks
+  pub marked : slice_index marks j ≡ 1
+  pub before : (i : ℕ) → i < j → slice_index marks i ≡ 0
+
+-- bit j of words of 64 bits
+abbrev pub bit : List ℕ → ℕ → ℕ
+bit words j = bit_at (slice_index words (j / 64)) (j % 64)
+
+-- the first n bits
+abbrev pub marks_of : ℕ → List ℕ → List ℕ
+marks_of n words = list_of n (bit words)
+
+-- bit k of a word is set, and none below it
+pub record IsLowest (word k : ℕ) : Type 0 where
+  pub below : k < 64
+  pub one : bit_at word k ≡ 1
+  pub before : (i : ℕ) → i < k → bit_at word i ≡ 0
+
+-- n bits; above them a bit for each word that is not 0, and none in the words before `first`
+pub record IsMarks (n : ℕ) (words tops : List ℕ) (first : ℕ) : Type 0 where
+  pub long : n ≤ 64 * length words
+  pub tops_long : length words ≤ 64 * length tops
+  pub short : length tops ≤ n + 1
+  pub inside : (j : ℕ) → bit words j ≡ 1 → j < n
+  pub raised : (w : ℕ) → slice_index words w ≢ 0 → bit tops w ≡ 1
+  pub exact : (w : ℕ) → bit tops w ≡ 1 → slice_index words w ≢ 0
+  pub behind : (u : ℕ) → u < first → slice_index tops u ≡ 0

@@ -1,0 +1,43 @@
+-- A matrix whose rows are all stored, or only those that have an entry.
+use Rattle.std.specs.Prelude.{◌≡◌, ◌<◌, ◌≤◌, ◌+◌, ◌==◌, if◌then◌else◌, ℕ, Bool, true, false, List, [], ◌∷◌, length, map, slice_index}
+use Rattle.std.specs.List.{range_with_len}
+use Rattle.residue_words.specs.Matrix.{Matrix, row, zeros}
+use Rattle.sparse_rows.specs.declared.rows.TheConstants.{LARGEST_SIZE}
+use Rattle.sparse_rows.specs.Rows.{AreRising, AreZeroFrom, IsFilled, IsZeroRow}
+
+-- row i, where the rows of A from row k on stand at these rows, and zeros elsewhere
+abbrev pub row_among : Matrix → ℕ → List ℕ → ℕ → List ℕ
+row_among A k [] i = zeros A.width
+row_among A k (r ∷ rs) i = if r == i then row A k else row_among A (k + 1) rs i
+
+-- the matrix of m rows that has the rows of A at these rows, and zeros elsewhere
+abbrev pub expanded : ℕ → List ℕ → Matrix → Matrix
+expanded m rows A = record { height = m; width = A.width; rows = map (row_among A 0 rows) (range_with_len 0 m) }
+
+-- the rows of A stand at these rows of a matrix of m rows, and each has an entry
+pub record AreNamed (m : ℕ) (rows : List ℕ) (A : Matrix) : Type 0 where
+  pub rising : AreRising rows
+  pub below : (k : ℕ) → k < length rows → slice_index rows k < m
+  pub many : length rows ≡ A.height
+  pub filled : (k : ℕ) → k < length rows → IsFilled A k
+
+-- the matrix of which each row is stored as it is in A, or only those that have an entry
+abbrev pub placed : Bool → ℕ → List ℕ → Matrix → Matrix
+placed true m rows A = A
+placed false m rows A = expanded m rows A
+
+-- what is stored of a matrix of m rows
+abbrev pub IsPlaced : Bool → ℕ → List ℕ → Matrix → Type 0
+IsPlaced true m rows A = (m ≤ LARGEST_SIZE) × (m ≡ A.height)
+IsPlaced false m rows A = (m ≤ LARGEST_SIZE) × AreNamed m rows A
+
+-- neither A nor B has an entry from row `from` on
+abbrev pub AreBothZeroFrom : Matrix → Matrix → ℕ → Type 0
+AreBothZeroFrom A B from = AreZeroFrom A from × AreZeroFrom B from
+
+-- neither has one from there up to row i
+pub record IsNextInEither (A B : Matrix) (from i : ℕ) : Type 0 where
+  pub low : from ≤ i
+  pub below : i < A.height
+  pub left : (k : ℕ) → from ≤ k → k < i → IsZeroRow A k
+  pub right : (k : ℕ) → from ≤ k → k < i → IsZeroRow B k

@@ -1,0 +1,66 @@
+-- A command has one answer: what its text tells is unique, and just one of two things can be told.
+use Rattle.std.proofs.Common.{ℕ, ◌≡◌, ◌≤◌, ◌++◌, inl, inr, List, [], ◌∷◌, None, refl, sym, ap, ◌∙◌, arith}
+use Rattle.std.specs.Prelude.{codes}
+use Rattle.std.proofs.lemmas.Bool.Decides.{nat_tests}
+use Rattle.residue_words.specs.Matrix.{Matrix, row}
+use Rattle.row_space.proofs.InverseLaws.{inverse_unique}
+use Rattle.row_space.proofs.Unique.{kernel_unique, rank_unique, refutation_unique, rref_unique, solution_unique}
+use Rattle.kernel_solve.specs.Column.{column, column_of}
+use Rattle.sms_text.specs.Written.{text_of}
+use Rattle.sparse_rows.specs.Rows.{transposed}
+use Rattle.spasm_run.specs.declared.words.Task.TheVariants as task
+use Rattle.spasm_run.specs.Answers.{InvertsTo, IsOneAnswer, SolvesTo, as_row, misfit, pivots_text, rank_text}
+
+-- a system's answer
+one_solution : (p : ℕ) (A : Matrix) (b x y : List ℕ) → 2 ≤ p → SolvesTo p A b x → SolvesTo p A b y → x ≡ y
+one_solution p A b x y two (inl s) (inl t) =
+    let same : s.0 ≡ t.0 = solution_unique p A b s.0 t.0 two s.1 t.1 in
+    s.2 ∙ ap (λ v. codes "solution\n" ++ text_of (column_of v)) same ∙ sym t.2
+one_solution p A b x y two (inl s) (inr t) = absurd (t.1 s.0 s.1.solves)
+one_solution p A b x y two (inr s) (inl t) = absurd (s.1 t.0 t.1.solves)
+one_solution p A b x y two (inr s) (inr t) =
+    let same : s.0 ≡ t.0 = refutation_unique p A b s.0 t.0 two s.2 t.2 in
+    s.3 ∙ ap (λ v. codes "no solution\n" ++ text_of (as_row v)) same ∙ sym t.3
+
+-- the answer to an inverse
+one_inverse : (p : ℕ) (A : Matrix) (x y : List ℕ) → 2 ≤ p → A.height ≡ A.width → InvertsTo p A x → InvertsTo p A y → x ≡ y
+one_inverse p A x y two square (inl s) (inl t) =
+    let same : s.0 ≡ t.0 = inverse_unique p A s.0 t.0 two square s.1 t.1 in s.2 ∙ ap (λ B. codes "inverse\n" ++ text_of B) same ∙ sym t.2
+one_inverse p A x y two square (inl s) (inr t) = absurd (t.1 s.0 s.1)
+one_inverse p A x y two square (inr s) (inl t) = absurd (s.1 t.0 t.1)
+one_inverse p A x y two square (inr s) (inr t) =
+    let same : s.0 ≡ t.0 = kernel_unique p A s.0 t.0 two s.2 t.2 in
+    s.4 ∙ ap (λ K. codes "singular\n" ++ text_of (as_row (row K 0))) same ∙ sym t.4
+
+one_kernel : (p : ℕ) (A K L : Matrix) (x y : List ℕ) → K ≡ L → x ≡ text_of K → y ≡ text_of L → x ≡ y
+one_kernel p A K L x y same a b = a ∙ ap text_of same ∙ sym b
+
+squared : (A : Matrix) → misfit task.Inverse (A ∷ []) ≡ None → A.height ≡ A.width
+squared A fits = grind (arith, nat_tests)
+
+pub one_answer : IsOneAnswer
+one_answer task.Rank p w (A ∷ []) x y two fits alone (r, s, a) (q, t, b) = a ∙ ap rank_text (rank_unique p A r q two s t) ∙ sym b
+one_answer task.Rref p w (A ∷ []) x y two fits alone (E, s, a) (F, t, b) = one_kernel p A E F x y (rref_unique p A E F two s t) a b
+one_answer task.Kernel p w (A ∷ []) x y two fits alone (K, s, a) (L, t, b) = one_kernel p A K L x y (kernel_unique p A K L two s t) a b
+one_answer task.Solve p w (A ∷ B ∷ []) x y two fits alone s t = one_solution p A (column B) x y two s t
+one_answer task.LeftKernel p w (A ∷ []) x y two fits alone (K, s, a) (L, t, b) =
+    one_kernel p A K L x y (kernel_unique p (transposed A) K L two s t) a b
+one_answer task.Inverse p w (A ∷ []) x y two fits alone s t = one_inverse p A x y two (squared A fits) s t
+one_answer task.Rank p w [] x y two fits alone s t = absurd s
+one_answer task.Rank p w (A ∷ B ∷ values) x y two fits alone s t = absurd s
+one_answer task.Rref p w [] x y two fits alone s t = absurd s
+one_answer task.Rref p w (A ∷ B ∷ values) x y two fits alone s t = absurd s
+one_answer task.Kernel p w [] x y two fits alone s t = absurd s
+one_answer task.Kernel p w (A ∷ B ∷ values) x y two fits alone s t = absurd s
+one_answer task.Solve p w [] x y two fits alone s t = absurd s
+one_answer task.Solve p w (A ∷ []) x y two fits alone s t = absurd s
+one_answer task.Solve p w (A ∷ B ∷ C ∷ values) x y two fits alone s t = absurd s
+one_answer task.LeftKernel p w [] x y two fits alone s t = absurd s
+one_answer task.LeftKernel p w (A ∷ B ∷ values) x y two fits alone s t = absurd s
+one_answer task.Inverse p w [] x y two fits alone s t = absurd s
+one_answer task.Inverse p w (A ∷ B ∷ values) x y two fits alone s t = absurd s
+one_answer task.Pivots p w (A ∷ []) x y two fits alone (qs, s, a) (rs, t, b) =
+    let one : w ≡ 1 = alone refl in
+    a ∙ ap pivots_text (selection_one A qs rs (s.alone one) (t.alone one)) ∙ sym b
+one_answer task.Pivots p w [] x y two fits alone s t = absurd s
+one_answer task.Pivots p w (A ∷ B ∷ values) x y two fits alone s t = absurd s

@@ -1,9 +1,0 @@
--- The input is a text of one matrix, or not.
-use Rattle.spasm_run.proofs.Taken.{one_read, taking_nothing}
-use Rattle.spasm_run.proofs.input.read_one.Goals as goal
-
-pub returns-in_default-clause-did : goal.returns-in_default-clause-did
-returns-in_default-clause-did g c = taking_nothing _ _ tt
-
-pub returns-clause-did : goal.returns-clause-did
-returns-clause-did g c = one_read _ _ c.in-Ok.reader _ _ _ _ _ _ c.in-Ok.ensures c.read_rows.ensures.did

@@ -1,0 +1,89 @@
+-- What is found for matrices and for words: an answer, or the status with which a run ends.
+use Rattle.std.specs.Prelude.{◌≡◌, ◌<◌, ℕ, List, ◌++◌, Bool, false, Some, None, Result, Ok, Err, All, codes}
+use Rattle.residue_words.specs.Residues.{IsPrime}
+use Rattle.residue_words.specs.Matrix.{Matrix, IsMatrix, IsVector}
+use Rattle.residue_words.specs.declared.plain.Pair.{Pair}
+use Rattle.sparse_rows.specs.Rows.{beside}
+use Rattle.sparse_rows.specs.declared.rows.TheConstants.{LARGEST_SIZE}
+use Rattle.kernel_solve.specs.Column.{column}
+use Rattle.kernel_solve.specs.declared.systems.Found.{Found}
+use Rattle.kernel_solve.specs.Found.{Answers}
+use Rattle.sms_text.specs.Reading.{Draws, untouched}
+use Rattle.sms_text.specs.Stream.{SourceState}
+use Rattle.sms_text.specs.Written.{text_of}
+use Rattle.spasm_run.specs.declared.answer.Answer.{Answer}
+use Rattle.spasm_run.specs.declared.answer.Answer.TheVariants as answer
+use Rattle.spasm_run.specs.declared.status.Status.{Status}
+use Rattle.spasm_run.specs.declared.status.Status.TheVariants as status
+use Rattle.spasm_run.specs.declared.words.Task.{Task}
+use Rattle.spasm_run.specs.Answers.{AnswerOf, misfit, pivots_text, rank_text}
+use Rattle.spasm_run.specs.Input.{Input, supply_behind}
+use Rattle.spasm_run.specs.Ran.{AreTooFew, HasNoAnswer, IsAnswered}
+use Rattle.spasm_run.specs.Status.{is_unread}
+
+-- the text of an answer
+abbrev pub answer_text : Answer → List ℕ
+answer_text (answer.Rank r) = rank_text r
+answer_text (answer.Matrix A) = text_of A.matrix
+answer_text (answer.Solution x) = codes "solution\n" ++ text_of x.matrix
+answer_text (answer.Refutation y) = codes "no solution\n" ++ text_of y.matrix
+answer_text (answer.Inverse B) = codes "inverse\n" ++ text_of B.matrix
+answer_text (answer.Singular v) = codes "singular\n" ++ text_of v.matrix
+answer_text (answer.Pivots pairs) = pivots_text pairs.items
+
+-- the sizes of its matrix can be written
+abbrev pub HasSmallSizes : Matrix → Type 0
+HasSmallSizes A = (A.height < LARGEST_SIZE) × (A.width < LARGEST_SIZE)
+
+-- its row and its column can be written
+abbrev pub IsSmallPlace : Pair → Type 0
+IsSmallPlace q = (q.row < LARGEST_SIZE) × (q.col < LARGEST_SIZE)
+
+abbrev pub IsSmall : Answer → Type 0
+IsSmall (answer.Rank r) = Unit {0}
+IsSmall (answer.Matrix A) = HasSmallSizes A.matrix
+IsSmall (answer.Solution x) = HasSmallSizes x.matrix
+IsSmall (answer.Refutation y) = HasSmallSizes y.matrix
+IsSmall (answer.Inverse B) = HasSmallSizes B.matrix
+IsSmall (answer.Singular v) = HasSmallSizes v.matrix
+IsSmall (answer.Pivots pairs) = All IsSmallPlace pairs.items
+
+-- the answer to a task for these matrices, which are of the shapes that are wanted
+pub record IsAnswerTo (t : Task) (p workers : ℕ) (values : List Matrix) (a : Answer) : Type 0 where
+  pub small : IsSmall a
+  pub fits : misfit t values ≡ None
+  pub answers : IsPrime p → AnswerOf t p workers values (answer_text a)
+
+-- what is found for the system S: for a prime modulus the solution of A x = b, or that there is none, where S is [A | B]
+-- and b the one column of B
+abbrev pub AnswersSystem : ℕ → Matrix → Found → Type 0
+AnswersSystem p S found =
+    IsPrime p → (A B : Matrix) → IsMatrix p A → IsMatrix p B → A.height ≡ B.height → B.width ≡ 1 →
+    S ≡ beside A B → Answers p A (column B) found
+
+-- what comes of a task for these matrices: its answer; or they are refused for their shapes; or memory was wanted
+abbrev pub ComesOf : Task → ℕ → ℕ → List Matrix → Result Answer Status → Type 0
+ComesOf t p workers values (Ok a) = IsAnswerTo t p workers values a
+ComesOf t p workers values (Err (status.Shape h w)) = misfit t values ≡ Some (status.Shape h w)
+ComesOf t p workers values (Err (status.Wide h w)) = misfit t values ≡ Some (status.Wide h w)
+ComesOf t p workers values (Err status.Memory) = Unit {0}
+ComesOf t p workers values (Err _) = ⊥
+
+-- whether the source failed
+abbrev pub is_unread_in : Result Answer Status → Bool
+is_unread_in (Ok a) = false
+is_unread_in (Err s) = is_unread s
+
+-- the answer that was found for these words in an input, or why there is none
+abbrev pub IsFoundIn : List (List ℕ) → ℕ → Input → Result Answer Status → Type 0
+IsFoundIn words limit input (Ok a) = IsAnswered words limit input (answer_text a)
+IsFoundIn words limit input (Err s) = HasNoAnswer words limit input s
+
+-- The answer that was found for these words, or why there is none, in the input that was taken from a source, of which nothing was asked
+-- before; no more was taken than was needed.
+pub record WasFound (words : List (List ℕ)) (limit : ℕ) (result : Result Answer Status)
+    (old new : SourceState) : Type 0 where
+  pub input : Input
+  pub draws : Draws (AreTooFew words limit) (is_unread_in result) input.bytes
+      (untouched old) (supply_behind input new)
+  pub found : IsFoundIn words limit input result

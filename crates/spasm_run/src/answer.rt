@@ -1,0 +1,56 @@
+// What is answered to a command.
+ghost use Rattle.sms_text.specs.Writing.{Writes};
+ghost use Rattle.spasm_run.specs.Answers.{rank_text};
+
+use crate::numbered_text::write_with_number;
+use crate::written_pivots::write_pivots;
+use pivot_table::Pair;
+use sms_text::{Sink, WriteFault, write_rows, write_text, write_titled};
+use sparse_rows::Rows;
+
+// What is answered to a command.
+#[derive(Drop)]
+pub(crate) enum Answer {
+    // The rank of a matrix.
+    Rank(u64),
+    // The echelon form or a kernel basis of a matrix.
+    Matrix(Rows),
+    // The reduced solution of a system, as a column.
+    Solution(Rows),
+    // The refuting combination of a system without a solution, as a row.
+    Refutation(Rows),
+    // The inverse of a matrix.
+    Inverse(Rows),
+    // A null vector of a matrix without an inverse, as a row.
+    Singular(Rows),
+    // Structural pivots of a matrix, in triangular order.
+    Pivots(Vec<Pair>),
+}
+
+impl Answer {
+    ghost use Rattle.spasm_run.specs.Computed.{IsSmall, answer_text};
+
+    // Writes the answer. It takes no memory.
+    pub(crate) fn write<K: Sink>(&self, out: &mut K) -> Result<(), WriteFault>
+        requires { IsSmall self.now }
+        ensures { Writes result (answer_text self.now) (K.state out.old) (K.state out.new) }
+    {
+        match self {
+            Answer::Rank(rank) => write_rank(out, *rank),
+            Answer::Matrix(rows) => write_rows(out, rows),
+            Answer::Solution(x) => write_titled(out, "solution\n", x),
+            Answer::Refutation(y) => write_titled(out, "no solution\n", y),
+            Answer::Inverse(b) => write_titled(out, "inverse\n", b),
+            Answer::Singular(v) => write_titled(out, "singular\n", v),
+            Answer::Pivots(pairs) => write_pivots(out, pairs),
+        }
+    }
+}
+
+// Writes the answer to the rank of a matrix.
+fn write_rank<K: Sink>(out: &mut K, rank: u64) -> Result<(), WriteFault>
+    ensures { Writes result (rank_text rank) (K.state out.old) (K.state out.new) }
+{
+    write_with_number(out, "rank ", rank)?;
+    write_text(out, "\n")
+}

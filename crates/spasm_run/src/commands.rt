@@ -1,0 +1,264 @@
+// What each command answers to the matrices that were read.
+ghost use Rattle.std.specs.Prelude.{◌≡◌, ◌≤◌, ◌<◌, ℕ, List, [], ◌∷◌, IfOk};
+ghost use Rattle.residue_words.specs.Matrix.{IsMatrix, row};
+ghost use Rattle.residue_words.specs.Residues.{IsPrime};
+ghost use Rattle.row_space.specs.Solution.{IsRefutingCombination, IsSolution};
+ghost use Rattle.kernel_solve.specs.Column.{column};
+ghost use Rattle.kernel_solve.specs.Found.{HasShape};
+ghost use Rattle.sparse_rows.specs.declared.rows.TheConstants.{LARGEST_SIZE};
+ghost use Rattle.spasm_run.specs.Answers.{IsOneAnswer, as_row};
+ghost use Rattle.spasm_run.specs.Computed.{AnswersSystem, ComesOf};
+ghost use Rattle.spasm_run.specs.declared.words.Task.TheVariants as task;
+
+#[cfg(test)]
+mod tests;
+
+use crate::answer::Answer;
+use crate::status::Status;
+use dense_finish::finish;
+use echelon_form::Echelon;
+use fl_pivots::leftmost;
+use kernel_solve::{Found, Inverse, refuting_system, solution};
+use optimistic_search::{Gate, search};
+use sparse_rows::{Rows, Sparse};
+use std::alloc::{AllocError, Global};
+use std::thread::Threads;
+use triangular_solve::Triangle;
+
+/// The most rows of a matrix that is inverted, 2^30.
+pub const LARGEST_INVERTED: u32 = 1_073_741_824;
+
+/// A command has one answer for the matrices that it is given.
+pub fn at_most_one_answer()
+    ensures { IsOneAnswer }
+{}
+
+// The rank of a matrix: by a dense elimination where there are no structural rounds, and else by its echelon form.
+pub(crate) fn find_rank<R: Threads + Sync>(
+    rt: &R,
+    alloc: Global,
+    a: &Rows,
+    workers: u32,
+    rounds: u32,
+) -> Result<Answer, Status>
+    requires some { 1 ≤ workers }
+    requires few { workers ≤ 64 }
+    ensures { ComesOf task.Rank a.now.modulus workers (a.now.matrix ∷ []) result }
+{
+    if rounds == 0 {
+        return count_pivots(rt, alloc, a, workers);
+    }
+    let rank = echelon_form::rank(alloc, a)?;
+    Ok(Answer::Rank(u64::from(rank)))
+}
+
+// The rank of a matrix as the number of pivots of a dense elimination.
+fn count_pivots<R: Threads + Sync>(
+    rt: &R,
+    alloc: Global,
+    a: &Rows,
+    workers: u32,
+) -> Result<Answer, Status>
+    requires some { 1 ≤ workers }
+    requires few { workers ≤ 64 }
+    ensures { ComesOf task.Rank a.now.modulus workers (a.now.matrix ∷ []) result }
+{
+    row_space::factors_give_rank();
+    let _ = a.height();
+    let factors = finish(rt, alloc, a, workers)?;
+    Ok(Answer::Rank(factors.pivots.items().len() as u64))
+}
+
+// The structural pivots of a matrix in triangular order: what a search finds that begins with the leftmost ones.
+pub(crate) fn find_pivots<R: Threads + Sync, G: Gate>(
+    rt: &R,
+    alloc: Global,
+    a: &Rows,
+    workers: u32,
+    gate: &G,
+) -> Result<Answer, Status>
+    requires some { 1 ≤ workers }
+    requires few { workers ≤ 64 }
+    ensures { ComesOf task.Pivots a.now.modulus workers (a.now.matrix ∷ []) result }
+{
+    // The call tells that no row is beyond what can be written.
+    let _ = a.height();
+    let _ = a.width();
+    let book = leftmost(alloc, a)?;
+    let book = search(rt, alloc, book, workers, gate)?;
+    let triangle = Triangle::of(alloc, &book)?;
+    let pairs = Vec::from_slice(alloc, triangle.pairs())?;
+    Ok(Answer::Pivots(pairs))
+}
+
+// The echelon form of a matrix.
+pub(crate) fn find_form<R: Threads + Sync>(
+    rt: &R,
+    alloc: Global,
+    a: &Rows,
+    workers: u32,
+) -> Result<Answer, Status>
+    requires some { 1 ≤ workers }
+    requires few { workers ≤ 64 }
+    requires width { a.now.matrix.width < LARGEST_SIZE }
+    ensures { ComesOf task.Rref a.now.modulus workers (a.now.matrix ∷ []) result }
+{
+    let form = Echelon::of(rt, alloc, a, workers)?;
+    Ok(Answer::Matrix(form.into_rows()))
+}
+
+// The kernel basis of a matrix.
+pub(crate) fn find_kernel<R: Threads + Sync>(
+    rt: &R,
+    alloc: Global,
+    a: &Rows,
+    workers: u32,
+) -> Result<Answer, Status>
+    requires some { 1 ≤ workers }
+    requires few { workers ≤ 64 }
+    requires width { a.now.matrix.width < LARGEST_SIZE }
+    ensures { ComesOf task.Kernel a.now.modulus workers (a.now.matrix ∷ []) result }
+{
+    let form = Echelon::of(rt, alloc, a, workers)?;
+    let basis = kernel_solve::kernel(alloc, &form)?;
+    Ok(Answer::Matrix(basis))
+}
+
+// The kernel basis of the transposed matrix.
+pub(crate) fn find_left_kernel<R: Threads + Sync>(
+    rt: &R,
+    alloc: Global,
+    a: &Rows,
+    workers: u32,
+) -> Result<Answer, Status>
+    requires some { 1 ≤ workers }
+    requires few { workers ≤ 64 }
+    requires height { a.now.matrix.height < LARGEST_SIZE }
+    ensures { ComesOf task.LeftKernel a.now.modulus workers (a.now.matrix ∷ []) result }
+{
+    let basis = kernel_solve::left_kernel(rt, alloc, a, workers)?;
+    Ok(Answer::Matrix(basis))
+}
+
+// The inverse of a matrix, or a null vector. A matrix that isn't square is refused, and one of more than 2^30 rows.
+pub(crate) fn find_inverse<R: Threads + Sync>(
+    rt: &R,
+    alloc: Global,
+    a: &Rows,
+    workers: u32,
+) -> Result<Answer, Status>
+    requires some { 1 ≤ workers }
+    requires few { workers ≤ 64 }
+    ensures { ComesOf task.Inverse a.now.modulus workers (a.now.matrix ∷ []) result }
+{
+    row_space::inverse_excludes_null();
+    let height = a.height();
+    let width = a.width();
+    if height != width {
+        return Err(Status::Shape { height, width });
+    }
+    if LARGEST_INVERTED < height {
+        return Err(Status::Wide { height, width });
+    }
+    match kernel_solve::inverse(rt, alloc, a, workers)? {
+        Inverse::Of(b) => Ok(Answer::Inverse(b)),
+        Inverse::Singular(v) => Ok(Answer::Singular(v)),
+    }
+}
+
+// The reduced solution of A x = b, or what refutes it. A right-hand side that isn't a column as long as A is high is refused.
+pub(crate) fn find_solution<R: Threads + Sync>(
+    rt: &R,
+    alloc: Global,
+    a: &Rows,
+    b: &Rows,
+    workers: u32,
+) -> Result<Answer, Status>
+    requires some { 1 ≤ workers }
+    requires few { workers ≤ 64 }
+    requires moduli { a.now.modulus ≡ b.now.modulus }
+    requires height { a.now.matrix.height < LARGEST_SIZE }
+    requires width { a.now.matrix.width < LARGEST_SIZE }
+    ensures { ComesOf task.Solve a.now.modulus workers (a.now.matrix ∷ b.now.matrix ∷ []) result }
+{
+    let height = b.height();
+    let width = b.width();
+    if height != a.height() || width != 1 {
+        return Err(Status::Shape { height, width });
+    }
+    match solve(rt, alloc, a.beside(alloc, b)?, workers)? {
+        Found::Solution(x) => Ok(Answer::Solution(x)),
+        Found::Inconsistent => {
+            let y = refutation(rt, alloc, a, b, workers)?;
+            Ok(Answer::Refutation(y))
+        }
+    }
+}
+
+// What the echelon form of a system [A | b] tells of A x = b. The system is let go once its form is made.
+fn solve<R: Threads + Sync>(
+    rt: &R,
+    alloc: Global,
+    system: Rows,
+    workers: u32,
+) -> Result<Found, AllocError>
+    requires some { 1 ≤ workers }
+    requires few { workers ≤ 64 }
+    requires width { 1 ≤ system.matrix.width }
+    ensures shape { IfOk result (HasShape system.modulus system.matrix.width) }
+    ensures tells { IfOk result (AnswersSystem system.modulus system.matrix) }
+{
+    let form = Echelon::of(rt, alloc, &system, workers)?;
+    drop(system);
+    let found = solution(alloc, &form)?;
+    Ok(found)
+}
+
+// The refuting combination of A x = b, as a row, where there is no solution. For a modulus that isn't prime there may be no combination
+// either, and then it is a zero row.
+fn refutation<R: Threads + Sync>(
+    rt: &R,
+    alloc: Global,
+    a: &Rows,
+    b: &Rows,
+    workers: u32,
+) -> Result<Rows, AllocError>
+    requires some { 1 ≤ workers }
+    requires few { workers ≤ 64 }
+    requires matrix { IsMatrix a.now.modulus a.now.matrix }
+    requires side { IsMatrix b.now.modulus b.now.matrix }
+    requires moduli { a.now.modulus ≡ b.now.modulus }
+    requires heights { a.now.matrix.height ≡ b.now.matrix.height }
+    requires column { b.now.matrix.width ≡ 1 }
+    requires height { a.now.matrix.height < LARGEST_SIZE }
+    requires width { a.now.matrix.width < LARGEST_SIZE }
+    ensures row { IfOk result (λ y. y.matrix ≡ as_row (row y.matrix 0)) }
+    ensures width { IfOk result (λ y. y.matrix.width ≡ a.now.matrix.height) }
+    ensures refutes { IfOk result (λ y. IsPrime a.now.modulus
+        → ((x : List ℕ) → ¬ IsSolution a.now.modulus a.now.matrix (column b.now.matrix) x)
+        → IsRefutingCombination a.now.modulus a.now.matrix (column b.now.matrix) (row y.matrix 0)) }
+{
+    row_space::refuting_is_solvable();
+    row_space::refuting_system_refutes();
+    match solve(rt, alloc, refuting_system(alloc, a, b)?, workers)? {
+        Found::Solution(y) => {
+            let row = y.transpose(alloc)?;
+            Ok(row)
+        }
+        Found::Inconsistent => {
+            let none = zero_row(alloc, a)?;
+            Ok(none)
+        }
+    }
+}
+
+// A zero row as long as the matrix is high.
+fn zero_row(alloc: Global, a: &Rows) -> Result<Rows, AllocError>
+    requires { a.now.matrix.height < LARGEST_SIZE }
+    ensures row { IfOk result (λ y. y.matrix ≡ as_row (row y.matrix 0)) }
+    ensures width { IfOk result (λ y. y.matrix.width ≡ a.now.matrix.height) }
+{
+    let mut rows = Rows::with_room(alloc, a.modulus(), a.height(), 1, 0)?;
+    rows.append(&Sparse::new(alloc, a.height(), a.modulus()))?;
+    Ok(rows)
+}

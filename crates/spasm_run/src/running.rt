@@ -1,0 +1,180 @@
+// A run, from words and bytes to an answer.
+ghost use Rattle.std.specs.Prelude.{◌≡◌, ◌<◌, ◌≤◌, ℕ, List, true, false, IfOk};
+ghost use Rattle.residue_words.specs.declared.modulus.TheConstants.{MODULUS_BOUND};
+ghost use Rattle.sms_text.specs.declared.reader.TheConstants.{LARGEST_INPUT};
+ghost use Rattle.spasm_run.specs.Computed.{IsSmall, WasFound};
+ghost use Rattle.spasm_run.specs.Options.{bytes_of};
+ghost use Rattle.spasm_run.specs.Ran.{Ran};
+ghost use Rattle.spasm_run.specs.Status.{SaysWhy, is_answered, is_written};
+ghost use Rattle.spasm_run.specs.Words.{Accepted, AreRefused};
+
+#[cfg(test)]
+pub(crate) mod tests;
+
+use crate::answer::Answer;
+use crate::commands::{
+    find_form, find_inverse, find_kernel, find_left_kernel, find_pivots, find_rank, find_solution,
+};
+use crate::read_matrices::{read_one, read_two};
+use crate::status::Status;
+use crate::words::{Command, Task, read_words};
+use optimistic_search::Gate;
+use residue_words::Modulus;
+use sms_text::{LARGEST_INPUT, Sink, Source};
+use std::alloc::Global;
+use std::thread::Threads;
+
+/// Runs the command that the words ask for: reads its matrices from the source, and writes its answer to `out`, all at once and only if all
+/// went well. Where it did not, one line that says why goes to `err`.
+///
+/// Words that aren't accepted are refused before anything is read. A source is read up to the last line that is wanted and no further, in at
+/// most `LARGEST_INPUT` bytes, and the first faulty line is named. Memory is wanted for the entries, at most 40 bytes each while they are
+/// read, for the rows, and for the echelon forms and what is made of them; none for writing.
+/// `rt` starts the threads of a command's workers, and `gate` serves commands that search.
+pub fn run<'a, R: Threads + Sync, S: Source, K: Sink, E: Sink, G: Gate>(
+    rt: &R,
+    alloc: Global,
+    words: &'a [&'a str],
+    source: &mut S,
+    out: &mut K,
+    err: &mut E,
+    gate: &G,
+) -> Status
+    ensures ran { Ran (record {
+      words = bytes_of words.now;
+      limit = LARGEST_INPUT;
+      source = S.state source.old;
+      source_after = S.state source.new;
+      out = K.state out.old;
+      out_after = K.state out.new;
+    }) result }
+    ensures err { SaysWhy result (E.state err.old) (E.state err.new) }
+    ensures unread { AreRefused (bytes_of words.now) → source.new ≡ source.old }
+    ensures unwritten { is_written result ≡ false → out.new ≡ out.old }
+    ensures silent { is_answered result ≡ true → err.new ≡ err.old }
+{
+    run_within(rt, alloc, words, source, out, err, gate, LARGEST_INPUT)
+}
+
+/// The same for an input of at most `limit` bytes, a limit of at most `LARGEST_INPUT`.
+pub fn run_within<'a, R: Threads + Sync, S: Source, K: Sink, E: Sink, G: Gate>(
+    rt: &R,
+    alloc: Global,
+    words: &'a [&'a str],
+    source: &mut S,
+    out: &mut K,
+    err: &mut E,
+    gate: &G,
+    limit: u64,
+) -> Status
+    requires { limit ≤ LARGEST_INPUT }
+    ensures ran { Ran (record {
+      words = bytes_of words.now;
+      limit = limit;
+      source = S.state source.old;
+      source_after = S.state source.new;
+      out = K.state out.old;
+      out_after = K.state out.new;
+    }) result }
+    ensures err { SaysWhy result (E.state err.old) (E.state err.new) }
+    ensures unread { AreRefused (bytes_of words.now) → source.new ≡ source.old }
+    ensures unwritten { is_written result ≡ false → out.new ≡ out.old }
+    ensures silent { is_answered result ≡ true → err.new ≡ err.old }
+{
+    let status = answer(rt, alloc, words, source, out, gate, limit);
+    status.tell(err);
+    status
+}
+
+// Reads, computes and writes the answer.
+fn answer<'a, R: Threads + Sync, S: Source, K: Sink, G: Gate>(
+    rt: &R,
+    alloc: Global,
+    words: &'a [&'a str],
+    source: &mut S,
+    out: &mut K,
+    gate: &G,
+    limit: u64,
+) -> Status
+    requires { limit ≤ LARGEST_INPUT }
+    ensures ran { Ran (record {
+      words = bytes_of words.now;
+      limit = limit;
+      source = S.state source.old;
+      source_after = S.state source.new;
+      out = K.state out.old;
+      out_after = K.state out.new;
+    }) result }
+    ensures unread { AreRefused (bytes_of words.now) → source.new ≡ source.old }
+    ensures unwritten { is_written result ≡ false → out.new ≡ out.old }
+{
+    match find(rt, alloc, words, source, gate, limit) {
+        Ok(answer) => match answer.write(out) {
+            Ok(()) => Status::Done,
+            Err(_) => Status::WriteFault,
+        },
+        Err(status) => status,
+    }
+}
+
+// The answer to what the words ask for, or how a run ends without one.
+fn find<'a, R: Threads + Sync, S: Source, G: Gate>(
+    rt: &R,
+    alloc: Global,
+    words: &'a [&'a str],
+    source: &mut S,
+    gate: &G,
+    limit: u64,
+) -> Result<Answer, Status>
+    requires { limit ≤ LARGEST_INPUT }
+    ensures found { WasFound (bytes_of words.now) limit result (S.state source.old) (S.state source.new) }
+    ensures unread { AreRefused (bytes_of words.now) → source.new ≡ source.old }
+    ensures small { IfOk result IsSmall }
+{
+    match read_words(alloc, words) {
+        Ok(Some(command)) => find_for(rt, alloc, command, source, gate, limit),
+        Ok(None) => Err(Status::Usage),
+        Err(_) => Err(Status::Memory),
+    }
+}
+
+// The answer to a command, or how a run ends without one.
+fn find_for<R: Threads + Sync, S: Source, G: Gate>(
+    rt: &R,
+    alloc: Global,
+    command: Command,
+    source: &mut S,
+    gate: &G,
+    limit: u64,
+) -> Result<Answer, Status>
+    requires limit { limit ≤ LARGEST_INPUT }
+    requires two_or_more { 2 ≤ command.modulus }
+    requires in_range { command.modulus < MODULUS_BOUND }
+    requires some { 1 ≤ command.workers }
+    requires few { command.workers ≤ 64 }
+    ensures found { (words : List (List ℕ)) → Accepted words command
+        → WasFound words limit result (S.state source.old) (S.state source.new) }
+    ensures small { IfOk result IsSmall }
+{
+    let p = Modulus::new(command.modulus);
+    let workers = command.workers;
+    match command.task {
+        Task::Rank => {
+            let a = read_one(alloc, &p, source, limit)?;
+            find_rank(rt, alloc, &a, workers, command.rounds)
+        }
+        Task::Rref => find_form(rt, alloc, &read_one(alloc, &p, source, limit)?, workers),
+        Task::Kernel => find_kernel(rt, alloc, &read_one(alloc, &p, source, limit)?, workers),
+        Task::Solve => {
+            let (a, b) = read_two(alloc, &p, source, limit)?;
+            find_solution(rt, alloc, &a, &b, workers)
+        }
+        Task::LeftKernel => {
+            find_left_kernel(rt, alloc, &read_one(alloc, &p, source, limit)?, workers)
+        }
+        Task::Inverse => find_inverse(rt, alloc, &read_one(alloc, &p, source, limit)?, workers),
+        Task::Pivots => {
+            find_pivots(rt, alloc, &read_one(alloc, &p, source, limit)?, workers, gate)
+        }
+    }
+}

@@ -1,0 +1,5 @@
+use Rattle.spasm_timed.proofs.Keeps.{keeps}
+use Rattle.spasm_timed.proofs.added_rows.by_lanes.Goals as goal
+
+pub loop-round-preserved : goal.loop-round-preserved
+loop-round-preserved c = keeps c.args.p.now c.args.a c.loop-round.out c.args.y.now c.axpy.new.out c.requires.factor c.axpy.ensures c.loop-round.invariant.0

@@ -1,0 +1,56 @@
+//! Times what the documents give figures of: multiples of rows added, the factors of a matrix, and texts read and written.
+//!
+//! The words say which: `lanes`, `factors WORKERS`, `read P` or `write P`, where P is a modulus; the last three read a matrix from standard
+//! input. Times are in microseconds. With other words, or with none, one line says these.
+#![tactic(auto)]
+
+mod added_rows;
+mod factored;
+mod task;
+mod texts;
+
+use added_rows::time_additions;
+use factored::time_factors;
+use residue_words::{MODULUS_BOUND, Modulus};
+use std::alloc::Global;
+use std::io::{self, Read, Write};
+use std::process::ExitCode;
+use std::thread::Threads;
+use std::time::Clock;
+use std_edge::words_of;
+use task::Task;
+use texts::{time_reading, time_writing};
+
+fn main(rt: HostRuntime) -> ExitCode {
+    let Ok(words) = words_of(&rt) else {
+        return ExitCode::from(2);
+    };
+    let task = Task::asked(&words);
+    match perform(&rt, rt.alloc(), task, rt.stdin(), rt.stdout()) {
+        Ok(()) => ExitCode::from(0),
+        Err(_) => ExitCode::from(1),
+    }
+}
+
+// Does what was asked.
+fn perform<R: Threads + Sync + Clock + Print + Eprint, I: Read + Drop, O: Write + Drop>(
+    rt: &R,
+    alloc: Global,
+    task: Option<Task>,
+    input: I,
+    output: O,
+) -> io::Result<()> {
+    match task {
+        Some(Task::Lanes) => time_additions(rt),
+        Some(Task::Factors(workers)) if 1 <= workers && workers <= 64 => {
+            time_factors(rt, alloc, input, workers)
+        }
+        Some(Task::Read(p)) if 2 <= p && p < MODULUS_BOUND => {
+            time_reading(rt, alloc, input, &Modulus::new(p))
+        }
+        Some(Task::Write(p)) if 2 <= p && p < MODULUS_BOUND => {
+            time_writing(rt, alloc, input, output, &Modulus::new(p))
+        }
+        _ => println!(rt; "spasm_timed lanes | factors WORKERS | read P | write P"),
+    }
+}

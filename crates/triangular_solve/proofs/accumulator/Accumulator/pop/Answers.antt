@@ -1,0 +1,36 @@
+use Rattle.std.proofs.Common.{ℕ, ◌≡◌, ◌<◌, ◌%◌, ◌∙◌, List, slice_index, slice_set, ap, arith, subst}
+use Rattle.std.proofs.lemmas.List.{get_or_default}
+use Rattle.sparse_rows.specs.Marks.{AllZero, TakesFirst}
+use Rattle.sparse_rows.specs.Rows.{ResidueRow}
+use Rattle.triangular_solve.specs.Accumulator.{residues_of}
+use Rattle.triangular_solve.proofs.Accumulating.{accumulator_zero, as_row, first_skipped, first_taken, residues_none}
+use Rattle.triangular_solve.proofs.Touched.{IsTop, taken_falls, touched_pop}
+use Rattle.triangular_solve.proofs.accumulator.Accumulator.pop.Goals as goal
+
+pub returns-then-value-ne0-clause-some : goal.returns-then-value-ne0-clause-some
+returns-then-value-ne0-clause-some c =
+    let p : ℕ = c.loop-column.self-inside.modulus in
+    let sums : List ℕ = c.loop-column.self-inside.sums.items in
+    let top : IsTop sums c.pop.new.self c.in-Some.column = touched_pop c.loop-column.invariant.sound.touched c.in-Some.ensures.some in
+    subst (λ r. TakesFirst r (residues_of p (slice_set sums c.in-Some.column 0)) c.in-Some.column c.residue-value.result) (ap (λ (r : ResidueRow). r.row) c.loop-column.invariant.same)
+    (first_taken p _ (omega (arith, c.loop-column.invariant.sound.two_or_more)) top (c.residue-value.ensures.value ∙ ap (λ x. x % p) (c.index.ensures ∙ get_or_default sums _ _ 0 top.inside)) c.if-value-ne0.true)
+
+pub loop-column-smaller : goal.loop-column-smaller
+loop-column-smaller c = taken_falls c.in-Some.ensures.some
+
+pub loop-column-preserved : goal.loop-column-preserved
+loop-column-preserved c =
+    let p : ℕ = c.loop-column.self-inside.modulus in
+    let sums : List ℕ = c.loop-column.self-inside.sums.items in
+    let top : IsTop sums c.pop.new.self c.in-Some.column = touched_pop c.loop-column.invariant.sound.touched c.in-Some.ensures.some in
+    record {
+      same = ap (as_row p) (first_skipped p _ (omega (arith, c.loop-column.invariant.sound.two_or_more)) top
+          (c.residue-value.ensures.value ∙ ap (λ x. x % p) (c.index.ensures ∙ get_or_default sums _ _ 0 top.inside)) c.if-value-ne0.false) ∙ c.loop-column.invariant.same;
+      sound = accumulator_zero c.loop-column.invariant.sound c.in-Some.column top.taken;
+    }
+
+pub returns-clause-none : goal.returns-clause-none
+returns-clause-none c = (
+  c.loop-column.invariant.same,
+  subst (λ (r : ResidueRow). AllZero r.row) c.loop-column.invariant.same (residues_none c.loop-column.invariant.sound c.in_default.ensures.none.1),
+)

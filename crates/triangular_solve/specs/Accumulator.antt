@@ -1,0 +1,43 @@
+-- Sums by column, of which few are not 0.
+use Rattle.std.specs.Prelude.{◌≡◌, ◌≢◌, ◌<◌, ◌≤◌, ◌+◌, ◌*◌, ◌/◌, ◌%◌, ℕ, List, leb, if◌then◌else◌, length, map, slice_index, slice_set}
+use Rattle.residue_words.specs.Matrix.{IsVector, zeros}
+use Rattle.residue_words.specs.declared.modulus.TheConstants.{MODULUS_BOUND}
+use Rattle.residue_words.specs.declared.shoup.TheConstants.{LANE_BOUND}
+use Rattle.sparse_rows.specs.Rows.{ResidueRow}
+use Rattle.sparse_rows.specs.Stored.{entry_at}
+
+-- what sums modulo p are kept below: for a p below 2^31 the greatest multiple of p up to 2^63, else p
+abbrev pub limit_of : ℕ → ℕ
+limit_of p = if leb LANE_BOUND p then p else 9223372036854775808 / p * p
+
+-- the residues of the sums
+abbrev pub residues_of : ℕ → List ℕ → List ℕ
+residues_of p sums = map (λ s. s % p) sums
+
+-- each column with a sum that is not 0 is marked
+pub record AreTouched (sums marks : List ℕ) : Type 0 where
+  pub long : length marks ≡ length sums
+  pub covers : (j : ℕ) → j < length sums → slice_index sums j ≢ 0 → slice_index marks j ≢ 0
+
+-- sums below the limit, with the columns touched
+pub record IsAccumulator (p limit : ℕ) (sums marks : List ℕ) : Type 0 where
+  pub two_or_more : 2 ≤ p
+  pub in_range : p < MODULUS_BOUND
+  pub limit_is : limit ≡ limit_of p
+  pub below : (j : ℕ) → j < length sums → slice_index sums j < limit
+  pub touched : AreTouched sums marks
+
+-- v was added to the entry at column j
+pub record IsAdded (j v : ℕ) (old new : ResidueRow) : Type 0 where
+  pub modulus : new.modulus ≡ old.modulus
+  pub row : new.row ≡ slice_set old.row j ((slice_index old.row j + v) % old.modulus)
+
+-- the multiple of the row that stands in these columns and values was added
+pub record AddsMultiple (by : ℕ) (cols vals : List ℕ) (old new : ResidueRow) : Type 0 where
+  pub modulus : new.modulus ≡ old.modulus
+  pub vector : IsVector old.modulus (length old.row) new.row
+  pub sums : (j : ℕ) → j < length old.row → slice_index new.row j ≡ (slice_index old.row j + by * entry_at cols vals j) % old.modulus
+
+-- the zero row of n entries
+abbrev pub IsClear : ℕ → ℕ → ResidueRow → Type 0
+IsClear p n a = a ≡ record { modulus = p; row = zeros n }

@@ -1,0 +1,46 @@
+#!/bin/sh
+# Runs the built program and looks at what no contract can see: which stream is which, that the words are the user's, and the exit status.
+# Prints a line for each run that is not as it should be, and ends with the number of such runs.
+cd "$(dirname "$0")/.." || exit
+results=$(mktemp -d) || exit
+failures=0
+
+# expect STATUS OUTPUT ERRORS INPUT WORD..: runs the program on the text with these words.
+expect() {
+    status=$1 output=$2 errors=$3 input=$4
+    shift 4
+    printf "$input" | ./spasm "$@" >"$results/out" 2>"$results/err"
+    code=$?
+    printf "$output" >"$results/wanted_out"
+    printf "$errors" >"$results/wanted_err"
+    if test "$code" -ne "$status" || ! cmp -s "$results/out" "$results/wanted_out" || ! cmp -s "$results/err" "$results/wanted_err"; then
+        echo "spasm $*: status $code where $status was wanted, output '$(cat "$results/out")', errors '$(cat "$results/err")'"
+        failures=$((failures + 1))
+    fi
+}
+
+answer='2 2 M\n1 1 1\n1 2 2\n2 1 2\n2 2 4\n0 0 0\n'
+expect 0 'rank 1\n' '' "$answer" rank --modulus 7
+expect 0 '1 2 M\n1 1 1\n1 2 2\n0 0 0\n' '' "$answer" rref --modulus=7
+expect 0 '1 2 M\n1 1 5\n1 2 1\n0 0 0\n' '' "$answer" kernel --modulus 7 --workers 2
+expect 2 '' 'error 2 usage\n' "$answer" rang
+expect 2 '' 'error 2 usage\n' "$answer"
+expect 2 '' 'error 2 usage\n' "$answer" rank --modulus 1
+expect 2 '' 'error 2 usage\n' "$answer" rank "$(printf '\377')"
+expect 3 '' 'error 3 line 2 kind 4\n' '2 2 M\n3 1 1\n0 0 0\n' rank
+expect 3 '' 'error 3 line 1 kind 6\n' '' rank
+expect 4 '' 'error 4 shape 1 2\n' '1 2 M\n0 0 0\n' inverse
+
+# A source that fails, and an output and an error stream that take nothing.
+./spasm rank </ >"$results/out" 2>"$results/err"
+test $? -eq 6 && test ! -s "$results/out" && test "$(cat "$results/err")" = 'error 6 read' || { echo "spasm rank </: no failed source"; failures=$((failures + 1)); }
+if test -w /dev/full; then
+    ./spasm rank <examples/x.sms >/dev/full 2>"$results/err"
+    test $? -eq 7 && test "$(cat "$results/err")" = 'error 7 write' || { echo "spasm rank >/dev/full: no failed output"; failures=$((failures + 1)); }
+    ./spasm rang <examples/x.sms 2>/dev/full
+    test $? -eq 2 || { echo "spasm rang 2>/dev/full: another status"; failures=$((failures + 1)); }
+fi
+
+rm -r "$results"
+test "$failures" -eq 0 && echo "all runs are as they should be"
+exit "$failures"
