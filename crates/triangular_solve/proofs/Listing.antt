@@ -17,7 +17,7 @@ use Rattle.pivot_table.specs.History.{Grown, Nonzero}
 use Rattle.pivot_table.proofs.Growth.{pair_nonzero}
 use Rattle.pivot_table.proofs.Orders.{IsChain, chain_append, chain_triangular, grown_chain}
 use Rattle.pivot_table.proofs.Short.{columns_distinct}
-use Rattle.triangular_solve.specs.Listing.{ArePivots, AreWaits, HasReady, TakesReady, column_count, entry_flag}
+use Rattle.triangular_solve.specs.Listing.{AreSortedPivots, AreWaits, HasReady, TakesReady, column_count, entry_flag}
 use Rattle.pivot_table.specs.Order.{AreInOrder, IsNext, IsReady, IsTriangularOrder}
 use Rattle.triangular_solve.specs.Triangle.{TriangularOrderIsOne}
 use Rattle.triangular_solve.proofs.Counting.{AreApart, apart_less, count_middle, counted_ready, flag_one, flag_zero, none_counted, ready_counted, some_ready}
@@ -63,7 +63,7 @@ module _ {A : Matrix} {h pairs : List Pair} (g : Grown A h) (moved : IsPermutati
         | inr n ↦ omega arith
       ]
 
-  pub sorted_pivots : ArePivots A pairs
+  pub sorted_pivots : AreSortedPivots A pairs
   sorted_pivots = let c = grown_chain A h g in record {
     nonzero = λ p m. pair_nonzero A h g p (Contains-permutation pairs h p (IsPermutation-sym h pairs moved) m);
     rising = sorted_rising;
@@ -127,7 +127,7 @@ pub record IsListing (A : Matrix) (pairs listed : List Pair) (waits heap : List 
   pub next : AreNext A listed left
   pub chain : IsChain A listed
 
-pub listing_begins : {A : Matrix} {pairs : List Pair} {waits heap : List ℕ} → ArePivots A pairs → AreWaits A pairs waits → HasReady waits heap → IsListing A pairs [] waits heap
+pub listing_begins : {A : Matrix} {pairs : List Pair} {waits heap : List ℕ} → AreSortedPivots A pairs → AreWaits A pairs waits → HasReady waits heap → IsListing A pairs [] waits heap
 listing_begins {A} {pairs} {waits} {heap} pivots are ready = record {
   left = pairs;
   many = omega arith;
@@ -144,7 +144,7 @@ listing_begins {A} {pairs} {waits} {heap} pivots are ready = record {
   chain = tt;
 }
 
-module _ {A : Matrix} {pairs listed : List Pair} {waits heap : List ℕ} (pivots : ArePivots A pairs) (s : IsListing A pairs listed waits heap) where
+module _ {A : Matrix} {pairs listed : List Pair} {waits heap : List ℕ} (pivots : AreSortedPivots A pairs) (s : IsListing A pairs listed waits heap) where
   -- a place at which one pair waits is that of a pair that is left
   pub waits_left : (k : ℕ) → k < length pairs → slice_index waits k ≡ 1 → Contains s.left (get_or pairs k no_pair)
   waits_left k l one = ⊎_elim
@@ -267,7 +267,7 @@ module _ {A : Matrix} {pairs listed : List Pair} {waits heap : List ℕ} (pivots
     listing_shorter = omega (arith, s.many, ap length cut.2, length-append cut.0 (q ∷ cut.1))
 
 -- all are listed
-pub listing_ends : {A : Matrix} {pairs listed : List Pair} {waits heap : List ℕ} → ArePivots A pairs → IsListing A pairs listed waits heap →
+pub listing_ends : {A : Matrix} {pairs listed : List Pair} {waits heap : List ℕ} → AreSortedPivots A pairs → IsListing A pairs listed waits heap →
     ((k : ℕ) → Contains heap k → slice_index waits k ≢ 1) → IsTriangularOrder A pairs listed
 listing_ends {A} {pairs} {listed} {waits} {heap} pivots s none = elim (cases_lt (length listed) (length pairs)) [
   | inl less ↦ absurd (let t = some_waits pivots s less in none t.0 t.1 t.2)

@@ -22,7 +22,7 @@ abbrev pub SomeIsReady : Matrix → List Pair → Type 0
 SomeIsReady A left = (q : Pair) × Contains left q × IsReady A left q
 
 -- pairs at nonzero entries, by ascending columns, among any of which some pair is ready
-pub record ArePivots (A : Matrix) (pairs : List Pair) : Type 0 where
+pub record AreSortedPivots (A : Matrix) (pairs : List Pair) : Type 0 where
   pub nonzero : (p : Pair) → Contains pairs p → Nonzero A p.row p.col
   pub rising : AreRising (map (λ p. p.col) pairs)
   pub ready : (left : List Pair) (w : Pair) → ((p : Pair) → Contains left p → Contains pairs p) → Contains left w →

@@ -5,7 +5,7 @@ ghost use Rattle.std.specs.List.Sorted.{IsPermutation};
 ghost use Rattle.sparse_rows.specs.Rows.{AreRising};
 ghost use Rattle.sparse_rows.specs.declared.rows.TheConstants.{LARGEST_SIZE};
 ghost use Rattle.pivot_table.specs.Order.{IsTriangularOrder, Triangular};
-ghost use Rattle.triangular_solve.specs.Listing.{ArePivots, AreWaits, EachOtherPlace, EachPlaceOf, HasReady, TakesReady};
+ghost use Rattle.triangular_solve.specs.Listing.{AreSortedPivots, AreWaits, EachOtherPlace, EachPlaceOf, HasReady, TakesReady};
 ghost use Rattle.triangular_solve.specs.Triangle.{TriangularOrderIsOne};
 
 #[cfg(test)]
@@ -81,7 +81,7 @@ pub fn triangular_order_is_one()
 // The pairs of a book by ascending columns.
 fn by_columns(alloc: Global, book: &Book) -> Result<Vec<Pair>, AllocError>
     ensures permutation { IfOk result (λ sorted. IsPermutation book.now.pairs sorted.items) }
-    ensures pivots { IfOk result (λ sorted. ArePivots book.now.rows.matrix sorted.items) }
+    ensures pivots { IfOk result (λ sorted. AreSortedPivots book.now.rows.matrix sorted.items) }
 {
     let mut sorted = Vec::from_slice(alloc, book.pairs())?;
     sorted.sort_unstable_by_key(|pair| pair.col);
@@ -95,7 +95,7 @@ fn count_waits(
     pairs: &[Pair],
     columns: &PivotalColumns,
 ) -> Result<Vec<u32>, AllocError>
-    requires pivots { ArePivots rows.now.matrix pairs.now }
+    requires pivots { AreSortedPivots rows.now.matrix pairs.now }
     requires few { length pairs.now ≤ LARGEST_SIZE }
     requires columns { columns.now ≡ map (λ p. p.col) pairs.now }
     ensures { IfOk result (λ waits. AreWaits rows.now.matrix pairs.now waits.items) }
@@ -211,7 +211,7 @@ fn list_all(
     waits: &mut [u32],
     queue: &mut Queue,
 ) -> Result<Vec<Pair>, AllocError>
-    requires pivots { ArePivots rows.now.matrix pairs.now }
+    requires pivots { AreSortedPivots rows.now.matrix pairs.now }
     requires columns { columns.now ≡ map (λ p. p.col) pairs.now }
     requires waits { AreWaits rows.now.matrix pairs.now waits.old }
     requires ready { HasReady waits.old queue.old }

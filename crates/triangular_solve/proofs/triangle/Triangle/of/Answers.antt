@@ -3,7 +3,7 @@ use Rattle.std.specs.List.{Contains}
 use Rattle.std.proofs.lemmas.List.Elements.{Contains-get_or}
 use Rattle.residue_words.specs.declared.plain.Pair.{Pair}
 use Rattle.sparse_rows.specs.Rows.{AreRising, ResidueMatrix}
-use Rattle.triangular_solve.specs.Listing.{ArePivots}
+use Rattle.triangular_solve.specs.Listing.{AreSortedPivots}
 use Rattle.pivot_table.specs.Order.{IsTriangularOrder}
 use Rattle.triangular_solve.proofs.Listing.{col_is, no_pair, order_of_sorted}
 use Rattle.triangular_solve.proofs.triangle.Triangle.of.Goals as goal
@@ -25,8 +25,8 @@ of-requires-clause-below c = λ k l.
       ap (λ (m : ResidueMatrix). m.matrix.width) c.rows-rows.ensures,
     )
 
-pivots_here : {m n : ResidueMatrix} {ps qs : List Pair} → m ≡ n → ps ≡ qs → ArePivots n.matrix qs → ArePivots m.matrix ps
-pivots_here {m} {n} {ps} {qs} e f p = subst (λ (x : ResidueMatrix). ArePivots x.matrix ps) (sym e) (subst (ArePivots n.matrix) (sym f) p)
+pivots_here : {m n : ResidueMatrix} {ps qs : List Pair} → m ≡ n → ps ≡ qs → AreSortedPivots n.matrix qs → AreSortedPivots m.matrix ps
+pivots_here {m} {n} {ps} {qs} e f p = subst (λ (x : ResidueMatrix). AreSortedPivots x.matrix ps) (sym e) (subst (AreSortedPivots n.matrix) (sym f) p)
 
 pub count_waits-requires-clause-pivots : goal.count_waits-requires-clause-pivots
 count_waits-requires-clause-pivots c = pivots_here c.rows-rows.ensures c.deref-2.ensures.value c.in_ok-pairs.ensures.pivots
