@@ -5,6 +5,7 @@ pub mod Exact
 pub mod Input
 pub mod Matching
 pub mod OneAnswer
+pub mod OneSelection
 pub mod Program
 pub mod Reading
 pub mod Solving

@@ -10,6 +10,7 @@ use Rattle.sms_text.specs.Written.{text_of}
 use Rattle.sparse_rows.specs.Rows.{transposed}
 use Rattle.spasm_run.specs.declared.words.Task.TheVariants as task
 use Rattle.spasm_run.specs.Answers.{InvertsTo, IsOneAnswer, SolvesTo, as_row, misfit, pivots_text, rank_text}
+use Rattle.spasm_run.proofs.OneSelection.{selection_one}
 
 -- a system's answer
 one_solution : (p : ℕ) (A : Matrix) (b x y : List ℕ) → 2 ≤ p → SolvesTo p A b x → SolvesTo p A b y → x ≡ y
