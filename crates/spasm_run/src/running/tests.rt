@@ -4,10 +4,10 @@ ghost use Rattle.sms_text.specs.declared.reader.TheConstants.{LARGEST_INPUT};
 
 use crate::plain_elimination::{plain_rows, rank_of};
 use crate::running::{run, run_within};
-use crate::search_gate::Open;
 use crate::status::Status;
 use dense_finish::finish;
 use echelon_form::Echelon;
+use optimistic_search::Open;
 use residue_words::{MODULUS_BOUND, Modulus};
 use sms_text::{
     Kind, LARGEST_INPUT, MemorySink, MemorySource, Pulled, Reader, Source, SteadySink,
