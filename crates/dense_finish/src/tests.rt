@@ -159,15 +159,20 @@ const HUGE: u32 = 2_147_483_647;
 
 const STEP: u32 = 200_000_000;
 
-// Ten entries of a huge matrix, in rows and columns of their own, cost what ten entries cost.
-#[test]
-fn entries_cost_and_not_sizes(rt: HostRuntime) -> Result<(), Fail> {
-    let alloc = rt.alloc();
+// Ones at ten places of a huge matrix, in rows and columns of their own.
+fn scattered(alloc: Global) -> Result<Rows, AllocError> {
     let mut builder = RowsBuilder::new(alloc, HUGE, HUGE, Modulus::new(42013))?;
     for k in 0..10u32 {
         builder.push(HUGE - 1 - k * STEP, k * STEP, 1)?;
     }
-    let f = finish(&rt, alloc, &builder.finish()?, 2)?;
+    builder.finish()
+}
+
+// They cost what ten entries cost.
+#[test]
+fn entries_cost_and_not_sizes(rt: HostRuntime) -> Result<(), Fail> {
+    let alloc = rt.alloc();
+    let f = finish(&rt, alloc, &scattered(alloc)?, 2)?;
     assert_eq!(rt; f.pivots.items().len(), 10);
     assert_eq!(rt;
         f.pivots.items().first(),

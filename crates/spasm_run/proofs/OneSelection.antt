@@ -1,17 +1,26 @@
 -- The selection of one worker is one list.
 use Rattle.std.proofs.Common.{◌≡◌, ℕ, ◌<◌, List, length, get_or, sym, refl, ap, ap₂, ◌∙◌, subst, arith}
 use Rattle.std.specs.List.{Contains}
-use Rattle.std.proofs.lemmas.List.{ext_get_or, get_or_default}
+use Rattle.std.specs.Prelude.{◌≤◌, All, Vec, [], ◌∷◌}
+use Rattle.std.specs.declared.alloc.Global.{Global}
+use Rattle.std.proofs.lemmas.List.{ext_get_or, get_or-map, get_or_default}
 use Rattle.residue_words.specs.Matrix.{Matrix}
 use Rattle.residue_words.specs.declared.plain.Pair.{Pair}
 use Rattle.row_space.specs.Factors.{col_at}
 use Rattle.row_space.proofs.Spans.{rising_equal}
-use Rattle.pivot_table.specs.History.{pair}
+use Rattle.sparse_rows.specs.Rows.{ResidueMatrix}
+use Rattle.sparse_rows.specs.declared.rows.TheConstants.{LARGEST_SIZE}
+use Rattle.pivot_table.specs.Book.{BookState}
+use Rattle.pivot_table.specs.History.{Maximal, StartsWith, pair}
 use Rattle.pivot_table.specs.Greedy.{IsGreedy}
 use Rattle.pivot_table.specs.Leftmost.{IsLeftmost, IsSparsest}
-use Rattle.pivot_table.specs.Order.{IsTriangularOrder}
+use Rattle.pivot_table.specs.Order.{IsTriangularOrder, Triangular}
 use Rattle.pivot_table.specs.Selected.{IsGreedySelection}
-use Rattle.pivot_table.proofs.Selecting.{greedy_one, sparsest_one}
+use Rattle.pivot_table.proofs.Selecting.{greedy_one, selected, sparsest_one}
+use Rattle.optimistic_search.specs.Search.{IsGreedyFrom}
+use Rattle.spasm_run.specs.declared.answer.Answer.TheVariants as answer
+use Rattle.spasm_run.specs.declared.words.Task.TheVariants as task
+use Rattle.spasm_run.specs.Computed.{IsAnswerTo, IsSmallPlace}
 use Rattle.triangular_solve.proofs.Listing.{col_is, no_pair, place_of, triangular_order_one}
 
 -- the pair at place k of leftmost pairs is the sparsest of its column
@@ -42,3 +51,31 @@ selection_one A qs rs (first, all, l, g, o) (first', all', l', g', o') =
     let greedy : IsGreedy A first all' = subst (λ f. IsGreedy A f all') start g' in
     let list : all' ≡ all = greedy_one A first all' all greedy g in
     triangular_order_one A all qs rs o (subst (λ h. IsTriangularOrder A h rs) list o')
+
+-- ---- the pivots that are found are an answer
+
+-- pairs that stand at entries have rows and columns that can be written
+small_places : (A : Matrix) (qs : List Pair) → Triangular A qs → A.height ≤ LARGEST_SIZE → A.width ≤ LARGEST_SIZE → All IsSmallPlace qs
+small_places A qs is high wide = λ k d l.
+    let at = is.nonzero k l in (
+      omega (arith, at.0, high, get_or-map (λ (q : Pair). q.row) qs k d 0 l),
+      omega (arith, at.1, wide, get_or-map (λ (q : Pair). q.col) qs k d 0 l),
+    )
+
+-- what was searched, put in order and copied
+pub pivots_answer : (a : ResidueMatrix) (workers : ℕ) (first all : BookState) (listed : List Pair) (pairs : Vec Pair Global) → first.rows ≡ a → IsLeftmost a.matrix first.pairs →
+    all.rows ≡ first.rows → StartsWith all.pairs first.pairs → Maximal first.rows.matrix all.pairs → (workers ≡ 1 → IsGreedyFrom first all) →
+    IsTriangularOrder all.rows.matrix all.pairs listed → pairs.items ≡ listed → a.matrix.height ≤ LARGEST_SIZE → a.matrix.width ≤ LARGEST_SIZE →
+    IsAnswerTo task.Pivots a.modulus workers (a.matrix ∷ []) (answer.Pivots pairs)
+pivots_answer a workers first all listed pairs rows leftmost same begins maximal greedy order copied high wide =
+    let A : Matrix = a.matrix in
+    let here : first.rows.matrix ≡ A = ap (λ (r : ResidueMatrix). r.matrix) rows in
+    let there : all.rows.matrix ≡ A = ap (λ (r : ResidueMatrix). r.matrix) (same ∙ rows) in
+    let at_rows : IsTriangularOrder A all.pairs listed = subst (λ (M : Matrix). IsTriangularOrder M all.pairs listed) there order in
+    let ordered : IsTriangularOrder A all.pairs pairs.items = subst (λ (o : List Pair). IsTriangularOrder A all.pairs o) (sym copied) at_rows in
+    let most : Maximal A all.pairs = subst (λ (M : Matrix). Maximal M all.pairs) here maximal in
+    let first_most : workers ≡ 1 → IsGreedy A first.pairs all.pairs = λ one. subst (λ (M : Matrix). IsGreedy M first.pairs all.pairs) here (greedy one) in record {
+      small = small_places A pairs.items ordered.triangular high wide;
+      fits = refl;
+      answers = λ prime. (pairs.items, selected A workers first.pairs all.pairs pairs.items leftmost begins most ordered first_most, refl);
+    }
