@@ -175,10 +175,10 @@ const WAYS: [&[&str]; 5] = [
 ];
 
 // Runs of these commands, modulo these numbers and on these texts, answer so in each way.
-fn check_answers<R: Threads + Sync + Abort>(
+fn check_answers<'a, R: Threads + Sync + Abort>(
     rt: &R,
     alloc: Global,
-    table: &[(&str, &str, &str, &str)],
+    table: &'a [(&'a str, &'a str, &'a str, &'a str)],
 ) -> Result<(), Fail> {
     for (command, p, text, want) in table {
         for way in WAYS {
