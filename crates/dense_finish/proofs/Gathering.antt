@@ -11,10 +11,10 @@ use Rattle.sparse_rows.specs.Rows.{AreRising, ResidueMatrix, with_zeros}
 use Rattle.sparse_rows.specs.Stored.{with_row}
 use Rattle.dense_finish.specs.Block.{entry_of}
 use Rattle.dense_finish.specs.Factors.{IsLeft}
-use Rattle.dense_finish.specs.Pivots.{ArePlaces}
+use Rattle.dense_finish.specs.Pivots.{ArePivotPlaces}
 use Rattle.sparse_rows.proofs.Loops.{matrix_more, row_before, row_last}
 
-pub places_none : (rows columns row_indices names : List ℕ) {pivots : List Pair} → pivots ≡ [] → ArePlaces (take 0 rows) columns row_indices names pivots
+pub places_none : (rows columns row_indices names : List ℕ) {pivots : List Pair} → pivots ≡ [] → ArePivotPlaces (take 0 rows) columns row_indices names pivots
 places_none rows columns row_indices names {pivots} is = record { long = ap length is; row = λ k l. absurd (omega arith); column = λ k l. absurd (omega arith) }
 
 -- an item behind a list, by a field
@@ -25,8 +25,8 @@ seen_last f pivots x k e =
 seen_before : (f : Pair → ℕ) (pivots : List Pair) (x : Pair) (k : ℕ) → k < length pivots → slice_index (map f (pivots ++ x ∷ [])) k ≡ slice_index (map f pivots) k
 seen_before f pivots x k l = ap (λ l. slice_index l k) (map-append f pivots (x ∷ [])) ∙ get_or-append (map f pivots) (f x ∷ []) 0 k (omega (arith, length-map pivots f))
 
-pub places_more : (rows columns row_indices names : List ℕ) {pivots : List Pair} (k : ℕ) → k < length rows → ArePlaces (take k rows) columns row_indices names pivots →
-    ArePlaces (take (k + 1) rows) columns row_indices names
+pub places_more : (rows columns row_indices names : List ℕ) {pivots : List Pair} (k : ℕ) → k < length rows → ArePivotPlaces (take k rows) columns row_indices names pivots →
+    ArePivotPlaces (take (k + 1) rows) columns row_indices names
     (pivots ++ record { row = slice_index row_indices (slice_index rows k); col = slice_index names (slice_index columns k) } ∷ [])
 places_more rows columns row_indices names {pivots} k l h = record {
   long = length-append pivots (last ∷ []) ∙ omega (arith, h.long, fewer, more);

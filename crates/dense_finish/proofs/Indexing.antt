@@ -6,7 +6,7 @@ use Rattle.std.proofs.lemmas.List.{get_or_default}
 use Rattle.residue_words.specs.Matrix.{Matrix, entry, row}
 use Rattle.sparse_rows.specs.Rows.{AreFilled, AreOccupied, AreRising, nonzeros, support}
 use Rattle.sparse_rows.proofs.Spread.{entry_cover, entry_support}
-use Rattle.dense_finish.specs.Indices.{AreBelow}
+use Rattle.sparse_rows.specs.Rows.{AreBelow}
 
 -- x is one of the first m, or none
 pub index_or_not : (m : ℕ) (name : ℕ → ℕ) (x : ℕ) → ((k : ℕ) × (k < m) × (name k ≡ x)) ⊎ ((k : ℕ) → k < m → name k ≢ x)

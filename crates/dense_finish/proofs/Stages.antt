@@ -5,7 +5,7 @@ use Rattle.residue_words.specs.Matrix.{IsVector}
 use Rattle.residue_words.specs.Residues.{IsPrime}
 use Rattle.dense_finish.specs.declared.pivots.Pivots.{Pivots}
 use Rattle.dense_finish.specs.Block.{block_row}
-use Rattle.dense_finish.specs.Dense.{IsClear, IsFirstFree, IsPivotOf, KeepsCoefficients}
+use Rattle.dense_finish.specs.Dense.{IsZeroAtFree, IsFirstFree, IsPivotOf, KeepsCoefficients}
 use Rattle.dense_finish.specs.Panel.{PanelReduces, PanelRows, with_pivot}
 use Rattle.dense_finish.specs.Pivots.{AddsPivot, AreEliminated, AreFound, AreSplit, IsPanelFrom, pivot_at, stage}
 use Rattle.dense_finish.specs.Splitting.{IsTaken}
@@ -42,14 +42,14 @@ module _ {p width r i : ℕ} {names v : List ℕ} {panel : PanelRows} {block : L
   pub reduced_vector : IsVector p (length names) v
   reduced_vector = subst (λ n. IsVector p n v) state.holds.wide reduced.vector
 
-  nothing : IsClear f.taken.items v → (j : ℕ) → j < length names →
+  nothing : IsZeroAtFree f.taken.items v → (j : ℕ) → j < length names →
       (IsTaken (length f.columns.items) (slice_index f.columns.items) j → ⊥) → slice_index v j ≡ 0
   nothing none j l out = elim (cases_bool (slice_index_or f.taken.items j false)) [
     | inl marked ↦ absurd (out (state.found.only j l marked))
     | inr unmarked ↦ none j (omega (arith, reduced_vector.len)) unmarked
   ]
 
-  pub stage_same : IsClear f.taken.items v → IsStage p names width r (i + 1) f (slice_set block i v) panel
+  pub stage_same : IsZeroAtFree f.taken.items v → IsStage p names width r (i + 1) f (slice_set block i v) panel
   stage_same none = record {
     found = found_later state.found;
     eliminated = eliminated_same state.found (changes_set block i v inside) reduced_vector (nothing none) state.eliminated;

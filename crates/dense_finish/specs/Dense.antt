@@ -17,19 +17,19 @@ pub record TakesOut (p c : ℕ) (q v w : List ℕ) : Type 0 where
       slice_index v j ≡ (slice_index w j + slice_index v c * slice_index q j) % p
 
 -- column j is not a pivot's
-abbrev pub IsFree : List Bool → ℕ → Type 0
-IsFree taken j = slice_index_or taken j false ≡ false
+abbrev pub HasNoPivot : List Bool → ℕ → Type 0
+HasNoPivot taken j = slice_index_or taken j false ≡ false
 
 -- column c is the first free one where v is not 0
 pub record IsFirstFree (v : List ℕ) (taken : List Bool) (c : ℕ) : Type 0 where
   pub inside : c < length v
-  pub free : IsFree taken c
+  pub free : HasNoPivot taken c
   pub nonzero : slice_index v c ≢ 0
-  pub before : (j : ℕ) → j < c → IsFree taken j → slice_index v j ≡ 0
+  pub before : (j : ℕ) → j < c → HasNoPivot taken j → slice_index v j ≡ 0
 
 -- v is 0 at the free columns
-abbrev pub IsClear : List Bool → List ℕ → Type 0
-IsClear taken v = (j : ℕ) → j < length v → IsFree taken j → slice_index v j ≡ 0
+abbrev pub IsZeroAtFree : List Bool → List ℕ → Type 0
+IsZeroAtFree taken v = (j : ℕ) → j < length v → HasNoPivot taken j → slice_index v j ≡ 0
 
 -- q is 1 at column c, 0 before it and at the columns that aren't free; at the others, for a prime modulus, v is the
 -- multiple of q by v's entry at c
@@ -38,7 +38,7 @@ pub record IsPivotOf (p c : ℕ) (taken : List Bool) (v q : List ℕ) : Type 0 w
   pub one : slice_index q c ≡ 1
   pub before : (j : ℕ) → j < c → slice_index q j ≡ 0
   pub clear : (j : ℕ) → j < length v → slice_index_or taken j false ≡ true → slice_index q j ≡ 0
-  pub scaled : IsPrime p → (j : ℕ) → j < length v → j ≢ c → IsFree taken j →
+  pub scaled : IsPrime p → (j : ℕ) → j < length v → j ≢ c → HasNoPivot taken j →
       slice_index v j % p ≡ (slice_index v c * slice_index q j) % p
 
 -- w is v at column c and at the columns that aren't free, and 0 elsewhere
@@ -46,7 +46,7 @@ pub record KeepsCoefficients (p c : ℕ) (taken : List Bool) (v w : List ℕ) : 
   pub vector : IsVector p (length v) w
   pub lead : slice_index w c ≡ slice_index v c
   pub kept : (j : ℕ) → j < length v → slice_index_or taken j false ≡ true → slice_index w j ≡ slice_index v j
-  pub clear : (j : ℕ) → j < length v → j ≢ c → IsFree taken j → slice_index w j ≡ 0
+  pub clear : (j : ℕ) → j < length v → j ≢ c → HasNoPivot taken j → slice_index w j ≡ 0
 
 -- the row of n entries has the first m values at these places, and 0 at all others
 pub record IsPut (n m : ℕ) (place value : ℕ → ℕ) (row : List ℕ) : Type 0 where

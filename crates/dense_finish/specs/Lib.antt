@@ -1,7 +1,6 @@
 pub mod Block
 pub mod Dense
 pub mod Factors
-pub mod Indices
 pub mod Multiples
 pub mod Panel
 pub mod Pivots

@@ -109,7 +109,7 @@ pub record IsPanelFrom (p : ℕ) (columns : List ℕ) (r : ℕ) (f : Pivots) (pa
   pub continues : Continues (pivot_sequence p columns f) r panel
 
 -- the pivots' places in the matrix, whose rows and columns with entries are these
-pub record ArePlaces (f_rows f_columns rows columns : List ℕ) (pivots : List Pair) : Type 0 where
+pub record ArePivotPlaces (f_rows f_columns rows columns : List ℕ) (pivots : List Pair) : Type 0 where
   pub long : length pivots ≡ length f_rows
   pub row : (k : ℕ) → k < length f_rows → row_at pivots k ≡ slice_index rows (slice_index f_rows k)
   pub column : (k : ℕ) → k < length f_rows → col_at pivots k ≡ slice_index columns (slice_index f_columns k)

@@ -3,8 +3,8 @@ ghost use Rattle.std.specs.Prelude.{◌≡◌, ◌<◌, ◌≤◌, ℕ, length, 
 ghost use Rattle.residue_words.specs.Matrix.{IsVector, zeros};
 ghost use Rattle.sparse_rows.specs.Rows.{AreRising};
 ghost use Rattle.sparse_rows.specs.declared.rows.TheConstants.{LARGEST_SIZE};
-ghost use Rattle.dense_finish.specs.Dense.{AreEntriesAt, Gathers, IsClear, IsFirstFree, IsPivotOf, KeepsCoefficients, Scatters, TakesOut};
-ghost use Rattle.dense_finish.specs.Indices.{AreBelow};
+ghost use Rattle.dense_finish.specs.Dense.{AreEntriesAt, Gathers, IsZeroAtFree, IsFirstFree, IsPivotOf, KeepsCoefficients, Scatters, TakesOut};
+ghost use Rattle.sparse_rows.specs.Rows.{AreBelow};
 ghost use Rattle.dense_finish.specs.Multiples.{plus_multiple};
 
 use crate::residue::Residue;
@@ -128,7 +128,7 @@ impl<W: Residue> Dense<W> {
     pub(crate) fn first_free(&self, taken: &[bool]) -> Option<usize>
         requires { length taken.now ≡ length self.now }
         ensures some { IfSome result (IsFirstFree self.now taken.now) }
-        ensures none { IfNone result (IsClear taken.now self.now) }
+        ensures none { IfNone result (IsZeroAtFree taken.now self.now) }
     {
         for j in 0..taken.len() {
             if !taken[j] && self.get(j) != 0 {

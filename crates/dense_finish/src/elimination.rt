@@ -7,7 +7,7 @@ ghost use Rattle.sparse_rows.specs.declared.rows.TheConstants.{LARGEST_SIZE};
 ghost use Rattle.dense_finish.specs.Block.{AreVectors};
 ghost use Rattle.dense_finish.specs.Dense.{IsFirstFree, IsPivotOf, KeepsCoefficients};
 ghost use Rattle.dense_finish.specs.Factors.{IsFactored};
-ghost use Rattle.dense_finish.specs.Indices.{AreBelow};
+ghost use Rattle.sparse_rows.specs.Rows.{AreBelow};
 ghost use Rattle.dense_finish.specs.Pivots.{AddsPivot, AreEliminated, AreFound, IsPanelFrom, KeepsSplit, SplitBy, count, pivot_at, stage};
 
 use crate::block::block_of;

@@ -4,7 +4,7 @@ ghost use Rattle.residue_words.specs.Matrix.{IsMatrix};
 ghost use Rattle.sparse_rows.specs.Rows.{AreRising, with_zeros};
 ghost use Rattle.sparse_rows.specs.declared.rows.TheConstants.{LARGEST_SIZE};
 ghost use Rattle.dense_finish.specs.Block.{AreVectors};
-ghost use Rattle.dense_finish.specs.Indices.{AreBelow};
+ghost use Rattle.sparse_rows.specs.Rows.{AreBelow};
 ghost use Rattle.dense_finish.specs.Factors.{IsLeft};
 
 use crate::dense::Dense;

@@ -3,7 +3,7 @@ ghost use Rattle.std.specs.Prelude.{◌≡◌, ◌<◌, ◌≤◌, length, IfOk,
 ghost use Rattle.residue_words.specs.Matrix.{IsVector};
 ghost use Rattle.sparse_rows.specs.Rows.{AreRising};
 ghost use Rattle.sparse_rows.specs.declared.rows.TheConstants.{LARGEST_SIZE};
-ghost use Rattle.dense_finish.specs.Indices.{AreBelow};
+ghost use Rattle.sparse_rows.specs.Rows.{AreBelow};
 
 use crate::dense::Dense;
 use crate::residue::Residue;
@@ -23,7 +23,7 @@ pub(crate) struct Pivots {
 }
 
 impl Pivots {
-    ghost use Rattle.dense_finish.specs.Pivots.{AddsPivot, AreFound, ArePlaces, count, pivot_at};
+    ghost use Rattle.dense_finish.specs.Pivots.{AddsPivot, AreFound, ArePivotPlaces, count, pivot_at};
 
     // No pivot of a block with these columns of a matrix of this width.
     pub(crate) fn new(
@@ -84,7 +84,7 @@ impl Pivots {
         requires long { length self.now.rows.items ≡ count self.now }
         requires rows { AreBelow (length rows.now) self.now.rows.items }
         requires columns { AreBelow (length columns.now) self.now.columns.items }
-        ensures { IfOk result (ArePlaces self.now.rows.items self.now.columns.items rows.now columns.now) }
+        ensures { IfOk result (ArePivotPlaces self.now.rows.items self.now.columns.items rows.now columns.now) }
     {
         let mut places = List::new(alloc);
         for k in 0..self.rows.len() {

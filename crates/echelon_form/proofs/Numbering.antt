@@ -9,7 +9,7 @@ use Rattle.std.proofs.lemmas.List.{get_or_default}
 use Rattle.std.proofs.lemmas.List.Edits.{Swapped, swapped_from_swap, length-swap}
 use Rattle.std.proofs.lemmas.List.Sorted.{IsPermutation-keeps}
 use Rattle.triangular_solve.specs.Leads.{KeptRows, IsSound}
-use Rattle.echelon_form.specs.Settling.{IsOrder}
+use Rattle.echelon_form.specs.Settling.{IsOrderOfLeads}
 
 -- i, but a and b in each other's place
 turned : ℕ → ℕ → ℕ → ℕ
@@ -122,7 +122,7 @@ numbered_of_listed {kept} {l} sound h = record {
     low t lt = omega (arith, h.long)
 
 -- sorted by leads they are in order
-pub order_of_sorted : {kept : KeptRows} {l sorted : List (ℕ × ℕ)} → IsSound kept → AreListed kept kept.matrix.height l → IsPermutation l sorted → IsNonDecreasingBy (λ c. c.0) sorted → IsOrder kept sorted
+pub order_of_sorted : {kept : KeptRows} {l sorted : List (ℕ × ℕ)} → IsSound kept → AreListed kept kept.matrix.height l → IsPermutation l sorted → IsNonDecreasingBy (λ c. c.0) sorted → IsOrderOfLeads kept sorted
 order_of_sorted {kept} {l} {sorted} sound h moved rises = record {
   long = all.long;
   inside = λ t d lt. subst (λ c. c.1 < kept.matrix.height) (get_or_default sorted t none d lt) (all.inside t lt);

@@ -14,7 +14,7 @@ use Rattle.sparse_rows.specs.Rows.{ResidueRow}
 use Rattle.sparse_rows.specs.Stored.{with_row}
 use Rattle.triangular_solve.specs.Leads.{KeptRows, IsSettled, IsSound}
 use Rattle.echelon_form.specs.Form.{Form, IsEchelon, IsFormOf}
-use Rattle.echelon_form.specs.Settling.{IsOrder, AreSettled, IsSettledRow}
+use Rattle.echelon_form.specs.Settling.{IsOrderOfLeads, AreSettled, IsSettledRow}
 use Rattle.sparse_rows.proofs.Loops.{matrix_more}
 
 -- at first there is none
@@ -50,7 +50,7 @@ settled_more {kept} {order} {t} {E} s before here = record {
     old k l = get_or-append E.rows (s.row ∷ []) [] k (omega (arith, high))
 
 -- they have these leads
-pub settled_leads : {kept : KeptRows} {order : List (ℕ × ℕ)} {E : Matrix} → IsSound kept → IsOrder kept order → AreSettled kept order (length order) E →
+pub settled_leads : {kept : KeptRows} {order : List (ℕ × ℕ)} {E : Matrix} → IsSound kept → IsOrderOfLeads kept order → AreSettled kept order (length order) E →
     HasLeads E (map (λ c. c.0) order)
 settled_leads {kept} {order} {E} sound o s = (
   length-map order (λ (c : ℕ × ℕ). c.0) ∙ sym s.height,
@@ -95,7 +95,7 @@ rising_few (suc r) n a up low =
     omega (arith, low r (omega arith), rising_few r (a r) a (λ k t m l. up k t m (omega arith)) (λ k l. up k r l (omega arith)))
 
 -- as many independent rows of the kept rows' space span it
-pub settled_span : {kept : KeptRows} {order : List (ℕ × ℕ)} {E : Matrix} → IsSound kept → IsOrder kept order → AreSettled kept order (length order) E →
+pub settled_span : {kept : KeptRows} {order : List (ℕ × ℕ)} {E : Matrix} → IsSound kept → IsOrderOfLeads kept order → AreSettled kept order (length order) E →
     SameSpan kept.modulus kept.matrix E
 settled_span {kept} {order} {E} sound o s v =
     let pos : 0 < kept.modulus = omega (arith, sound.two_or_more) in
@@ -107,7 +107,7 @@ settled_span {kept} {order} {E} sound o s v =
     )
 
 -- so they and the leads are the form of the rows that the kept rows span
-pub form_of_settled : {p q : ℕ} {A E : Matrix} {kept : KeptRows} {order : List (ℕ × ℕ)} {leads : List ℕ} → IsSound kept → IsOrder kept order → AreSettled kept order (length order) E →
+pub form_of_settled : {p q : ℕ} {A E : Matrix} {kept : KeptRows} {order : List (ℕ × ℕ)} {leads : List ℕ} → IsSound kept → IsOrderOfLeads kept order → AreSettled kept order (length order) E →
     leads ≡ map (λ c. c.0) order → q ≡ p → kept.modulus ≡ p → kept.matrix.width ≡ A.width → (IsPrime p → SameSpan p A kept.matrix) →
     IsFormOf p A (record { modulus = q; matrix = E; leads = leads })
 form_of_settled {p} {q} {A} {E} {kept} {order} {leads} sound o s named same modulus width span = record {

@@ -12,7 +12,7 @@ abbrev pub HaveSpanOf : Matrix → KeptRows → Type 0
 HaveSpanOf A kept = IsPrime kept.modulus → SameSpan kept.modulus A kept.matrix
 
 -- the leads ascend, and beside each stands the number of the kept row that has it
-pub record IsOrder (kept : KeptRows) (order : List (ℕ × ℕ)) : Type 0 where
+pub record IsOrderOfLeads (kept : KeptRows) (order : List (ℕ × ℕ)) : Type 0 where
   pub long : length order ≡ kept.matrix.height
   pub inside : (t : ℕ) (d : ℕ × ℕ) → t < length order → (slice_index_or order t d).1 < kept.matrix.height
   pub leads : (t : ℕ) (d : ℕ × ℕ) → t < length order → (slice_index_or order t d).0 ≡ slice_index kept.leads (slice_index_or order t d).1

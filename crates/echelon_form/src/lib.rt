@@ -3,7 +3,7 @@
 
 mod echelon;
 mod elimination;
-mod order;
+mod lead_order;
 mod settle;
 #[cfg(test)]
 mod tests;

@@ -1,7 +1,7 @@
 // The settled rows, made by several workers.
 ghost use Rattle.std.specs.Prelude.{◌≡◌, ◌<◌, ◌≤◌, length, IfOk};
 ghost use Rattle.triangular_solve.specs.Leads.{IsSound};
-ghost use Rattle.echelon_form.specs.Settling.{AreSettled, AreShares, IsOrder, IsShare};
+ghost use Rattle.echelon_form.specs.Settling.{AreSettled, AreShares, IsOrderOfLeads, IsShare};
 
 use sparse_rows::{Rows, Sparse};
 use std::alloc::{AllocError, Global};
@@ -22,7 +22,7 @@ pub(crate) fn shares_of<R: Threads + Sync>(
 ) -> Result<Vec<Share>, AllocError>
     requires some { 1 ≤ workers }
     requires few { workers ≤ 64 }
-    requires order { IsOrder kept.now order.now }
+    requires order { IsOrderOfLeads kept.now order.now }
     ensures count { IfOk result (λ shares. length shares.items ≡ workers) }
     ensures shares { IfOk result (λ shares. AreShares kept.now order.now shares.items) }
 {
@@ -44,7 +44,7 @@ fn share_of(
 ) -> Share
     requires worker { worker < workers }
     requires few { workers ≤ 64 }
-    requires order { IsOrder kept.now order.now }
+    requires order { IsOrderOfLeads kept.now order.now }
     ensures { IfOk result (λ share. IsShare kept.now order.now worker workers share.items) }
 {
     let mut accumulator = Accumulator::new(alloc, kept.width(), &kept.modulus())?;
@@ -65,7 +65,7 @@ pub(crate) fn merged(
     shares: &[Share],
 ) -> Result<Rows, AllocError>
     requires sound { IsSound kept.now }
-    requires order { IsOrder kept.now order.now }
+    requires order { IsOrderOfLeads kept.now order.now }
     requires some { 1 ≤ length shares.now }
     requires shares { AreShares kept.now order.now shares.now }
     ensures modulus { IfOk result (λ rows. rows.modulus ≡ kept.now.modulus) }

@@ -10,7 +10,7 @@ use Rattle.sparse_rows.specs.Rows.{beside, identity, transposed}
 use Rattle.sparse_rows.proofs.Loops.{sized}
 use Rattle.sparse_rows.proofs.Spread.{map_range_equal}
 use Rattle.row_space.specs.Solution.{augmented}
-use Rattle.kernel_solve.specs.Column.{column, column_of}
+use Rattle.kernel_solve.specs.Column.{column, column_matrix}
 
 -- a transposed matrix
 pub transposed_entry : (M : Matrix) (i j : ℕ) → i < M.width → j < M.height → entry (transposed M) i j ≡ entry M j i
@@ -76,11 +76,11 @@ identity_matrix p n two = is_matrix_of p n n (λ i j. cond (eqb i j) 1 0) (λ i 
 ])
 
 -- the column of a list is the list
-pub column_again : (x : List ℕ) → column (column_of x) ≡ x
+pub column_again : (x : List ℕ) → column (column_matrix x) ≡ x
 column_again x =
-    list_equal (length x) (column (column_of x)) x (length_list_of (length x) _) refl (λ i l.
+    list_equal (length x) (column (column_matrix x)) x (length_list_of (length x) _) refl (λ i l.
     at_list_of (length x) _ i l ∙ entry_matrix_of (length x) 1 (λ i j. slice_index x i) i 0 l (omega arith))
 
 -- of residues it is a matrix of residues
-pub column_matrix : {p : ℕ} {x : List ℕ} → IsVector p (length x) x → IsMatrix p (column_of x)
+pub column_matrix : {p : ℕ} {x : List ℕ} → IsVector p (length x) x → IsMatrix p (column_matrix x)
 column_matrix {p} {x} v = is_matrix_of p (length x) 1 (λ i j. slice_index x i) (λ i j a b. v.residues i a)

@@ -14,7 +14,7 @@ use Rattle.row_space.specs.Echelon.{HasLeads, IsRref}
 use Rattle.row_space.specs.Solution.{IsReducedSolution, IsSolution, augmented, refuting_rows, refuting_side}
 use Rattle.row_space.proofs.ReadOff.{last_lead, solution_read}
 use Rattle.row_space.proofs.Refuting.{refuting_column, refuting_end}
-use Rattle.kernel_solve.specs.Column.{column, column_at, column_of}
+use Rattle.kernel_solve.specs.Column.{column, column_at, column_matrix}
 use Rattle.kernel_solve.specs.ReadOff.{IsAtLeads}
 use Rattle.kernel_solve.proofs.AtLeads.{lead_or_none}
 use Rattle.kernel_solve.proofs.Matrices.{beside_column, beside_left, beside_right, column_vector}
@@ -46,7 +46,7 @@ module _ (p : ℕ) (A B E : Matrix) (leads : List ℕ) (two : 2 ≤ p) (ma : IsM
 
 -- [A | B] with the row (0, .., 0, 1) below, transposed, is the refuting system
 pub refuting_put : (p : ℕ) (A B S : Matrix) (last : List ℕ) → IsMatrix p A → B.width ≡ 1 → A.height ≡ B.height → S ≡ beside A B →
-    last ≡ slice_set (zeros (A.width + 1)) A.width 1 → transposed (with_row S last) ≡ beside (refuting_rows A (column B)) (column_of (refuting_side A.width))
+    last ≡ slice_set (zeros (A.width + 1)) A.width 1 → transposed (with_row S last) ≡ beside (refuting_rows A (column B)) (column_matrix (refuting_side A.width))
 refuting_put p A B S last ma narrow heights made e =
     let w : ℕ = A.width in
     let h : ℕ = A.height in
@@ -54,7 +54,7 @@ refuting_put p A B S last ma narrow heights made e =
     let side : List ℕ = refuting_side w in
     let T : Matrix = with_row (beside A B) last in
     let f : ℕ → List ℕ = λ j. list_of (h + 1) (λ i. entry T i j) in
-    let g : ℕ → List ℕ = λ j. row (refuting_rows A b) j ++ row (column_of side) j in
+    let g : ℕ → List ℕ = λ j. row (refuting_rows A b) j ++ row (column_matrix side) j in
     let tall : length (beside A B).rows ≡ h = length-map-range_with_len (λ i. row A i ++ row B i) 0 h in
     let zeros_long : length (zeros w) ≡ w = length_list_of w (λ j. 0) in
     let side_long : length side ≡ w + 1 = length_push (zeros w) 1 ∙ ap (λ n. n + 1) zeros_long in

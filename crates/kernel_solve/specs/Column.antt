@@ -12,5 +12,5 @@ abbrev pub column : Matrix → List ℕ
 column A = column_at A 0
 
 -- the matrix of one column with these entries
-abbrev pub column_of : List ℕ → Matrix
-column_of x = matrix_by (length x) 1 (λ i j. slice_index x i)
+abbrev pub column_matrix : List ℕ → Matrix
+column_matrix x = matrix_by (length x) 1 (λ i j. slice_index x i)

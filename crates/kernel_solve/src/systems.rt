@@ -6,7 +6,7 @@ ghost use Rattle.sparse_rows.specs.declared.rows.TheConstants.{LARGEST_SIZE};
 ghost use Rattle.sparse_rows.specs.Rows.{beside};
 ghost use Rattle.row_space.specs.Solution.{refuting_rows, refuting_side};
 ghost use Rattle.echelon_form.specs.Form.{IsFormOf};
-ghost use Rattle.kernel_solve.specs.Column.{column, column_of};
+ghost use Rattle.kernel_solve.specs.Column.{column, column_matrix};
 ghost use Rattle.kernel_solve.specs.Found.{Answers, HasShape};
 ghost use Rattle.kernel_solve.specs.ReadOff.{IsAtLeads};
 
@@ -77,7 +77,7 @@ pub fn refuting_system(alloc: Global, a: &Rows, b: &Rows) -> Result<Rows, AllocE
     requires width { a.now.matrix.width < LARGEST_SIZE }
     ensures modulus { IfOk result (λ rows. rows.modulus ≡ a.now.modulus) }
     ensures matrix { IfOk result (λ rows. rows.matrix ≡ beside
-        (refuting_rows a.now.matrix (column b.now.matrix)) (column_of (refuting_side a.now.matrix.width))) }
+        (refuting_rows a.now.matrix (column b.now.matrix)) (column_matrix (refuting_side a.now.matrix.width))) }
 {
     let mut system = a.beside(alloc, b)?;
     let mut last = Sparse::new(alloc, system.width(), a.modulus());

@@ -17,7 +17,7 @@ use Rattle.pivot_table.proofs.Reaching.{reaches_step}
 use Rattle.optimistic_search.specs.Raising.{below_top, work_left}
 use Rattle.optimistic_search.specs.Levels.{IsLevel, AreLevels, IsBoundedWalk, AreRaised, ArePartlyRaised, limits, raised}
 use Rattle.optimistic_search.specs.Reached.{progress}
-use Rattle.optimistic_search.specs.Marks.{Grows}
+use Rattle.optimistic_search.specs.MarkedColumns.{Grows}
 use Rattle.optimistic_search.proofs.Growing.{kept, came, at_kept, longer}
 use Rattle.optimistic_search.proofs.Walking.{in_support, at_support}
 

@@ -1,7 +1,7 @@
 -- How much is left to raise.
 use Rattle.std.specs.Prelude.{◌≡◌, ◌+◌, ◌-◌, ◌*◌, ℕ, List, [], ◌∷◌, length, slice_index}
 use Rattle.optimistic_search.specs.Indexed.{Indexed}
-use Rattle.optimistic_search.specs.Marks.{Marked}
+use Rattle.optimistic_search.specs.MarkedColumns.{Marked}
 
 -- how far the levels stand below n
 abbrev pub below_top : ℕ → List ℕ → ℕ

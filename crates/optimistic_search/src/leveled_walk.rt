@@ -4,13 +4,14 @@ ghost use Rattle.std.specs.List.{Contains};
 ghost use Rattle.pivot_table.specs.History.{Alive, Grown, HasCol, HasRow, row_weight};
 ghost use Rattle.optimistic_search.specs.Indexed.{IsAliveAt, LeadsTo, support_of};
 ghost use Rattle.optimistic_search.specs.Levels.{AreLevels, FreeAreLow, IsLevel, IsLow, IsOut, LowAreBegun, LowAreTaken};
-ghost use Rattle.optimistic_search.specs.Marks.{AllBetween, AreBelow, Grows};
+ghost use Rattle.sparse_rows.specs.Rows.{AreBelow};
+ghost use Rattle.optimistic_search.specs.MarkedColumns.{AllBetween, Grows};
 ghost use Rattle.optimistic_search.specs.Reached.{AreReached};
 ghost use Rattle.optimistic_search.specs.Walked.{IsLeastAlive};
 
 use crate::levels::Levels;
-use crate::marks::Marks;
-use crate::pivots::Pivots;
+use crate::marked_columns::MarkedColumns;
+use crate::indexed_pairs::IndexedPairs;
 use crate::raising::raise_all;
 use residue_words::plain::Pair;
 use sparse_rows::Rows;
@@ -18,7 +19,7 @@ use std::alloc::{AllocError, Global};
 use std::marker::Model;
 
 // The place of the first of these columns that no step leads to and that is in no pair.
-fn sure_place(pivots: &Pivots, levels: &Levels, cols: &[u32]) -> usize
+fn sure_place(pivots: &IndexedPairs, levels: &Levels, cols: &[u32]) -> usize
     requires cols { AreBelow pivots.now.rows.matrix.width cols.now }
     requires long { length levels.now ≡ pivots.now.rows.matrix.width }
     ensures high { result ≤ length cols.now }
@@ -34,7 +35,7 @@ fn sure_place(pivots: &Pivots, levels: &Levels, cols: &[u32]) -> usize
 }
 
 // The level of a column that is in no pair; 0 at the others.
-fn level_of(pivots: &Pivots, levels: &Levels, c: u32) -> u32
+fn level_of(pivots: &IndexedPairs, levels: &Levels, c: u32) -> u32
     requires inside { c < pivots.now.rows.matrix.width }
     requires long { length levels.now ≡ pivots.now.rows.matrix.width }
     ensures { (¬ HasCol pivots.now.pairs c) → slice_index levels.now c ≤ result }
@@ -43,7 +44,7 @@ fn level_of(pivots: &Pivots, levels: &Levels, c: u32) -> u32
 }
 
 // The highest level among those of the first columns that are in no pair.
-fn highest(pivots: &Pivots, levels: &Levels, cols: &[u32], end: usize) -> u32
+fn highest(pivots: &IndexedPairs, levels: &Levels, cols: &[u32], end: usize) -> u32
     requires cols { AreBelow pivots.now.rows.matrix.width cols.now }
     requires long { length levels.now ≡ pivots.now.rows.matrix.width }
     requires end { end ≤ length cols.now }
@@ -57,7 +58,7 @@ fn highest(pivots: &Pivots, levels: &Levels, cols: &[u32], end: usize) -> u32
 }
 
 // Marks column j, if it isn't yet and its level is at most the bound.
-fn add_low(levels: &Levels, marks: &mut Marks, j: u32, bound: u32)
+fn add_low(levels: &Levels, marks: &mut MarkedColumns, j: u32, bound: u32)
     requires inside { j < marks.old.width }
     requires long { length levels.now ≡ marks.old.width }
     ensures width { marks.new.width ≡ marks.old.width }
@@ -70,7 +71,7 @@ fn add_low(levels: &Levels, marks: &mut Marks, j: u32, bound: u32)
 }
 
 // Marks those of these columns whose level is at most the bound.
-fn add_all_low(levels: &Levels, marks: &mut Marks, cols: &[u32], bound: u32)
+fn add_all_low(levels: &Levels, marks: &mut MarkedColumns, cols: &[u32], bound: u32)
     requires inside { AreBelow marks.old.width cols.now }
     requires long { length levels.now ≡ marks.old.width }
     ensures width { marks.new.width ≡ marks.old.width }
@@ -83,7 +84,7 @@ fn add_all_low(levels: &Levels, marks: &mut Marks, cols: &[u32], bound: u32)
 }
 
 // Marks column j where it is pivotal and its level is at most the bound.
-fn begin_one(pivots: &Pivots, levels: &Levels, marks: &mut Marks, j: u32, bound: u32)
+fn begin_one(pivots: &IndexedPairs, levels: &Levels, marks: &mut MarkedColumns, j: u32, bound: u32)
     requires inside { j < pivots.now.rows.matrix.width }
     requires width { marks.old.width ≡ pivots.now.rows.matrix.width }
     requires long { length levels.now ≡ pivots.now.rows.matrix.width }
@@ -97,7 +98,7 @@ fn begin_one(pivots: &Pivots, levels: &Levels, marks: &mut Marks, j: u32, bound:
 }
 
 // Marks the pivotal columns of the row's support whose level is at most the bound.
-fn begin_at(pivots: &Pivots, levels: &Levels, marks: &mut Marks, row: u32, bound: u32)
+fn begin_at(pivots: &IndexedPairs, levels: &Levels, marks: &mut MarkedColumns, row: u32, bound: u32)
     requires inside { row < pivots.now.rows.matrix.height }
     requires width { marks.old.width ≡ pivots.now.rows.matrix.width }
     requires long { length levels.now ≡ pivots.now.rows.matrix.width }
@@ -113,7 +114,7 @@ fn begin_at(pivots: &Pivots, levels: &Levels, marks: &mut Marks, row: u32, bound
 }
 
 // Marks what column c leads to in a step, up to the bound's level.
-fn take_up(pivots: &Pivots, levels: &Levels, marks: &mut Marks, c: u32, bound: u32)
+fn take_up(pivots: &IndexedPairs, levels: &Levels, marks: &mut MarkedColumns, c: u32, bound: u32)
     requires inside { c < pivots.now.rows.matrix.width }
     requires width { marks.old.width ≡ pivots.now.rows.matrix.width }
     requires long { length levels.now ≡ pivots.now.rows.matrix.width }
@@ -127,7 +128,7 @@ fn take_up(pivots: &Pivots, levels: &Levels, marks: &mut Marks, c: u32, bound: u
 }
 
 // Whether column c is neither marked nor in a pair.
-fn is_left(pivots: &Pivots, marks: &Marks, c: u32) -> bool
+fn is_left(pivots: &IndexedPairs, marks: &MarkedColumns, c: u32) -> bool
     requires inside { c < pivots.now.rows.matrix.width }
     requires width { marks.now.width ≡ pivots.now.rows.matrix.width }
     ensures unmarked { IsTrue result → ¬ Contains marks.now.list c }
@@ -141,7 +142,7 @@ fn is_left(pivots: &Pivots, marks: &Marks, c: u32) -> bool
 }
 
 // The place of the first of these columns, from `from` on and before `end`, that is neither marked nor in a pair; else `end`.
-fn pass_over(pivots: &Pivots, marks: &Marks, cols: &[u32], from: usize, end: usize) -> usize
+fn pass_over(pivots: &IndexedPairs, marks: &MarkedColumns, cols: &[u32], from: usize, end: usize) -> usize
     requires cols { AreBelow pivots.now.rows.matrix.width cols.now }
     requires width { marks.now.width ≡ pivots.now.rows.matrix.width }
     requires from { from ≤ end }
@@ -165,9 +166,9 @@ fn pass_over(pivots: &Pivots, marks: &Marks, cols: &[u32], from: usize, end: usi
 // Takes up the marked columns until nothing is left to take up or no candidate before place `sure` is left. Answers the place
 // of the first candidate, or `sure`.
 fn go_on(
-    pivots: &Pivots,
+    pivots: &IndexedPairs,
     levels: &Levels,
-    marks: &mut Marks,
+    marks: &mut MarkedColumns,
     row: u32,
     bound: u32,
     sure: usize,
@@ -199,7 +200,7 @@ fn go_on(
 }
 
 // The place in the row's support of its first alive column, or the support's length.
-fn first_alive(pivots: &Pivots, levels: &Levels, marks: &mut Marks, row: u32) -> usize
+fn first_alive(pivots: &IndexedPairs, levels: &Levels, marks: &mut MarkedColumns, row: u32) -> usize
     requires inside { row < pivots.now.rows.matrix.height }
     requires fresh { ¬ HasRow pivots.now.pairs row }
     requires width { marks.old.width ≡ pivots.now.rows.matrix.width }
@@ -222,8 +223,8 @@ fn first_alive(pivots: &Pivots, levels: &Levels, marks: &mut Marks, row: u32) ->
 // It takes 13 bytes a column and 8 bytes a pair that there can be.
 #[derive(Drop)]
 pub(crate) struct LeveledWalk<'a> {
-    pivots: Pivots<'a>,
-    marks: Marks,
+    pivots: IndexedPairs<'a>,
+    marks: MarkedColumns,
     levels: Levels,
 }
 
@@ -244,8 +245,8 @@ impl<'a> LeveledWalk<'a> {
         ensures { IfOk result (λ l. l ≡ record { rows = rows.now; pairs = [] }) }
     {
         Ok(LeveledWalk {
-            pivots: Pivots::new(alloc, rows)?,
-            marks: Marks::new(alloc, rows.width())?,
+            pivots: IndexedPairs::new(alloc, rows)?,
+            marks: MarkedColumns::new(alloc, rows.width())?,
             levels: Levels::new(alloc, rows.width())?,
         })
     }

@@ -7,12 +7,12 @@ ghost use Rattle.optimistic_search.specs.Levels.{AreLevels, AreRaised, AreRaised
 ghost use Rattle.optimistic_search.specs.Raising.{Stays, work};
 
 use crate::levels::Levels;
-use crate::marks::Marks;
-use crate::pivots::Pivots;
+use crate::marked_columns::MarkedColumns;
+use crate::indexed_pairs::IndexedPairs;
 
 // Raises column d above the level of column c, if need be, where d stands in the row of the pair in column c. A column that is
 // raised is marked.
-fn raise_column(pivots: &Pivots, levels: &mut Levels, marks: &mut Marks, c: u32, level: u32, d: u32)
+fn raise_column(pivots: &IndexedPairs, levels: &mut Levels, marks: &mut MarkedColumns, c: u32, level: u32, d: u32)
     requires width { marks.old.width ≡ pivots.now.rows.matrix.width }
     requires long { length levels.old ≡ pivots.now.rows.matrix.width }
     requires inside { d < pivots.now.rows.matrix.width }
@@ -42,7 +42,7 @@ fn raise_column(pivots: &Pivots, levels: &mut Levels, marks: &mut Marks, c: u32,
 }
 
 // Raises what column c leads to in a step above c.
-fn raise_steps(pivots: &Pivots, levels: &mut Levels, marks: &mut Marks, c: u32)
+fn raise_steps(pivots: &IndexedPairs, levels: &mut Levels, marks: &mut MarkedColumns, c: u32)
     requires grown { Grown pivots.now.rows.matrix pivots.now.pairs }
     requires inside { c < pivots.now.rows.matrix.width }
     requires width { marks.old.width ≡ pivots.now.rows.matrix.width }
@@ -65,7 +65,7 @@ fn raise_steps(pivots: &Pivots, levels: &mut Levels, marks: &mut Marks, c: u32)
 }
 
 // Raises levels until they rise along each step.
-pub(crate) fn raise_all(pivots: &Pivots, levels: &mut Levels, marks: &mut Marks)
+pub(crate) fn raise_all(pivots: &IndexedPairs, levels: &mut Levels, marks: &mut MarkedColumns)
     requires grown { Grown pivots.now.rows.matrix pivots.now.pairs }
     requires width { marks.old.width ≡ pivots.now.rows.matrix.width }
     requires levels { AreRaised pivots.now.rows.matrix pivots.now.pairs levels.old marks.old.list }

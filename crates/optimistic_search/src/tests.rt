@@ -1,7 +1,7 @@
 // The walk on the example of histories, and both searches on small matrices.
 ghost use Rattle.sparse_rows.specs.declared.rows.TheConstants.{LARGEST_SIZE};
 ghost use Rattle.std.specs.Prelude.{◌≡◌, ◌<◌, ◌≤◌, ◌+◌, [], None, IfOk};
-ghost use Rattle.pivot_table.specs.Example.{example};
+ghost use Rattle.pivot_table.specs.Example.{pivot_example};
 
 use crate::{Open, Steps, Walk, search, search_by_walk};
 use pivot_table::Book;
@@ -16,7 +16,7 @@ use std::thread::Threads;
 
 // The rows (1, 0, 0), (1, 1, 1) and (1, 1, 2) modulo 7.
 fn example_rows(alloc: Global) -> Result<Rows, AllocError>
-    ensures { IfOk result (λ rows. rows.matrix ≡ example) }
+    ensures { IfOk result (λ rows. rows.matrix ≡ pivot_example) }
 {
     let mut builder = RowsBuilder::new(alloc, 3, 3, Modulus::new(7))?;
     builder.push(0, 0, 1)?;
@@ -32,7 +32,7 @@ fn example_rows(alloc: Global) -> Result<Rows, AllocError>
 // What is alive least for row 1 with the pair (0, 0), and then once row 2 has the column 1: the first takes at most 4 steps, the
 // second at most 3 more, and the pair (0, 0) none.
 fn overtaken<L: Ledger>(walk: &mut Walk, steps: &mut Steps<L>) -> [Option<u32>; 2]
-    requires matrix { walk.old.rows.matrix ≡ example }
+    requires matrix { walk.old.rows.matrix ≡ pivot_example }
     requires pairs { walk.old.pairs ≡ [] }
     requires closed { walk.old.current ≡ None }
     ensures { steps.new ≤ steps.old + 7 }

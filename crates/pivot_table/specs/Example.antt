@@ -6,8 +6,8 @@ use Rattle.pivot_table.specs.History.{pair, Dead, Grown, LeastAlive, Maximal}
 use Rattle.pivot_table.specs.Order.{IsOrder, Triangular}
 use Rattle.pivot_table.specs.Greedy.{IsGreedy}
 
-abbrev pub example : Matrix
-example = record { height = 3; width = 3; rows = (1 ∷ 0 ∷ 0 ∷ []) ∷ (1 ∷ 1 ∷ 1 ∷ []) ∷ (1 ∷ 1 ∷ 2 ∷ []) ∷ [] }
+abbrev pub pivot_example : Matrix
+pivot_example = record { height = 3; width = 3; rows = (1 ∷ 0 ∷ 0 ∷ []) ∷ (1 ∷ 1 ∷ 1 ∷ []) ∷ (1 ∷ 1 ∷ 2 ∷ []) ∷ [] }
 
 -- a history of it, in which row 1 was taken before row 2, and one in which row 2 was taken before row 1
 abbrev pub first_history : List Pair
@@ -18,11 +18,11 @@ other_history = pair 0 0 ∷ pair 2 1 ∷ []
 
 -- what holds of them
 pub record AreWorkedHistories : Type 0 where
-  pub grown : Grown example first_history
-  pub least : LeastAlive example (pair 0 0 ∷ []) 1 1
-  pub overtaken : Dead example other_history 1
-  pub maximal : Maximal example first_history
-  pub other_maximal : Maximal example other_history
-  pub greedy : IsGreedy example (pair 0 0 ∷ []) first_history
-  pub order : IsOrder example first_history (pair 1 1 ∷ pair 0 0 ∷ [])
-  pub triangular : Triangular example (pair 1 1 ∷ pair 0 0 ∷ [])
+  pub grown : Grown pivot_example first_history
+  pub least : LeastAlive pivot_example (pair 0 0 ∷ []) 1 1
+  pub overtaken : Dead pivot_example other_history 1
+  pub maximal : Maximal pivot_example first_history
+  pub other_maximal : Maximal pivot_example other_history
+  pub greedy : IsGreedy pivot_example (pair 0 0 ∷ []) first_history
+  pub order : IsOrder pivot_example first_history (pair 1 1 ∷ pair 0 0 ∷ [])
+  pub triangular : Triangular pivot_example (pair 1 1 ∷ pair 0 0 ∷ [])

@@ -1,3 +1,4 @@
+pub mod Adding
 pub mod Building
 pub mod Cuts
 pub mod Expanding

@@ -6,7 +6,7 @@ use Rattle.std.proofs.lemmas.List.{length-set, get_or-set_same, get_or-set_other
 use Rattle.std.proofs.lemmas.Bool.{cases_lt, cases_eq}
 use Rattle.residue_words.specs.Matrix.{list_of}
 use Rattle.residue_words.proofs.Vectors.{length_list_of, at_list_of, list_equal}
-use Rattle.sparse_rows.specs.Marks.{AllZero, IsFirstMark, IsLowest, IsMarks, TakesFirst, bit, marks_of}
+use Rattle.sparse_rows.specs.ColumnSet.{AllZero, IsFirstMark, IsLowest, IsMarks, TakesFirst, bit, marks_of}
 
 -- a word with one bit set, and with one bit cleared
 abbrev pub with_bit : ℕ → ℕ → ℕ

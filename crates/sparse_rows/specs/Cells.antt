@@ -4,7 +4,8 @@ use Rattle.residue_words.specs.declared.modulus.TheConstants.{MODULUS_BOUND}
 use Rattle.sparse_rows.specs.declared.rows.TheConstants.{LARGEST_SIZE}
 use Rattle.std.specs.List.{sum_by}
 use Rattle.sparse_rows.specs.declared.cells.Cell.{Cell}
-use Rattle.sparse_rows.specs.Rows.{Triple}
+use Rattle.sparse_rows.specs.Rows.{Triple, matrix_by}
+use Rattle.residue_words.specs.Matrix.{Matrix}
 
 -- the place of row i and column j
 abbrev pub place_of : ℕ → ℕ → ℕ
@@ -23,6 +24,10 @@ triple_of c = record { i = row_of c; j = column_of c; v = c.val }
 -- the sum of the values at a place
 abbrev pub weight : ℕ → List Cell → ℕ
 weight t cells = sum_by (λ c. if c.place == t then c.val else 0) cells
+
+-- the matrix of m x n with these sums at its places
+abbrev pub matrix_of_cells : ℕ → ℕ → List Cell → Matrix
+matrix_of_cells m n cells = matrix_by m n (λ i j. weight (place_of i j) cells)
 
 -- the cell lies within a matrix of m x n
 pub record IsWithin (m n : ℕ) (c : Cell) : Type 0 where

@@ -1,7 +1,7 @@
 -- A matrix whose rows are all stored, or only those that have an entry.
 use Rattle.std.specs.Prelude.{◌≡◌, ◌<◌, ◌≤◌, ◌+◌, ◌==◌, if◌then◌else◌, ℕ, Bool, true, false, List, [], ◌∷◌, length, map, slice_index}
 use Rattle.std.specs.List.{range_with_len}
-use Rattle.residue_words.specs.Matrix.{Matrix, row, zeros}
+use Rattle.residue_words.specs.Matrix.{Matrix, entry, row, zeros}
 use Rattle.sparse_rows.specs.declared.rows.TheConstants.{LARGEST_SIZE}
 use Rattle.sparse_rows.specs.Rows.{AreRising, AreZeroFrom, IsFilled, IsZeroRow}
 
@@ -41,3 +41,15 @@ pub record IsNextInEither (A B : Matrix) (from i : ℕ) : Type 0 where
   pub below : i < A.height
   pub left : (k : ℕ) → from ≤ k → k < i → IsZeroRow A k
   pub right : (k : ℕ) → from ≤ k → k < i → IsZeroRow B k
+
+-- v and w have the same entries at the columns below n
+abbrev pub AgreeBelow : ℕ → List ℕ → List ℕ → Type 0
+AgreeBelow n v w = (j : ℕ) → j < n → slice_index w j ≡ slice_index v j
+
+-- row i of A stands in w from column `by` on
+abbrev pub HasRowAt : ℕ → Matrix → ℕ → List ℕ → Type 0
+HasRowAt by A i w = (j : ℕ) → j < A.width → slice_index w (by + j) ≡ entry A i j
+
+-- w, of n entries, is 0 from column k on
+abbrev pub EndsAt : ℕ → ℕ → List ℕ → Type 0
+EndsAt k n w = (j : ℕ) → k ≤ j → j < n → slice_index w j ≡ 0

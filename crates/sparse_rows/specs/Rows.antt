@@ -1,7 +1,7 @@
 -- What compressed rows stand for: a plain matrix with its modulus, a plain row, a list.
-use Rattle.std.specs.Prelude.{◌≡◌, ◌≢◌, ◌<◌, ◌≤◌, ◌+◌, ◌%◌, ◌==◌, ◌&&◌, if◌then◌else◌, ℕ, List, [], ◌∷◌, ◌++◌, length, map, replicate, slice_index, Contains}
+use Rattle.std.specs.Prelude.{◌≡◌, ◌≢◌, ◌<◌, ◌≤◌, ◌+◌, ◌*◌, ◌%◌, ◌==◌, ◌&&◌, if◌then◌else◌, ℕ, List, [], ◌∷◌, ◌++◌, length, map, replicate, slice_index, slice_set, Contains}
 use Rattle.std.specs.List.{flat_map, range_with_len}
-use Rattle.residue_words.specs.Matrix.{Matrix, entry, list_of, row, zeros}
+use Rattle.residue_words.specs.Matrix.{IsVector, Matrix, entry, list_of, row, zeros}
 use Rattle.residue_words.specs.Residues.{sum_below}
 use Rattle.sparse_rows.specs.Stored.{entry_at}
 
@@ -49,6 +49,10 @@ pub record IsNextFilled (A : Matrix) (from i : ℕ) : Type 0 where
   pub below : i < A.height
   pub filled : IsFilled A i
   pub between : (k : ℕ) → from ≤ k → k < i → IsZeroRow A k
+
+-- each index is below n
+abbrev pub AreBelow : ℕ → List ℕ → Type 0
+AreBelow n indices = (k : ℕ) → k < length indices → slice_index indices k < n
 
 -- the numbers ascend
 abbrev pub AreRising : List ℕ → Type 0
@@ -142,3 +146,14 @@ narrowed A columns = matrix_by A.height (length columns) (λ i k. entry A i (sli
 -- the matrix of n columns that has the columns of A at these columns, and zeros elsewhere
 abbrev pub widened : Matrix → ℕ → List ℕ → Matrix
 widened A n columns = matrix_by A.height n (λ i. entry_at columns (row A i))
+
+-- v was added to the entry at column j
+pub record AddsAt (j v : ℕ) (old new : ResidueRow) : Type 0 where
+  pub modulus : new.modulus ≡ old.modulus
+  pub row : new.row ≡ slice_set old.row j ((slice_index old.row j + v) % old.modulus)
+
+-- the multiple of the row that stands in these columns and values was added
+pub record AddsMultiple (by : ℕ) (cols vals : List ℕ) (old new : ResidueRow) : Type 0 where
+  pub modulus : new.modulus ≡ old.modulus
+  pub vector : IsVector old.modulus (length old.row) new.row
+  pub sums : (j : ℕ) → j < length old.row → slice_index new.row j ≡ (slice_index old.row j + by * entry_at cols vals j) % old.modulus

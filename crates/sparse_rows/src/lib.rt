@@ -7,9 +7,9 @@
 mod builder;
 mod cells;
 mod column_lists;
+mod column_set;
 mod group;
 mod list;
-mod marks;
 mod order;
 mod parts;
 mod rows;
@@ -20,7 +20,7 @@ mod sums;
 mod tests;
 
 pub use builder::RowsBuilder;
+pub use column_set::ColumnSet;
 pub use list::List;
-pub use marks::Marks;
 pub use rows::{LARGEST_SIZE, Rows};
 pub use sparse::Sparse;

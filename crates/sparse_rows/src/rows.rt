@@ -6,10 +6,10 @@ ghost use Rattle.std.specs.Option.{MatchOption};
 ghost use Rattle.residue_words.specs.Matrix.{IsMatrix, IsVector, apply, entry, row};
 ghost use Rattle.residue_words.specs.Residues.{sum_below};
 ghost use Rattle.sparse_rows.specs.Columns.{GoTo};
-ghost use Rattle.sparse_rows.specs.Placed.{AreBothZeroFrom, IsNextInEither};
-ghost use Rattle.sparse_rows.specs.Cells.{AreEntries, IsWithin, place_of, weight};
-ghost use Rattle.sparse_rows.specs.Rows.{AreEnough, AreFilled, AreOccupied, AreRising, AreZeroFrom, FitsMatrix, IsNextFilled, beside, built, entry_count, identity, matrix_by, narrowed, nonzeros, row_triples, selected, support, transposed, triple, triples_of, widened, with_zeros};
-ghost use Rattle.sparse_rows.specs.Stored.{IsSparse, spread, with_row};
+ghost use Rattle.sparse_rows.specs.Placed.{AgreeBelow, AreBothZeroFrom, EndsAt, HasRowAt, IsNextInEither};
+ghost use Rattle.sparse_rows.specs.Cells.{AreEntries, IsWithin, matrix_of_cells, place_of, weight};
+ghost use Rattle.sparse_rows.specs.Rows.{AreBelow, AreEnough, AreFilled, AreOccupied, AreRising, AreZeroFrom, FitsMatrix, IsNextFilled, beside, built, entry_count, identity, matrix_by, narrowed, nonzeros, row_triples, selected, support, transposed, triple, triples_of, widened, with_zeros};
+ghost use Rattle.sparse_rows.specs.Stored.{IsSparse, spread, with_row, with_sparse_row};
 
 use crate::builder::RowsBuilder;
 use crate::cells::{Cell, renumbered, row_numbers};
@@ -78,7 +78,7 @@ impl Rows {
         requires height_small { self.old.matrix.height < LARGEST_SIZE }
         requires sparse { IsSparse self.old.modulus self.old.matrix.width cols.now vals.now }
         ensures modulus { self.new.modulus ≡ self.old.modulus }
-        ensures matrix { OnOk result (self.new.matrix ≡ with_row self.old.matrix (spread self.old.matrix.width cols.now vals.now)) }
+        ensures matrix { OnOk result (self.new.matrix ≡ with_sparse_row self.old.matrix cols.now vals.now) }
         ensures err { OnErr result (self.new.matrix ≡ self.old.matrix) }
     {
         let _ = self.stored.height();
@@ -162,7 +162,7 @@ impl Rows {
         requires within { All (IsWithin height width) cells.now }
         requires entries { AreEntries modulus cells.now }
         ensures modulus { IfOk result (λ rows. rows.modulus ≡ modulus) }
-        ensures matrix { IfOk result (λ rows. rows.matrix ≡ matrix_by height width (λ i j. weight (place_of i j) cells.now)) }
+        ensures matrix { IfOk result (λ rows. rows.matrix ≡ matrix_of_cells height width cells.now) }
     {
         if stores_every_row(height, cells.len()) {
             return Ok(Rows {
@@ -241,8 +241,8 @@ impl Rows {
         requires { i < self.now.matrix.height }
         ensures support { result.now ≡ support (row self.now.matrix i) }
         ensures same_length { length result.now ≡ length (nonzeros (row self.now.matrix i)) }
-        ensures below_width { (k : ℕ) → k < length result.now → slice_index result.now k < self.now.matrix.width }
-        ensures ascending { (k t : ℕ) → k < t → t < length result.now → slice_index result.now k < slice_index result.now t }
+        ensures below_width { AreBelow self.now.matrix.width result.now }
+        ensures ascending { AreRising result.now }
     {
         if self.every_row {
             return self.stored.cols(i);
@@ -522,12 +522,12 @@ impl Rows {
         requires width { by + self.now.matrix.width ≤ length to.old.row }
         requires narrow { by + self.now.matrix.width ≤ LARGEST_SIZE }
         requires sound { IsMatrix self.now.modulus self.now.matrix }
-        requires behind { (j : ℕ) → by ≤ j → j < length to.old.row → slice_index to.old.row j ≡ 0 }
+        requires behind { EndsAt by (length to.old.row) to.old.row }
         ensures modulus { to.new.modulus ≡ to.old.modulus }
         ensures length { length to.new.row ≡ length to.old.row }
-        ensures before { OnOk result ((j : ℕ) → j < by → slice_index to.new.row j ≡ slice_index to.old.row j) }
-        ensures inside { OnOk result ((j : ℕ) → j < self.now.matrix.width → slice_index to.new.row (by + j) ≡ entry self.now.matrix i j) }
-        ensures after { OnOk result ((j : ℕ) → by + self.now.matrix.width ≤ j → j < length to.old.row → slice_index to.new.row j ≡ 0) }
+        ensures before { OnOk result (AgreeBelow by to.old.row to.new.row) }
+        ensures inside { OnOk result (HasRowAt by self.now.matrix i to.new.row) }
+        ensures after { OnOk result (EndsAt (by + self.now.matrix.width) (length to.old.row) to.new.row) }
     {
         let cols = self.cols(i);
         let vals = self.vals(i);

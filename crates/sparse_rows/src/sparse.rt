@@ -2,7 +2,7 @@
 ghost use Rattle.residue_words.specs.declared.modulus.TheConstants.{MODULUS_BOUND};
 ghost use Rattle.std.specs.Prelude.{◌≡◌, ◌<◌, ◌≤◌, ◌^◌, ℕ, length, slice_index, slice_set, OnOk, OnErr};
 ghost use Rattle.residue_words.specs.Matrix.{IsVector, zeros};
-ghost use Rattle.sparse_rows.specs.Rows.{nonzeros, support};
+ghost use Rattle.sparse_rows.specs.Rows.{AreBelow, AreRising, nonzeros, support};
 
 use residue_words::Modulus;
 use std::alloc::{AllocError, Global};
@@ -92,8 +92,8 @@ impl Sparse {
     pub fn cols(&self) -> &[u32]
         ensures support { result.now ≡ support self.now.row }
         ensures same_length { length result.now ≡ length (nonzeros self.now.row) }
-        ensures below_width { (k : ℕ) → k < length result.now → slice_index result.now k < length self.now.row }
-        ensures ascending { (k t : ℕ) → k < t → t < length result.now → slice_index result.now k < slice_index result.now t }
+        ensures below_width { AreBelow (length self.now.row) result.now }
+        ensures ascending { AreRising result.now }
     {
         self.cols.as_slice()
     }

@@ -4,9 +4,9 @@ ghost use Rattle.sparse_rows.specs.declared.rows.TheConstants.{LARGEST_SIZE};
 ghost use Rattle.std.specs.Prelude.{◌≡◌, ◌<◌, ◌≤◌, ◌+◌, ◌^◌, ℕ, [], length, slice_index, All, IfOk, OnErr, OnOk};
 ghost use Rattle.std.specs.Option.{MatchOption};
 ghost use Rattle.residue_words.specs.Matrix.{IsMatrix, row};
-ghost use Rattle.sparse_rows.specs.Cells.{AreEntries, IsWithin, place_of, weight};
-ghost use Rattle.sparse_rows.specs.Rows.{AreEnough, AreOccupied, AreRising, AreZeroFrom, IsNextFilled, entry_count, matrix_by, narrowed, nonzeros, support, transposed, widened, with_zeros};
-ghost use Rattle.sparse_rows.specs.Stored.{IsSparse, spread, with_row};
+ghost use Rattle.sparse_rows.specs.Cells.{AreEntries, IsWithin, matrix_of_cells, place_of, weight};
+ghost use Rattle.sparse_rows.specs.Rows.{AreBelow, AreEnough, AreOccupied, AreRising, AreZeroFrom, IsNextFilled, entry_count, matrix_by, narrowed, nonzeros, support, transposed, widened, with_zeros};
+ghost use Rattle.sparse_rows.specs.Stored.{IsSparse, spread, with_row, with_sparse_row};
 
 use crate::cells::{Cell, columns, row_starts, values};
 use crate::column_lists::{named_columns, occurring, places_among};
@@ -72,7 +72,7 @@ impl StoredRows {
         requires height_small { self.old.matrix.height < LARGEST_SIZE }
         requires sparse { IsSparse self.old.modulus self.old.matrix.width cols.now vals.now }
         ensures modulus { self.new.modulus ≡ self.old.modulus }
-        ensures matrix { OnOk result (self.new.matrix ≡ with_row self.old.matrix (spread self.old.matrix.width cols.now vals.now)) }
+        ensures matrix { OnOk result (self.new.matrix ≡ with_sparse_row self.old.matrix cols.now vals.now) }
         ensures err { OnErr result (self.new.matrix ≡ self.old.matrix) }
     {
         self.starts.reserve(1)?;
@@ -108,7 +108,7 @@ impl StoredRows {
         requires within { All (IsWithin height width) cells.now }
         requires entries { AreEntries modulus cells.now }
         ensures modulus { IfOk result (λ rows. rows.modulus ≡ modulus) }
-        ensures matrix { IfOk result (λ rows. rows.matrix ≡ matrix_by height width (λ i j. weight (place_of i j) cells.now)) }
+        ensures matrix { IfOk result (λ rows. rows.matrix ≡ matrix_of_cells height width cells.now) }
     {
         let _ = modulus.p();
         Ok(StoredRows {
@@ -159,8 +159,8 @@ impl StoredRows {
         requires { i < self.now.matrix.height }
         ensures support { result.now ≡ support (row self.now.matrix i) }
         ensures same_length { length result.now ≡ length (nonzeros (row self.now.matrix i)) }
-        ensures below_width { (k : ℕ) → k < length result.now → slice_index result.now k < self.now.matrix.width }
-        ensures ascending { (k t : ℕ) → k < t → t < length result.now → slice_index result.now k < slice_index result.now t }
+        ensures below_width { AreBelow self.now.matrix.width result.now }
+        ensures ascending { AreRising result.now }
     {
         part(&self.cols, &self.starts, i as usize)
     }

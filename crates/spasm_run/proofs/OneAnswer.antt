@@ -5,7 +5,7 @@ use Rattle.std.proofs.lemmas.Bool.Decides.{nat_tests}
 use Rattle.residue_words.specs.Matrix.{Matrix, row}
 use Rattle.row_space.proofs.InverseLaws.{inverse_unique}
 use Rattle.row_space.proofs.Unique.{kernel_unique, rank_unique, refutation_unique, rref_unique, solution_unique}
-use Rattle.kernel_solve.specs.Column.{column, column_of}
+use Rattle.kernel_solve.specs.Column.{column, column_matrix}
 use Rattle.sms_text.specs.Written.{text_of}
 use Rattle.sparse_rows.specs.Rows.{transposed}
 use Rattle.spasm_run.specs.declared.words.Task.TheVariants as task
@@ -16,7 +16,7 @@ use Rattle.spasm_run.proofs.OneSelection.{selection_one}
 one_solution : (p : ℕ) (A : Matrix) (b x y : List ℕ) → 2 ≤ p → SolvesTo p A b x → SolvesTo p A b y → x ≡ y
 one_solution p A b x y two (inl s) (inl t) =
     let same : s.0 ≡ t.0 = solution_unique p A b s.0 t.0 two s.1 t.1 in
-    s.2 ∙ ap (λ v. codes "solution\n" ++ text_of (column_of v)) same ∙ sym t.2
+    s.2 ∙ ap (λ v. codes "solution\n" ++ text_of (column_matrix v)) same ∙ sym t.2
 one_solution p A b x y two (inl s) (inr t) = absurd (t.1 s.0 s.1.solves)
 one_solution p A b x y two (inr s) (inl t) = absurd (s.1 t.0 t.1.solves)
 one_solution p A b x y two (inr s) (inr t) =

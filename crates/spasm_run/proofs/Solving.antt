@@ -15,7 +15,7 @@ use Rattle.kernel_solve.specs.declared.outcome.Inverse.{Inverse}
 use Rattle.kernel_solve.specs.declared.outcome.Inverse.TheVariants.{Singular}
 use Rattle.kernel_solve.specs.declared.systems.Found.{Found}
 use Rattle.kernel_solve.specs.declared.systems.Found.TheVariants.{Solution, Inconsistent}
-use Rattle.kernel_solve.specs.Column.{column, column_of}
+use Rattle.kernel_solve.specs.Column.{column, column_matrix}
 use Rattle.kernel_solve.specs.Found.{Answers, HasShape}
 use Rattle.kernel_solve.specs.Inverted.{HasInverseShape, Inverts}
 use Rattle.kernel_solve.proofs.Matrices.{column_again, column_matrix, column_vector, one_item}
@@ -30,12 +30,12 @@ sized : ℕ → ℕ → List (List ℕ) → Matrix
 sized h w r = record { height = h; width = w; rows = r }
 
 -- a matrix of one column is the column of its entries
-column_whole : {p : ℕ} (X : Matrix) → IsMatrix p X → X.width ≡ 1 → X ≡ column_of (column X)
+column_whole : {p : ℕ} (X : Matrix) → IsMatrix p X → X.width ≡ 1 → X ≡ column_matrix (column X)
 column_whole {p} X m narrow =
     let x : List ℕ = column X in
     let long : length x ≡ X.height = length_list_of X.height (λ i. entry X i 0) in
     let at : (i : ℕ) → i < X.height → slice_index x i ≡ entry X i 0 = λ i l. at_list_of X.height (λ i. entry X i 0) i l in
-    matrix_equal p X (column_of x) m
+    matrix_equal p X (column_matrix x) m
     (is_matrix_of p (length x) 1 (λ i j. slice_index x i) (λ i j a b. subst (λ t. t < p) (sym (at i (omega arith))) (entry_residue p X m i 0 (omega arith) (omega arith))))
     (sym long) narrow
     (λ i j a b. let first : j ≡ 0 = omega arith in ap (entry X i) first ∙ sym (at i a) ∙ sym (entry_matrix_of (length x) 1 (λ i j. slice_index x i) i j (omega arith) (omega arith)))
@@ -61,7 +61,7 @@ module _ (p : ℕ) (A B : Matrix) (ma : IsMatrix p A) (mb : IsMatrix p B) (heigh
   side_is = subst (λ n. IsVector p n (column B)) (sym heights) (column_vector mb (omega arith))
 
   -- what is told of the refuting system
-  refuting_told : (q : ℕ) (S : Matrix) (found : Found) (y : List ℕ) → IsPrime p → RefutingSystem → q ≡ p → S ≡ beside (refuting_rows A (column B)) (column_of (refuting_side A.width)) → AnswersSystem q S found →
+  refuting_told : (q : ℕ) (S : Matrix) (found : Found) (y : List ℕ) → IsPrime p → RefutingSystem → q ≡ p → S ≡ beside (refuting_rows A (column B)) (column_matrix (refuting_side A.width)) → AnswersSystem q S found →
       RefutingSystemIs p A (column B) y × Answers p (refuting_rows A (column B)) (refuting_side A.width) found
   refuting_told q S found y prime system modulus matrix tells =
       let b : List ℕ = column B in
@@ -71,17 +71,17 @@ module _ (p : ℕ) (A B : Matrix) (ma : IsMatrix p A) (mb : IsMatrix p B) (heigh
       let long = side_vector p A.width prime.two_or_more in (
         law,
         subst (λ s. Answers p (refuting_rows A b) s found) (column_again side)
-            (at prime (refuting_rows A b) (column_of side) (refuting_matrix p A b ma side_is) (column_matrix (subst (λ n. IsVector p n side) (sym long.len) long)) (sym long.len) refl matrix),
+            (at prime (refuting_rows A b) (column_matrix side) (refuting_matrix p A b ma side_is) (column_matrix (subst (λ n. IsVector p n side) (sym long.len) long)) (sym long.len) refl matrix),
       )
 
   -- where the system has no solution, the refuting system has one, the refuting combination
-  pub refuted_by : (q : ℕ) (S : Matrix) (found : Found) (y : ResidueMatrix) → IsPrime p → RefutingSystem → q ≡ p → S ≡ beside (refuting_rows A (column B)) (column_of (refuting_side A.width)) → AnswersSystem q S found → found ≡ Solution y →
+  pub refuted_by : (q : ℕ) (S : Matrix) (found : Found) (y : ResidueMatrix) → IsPrime p → RefutingSystem → q ≡ p → S ≡ beside (refuting_rows A (column B)) (column_matrix (refuting_side A.width)) → AnswersSystem q S found → found ≡ Solution y →
       IsRefutingCombination p A (column B) (column y.matrix)
   refuted_by q S found y prime system modulus matrix tells here =
       let (law, told) = refuting_told q S found (column y.matrix) prime system modulus matrix tells in
       law.reduced.0 (subst (Answers p (refuting_rows A (column B)) (refuting_side A.width)) here told).1
 
-  pub never_inconsistent : (q : ℕ) (S : Matrix) (found : Found) → IsPrime p → RefutingSystem → RefutingIsSolvable → q ≡ p → S ≡ beside (refuting_rows A (column B)) (column_of (refuting_side A.width)) → AnswersSystem q S found →
+  pub never_inconsistent : (q : ℕ) (S : Matrix) (found : Found) → IsPrime p → RefutingSystem → RefutingIsSolvable → q ≡ p → S ≡ beside (refuting_rows A (column B)) (column_matrix (refuting_side A.width)) → AnswersSystem q S found →
       found ≡ Inconsistent → ((x : List ℕ) → ¬ IsSolution p A (column B) x) → ⊥
   never_inconsistent q S found prime system solvable modulus matrix tells here none =
       let (law, told) = refuting_told q S found [] prime system modulus matrix tells in

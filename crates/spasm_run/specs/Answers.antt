@@ -9,7 +9,7 @@ use Rattle.row_space.specs.Echelon.{HasRank, IsRref}
 use Rattle.row_space.specs.Inverse.{IsInverse}
 use Rattle.row_space.specs.Kernel.{IsKernel}
 use Rattle.row_space.specs.Solution.{IsReducedSolution, IsRefutingCombination, IsSolution}
-use Rattle.kernel_solve.specs.Column.{column, column_of}
+use Rattle.kernel_solve.specs.Column.{column, column_matrix}
 use Rattle.sms_text.specs.Text.{Due, Header}
 use Rattle.sms_text.specs.Written.{pair_line, text_of}
 use Rattle.sparse_rows.specs.Rows.{transposed}
@@ -44,7 +44,7 @@ as_row y = record { height = 1; width = length y; rows = y ∷ [] }
 -- the reduced solution of A x = b; or, where there is no solution, the refuting combination
 abbrev pub SolvesTo : ℕ → Matrix → List ℕ → List ℕ → Type 0
 SolvesTo p A b text =
-    ((x : List ℕ) × IsReducedSolution p A b x × (text ≡ codes "solution\n" ++ text_of (column_of x)))
+    ((x : List ℕ) × IsReducedSolution p A b x × (text ≡ codes "solution\n" ++ text_of (column_matrix x)))
     ⊎ ((y : List ℕ) × ((x : List ℕ) → ¬ IsSolution p A b x) × IsRefutingCombination p A b y
     × (text ≡ codes "no solution\n" ++ text_of (as_row y)))
 

@@ -7,7 +7,7 @@ ghost use Rattle.sms_text.specs.Numbers.{is_number, value};
 ghost use Rattle.spasm_run.specs.Words.{IsInRange};
 ghost use Rattle.spasm_run.specs.Options.{AcceptedIsPlain, IsCommandOf, IsNumberOf, IsOneCommand, AreTaken, AsksFor, bytes_of};
 
-pub mod line;
+pub mod command_line;
 #[cfg(test)]
 mod tests;
 
@@ -88,7 +88,7 @@ fn has_dashes(words: &[&str]) -> bool
 fn matches_of<'a>(alloc: Global, words: &'a [&'a str]) -> Result<Option<ArgMatches<'a>>, AllocError>
     ensures { IfOk result (AreTaken (bytes_of words.now)) }
 {
-    let line = line::command(alloc)?;
+    let line = command_line::command(alloc)?;
     match line.try_get_matches_from(words) {
         Ok(matches) => Ok(Some(matches)),
         Err(error) => {
@@ -107,7 +107,7 @@ fn command_of(matches: &ArgMatches<'_>) -> Option<Command>
         (AsksFor (subcommand_rows_of matches.now)) }
 {
     let (name, options) = matches.subcommand()?;
-    let task = line::task_of(name)?;
+    let task = command_line::task_of(name)?;
     let modulus = number_of(options, "modulus", 2, LARGEST, 42_013)?;
     let workers = number_of(options, "workers", 1, 64, 1)?;
     let rounds = number_of(options, "rounds", 0, 16, 3)?;

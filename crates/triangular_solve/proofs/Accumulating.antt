@@ -9,9 +9,9 @@ use Rattle.std.proofs.lemmas.Bool.{cases_eq, cases_lt, cond-true, cond-false, le
 use Rattle.residue_words.specs.Matrix.{IsVector, zeros}
 use Rattle.residue_words.proofs.Residues.{add_same}
 use Rattle.residue_words.proofs.Vectors.{at_zeros, length_list_of, list_equal}
-use Rattle.sparse_rows.specs.Marks.{AllZero, TakesFirst}
-use Rattle.sparse_rows.specs.Rows.{ResidueRow}
-use Rattle.triangular_solve.specs.Accumulator.{AreTouched, IsAccumulator, IsAdded, limit_of, residues_of}
+use Rattle.sparse_rows.specs.ColumnSet.{AllZero, TakesFirst}
+use Rattle.sparse_rows.specs.Rows.{AddsAt, ResidueRow}
+use Rattle.triangular_solve.specs.Accumulator.{AreTouched, IsAccumulator, limit_of, residues_of}
 use Rattle.triangular_solve.proofs.Touched.{IsTop, touched_mark, touched_set, untouched}
 
 -- a row with its modulus
@@ -94,8 +94,8 @@ residues_set p sums j sum r e = map-set (λ s. s % p) sums j sum ∙ ap (slice_s
 
 -- what an addition does to the residues
 pub added : {p : ℕ} {old new : ResidueRow} (sums : List ℕ) (j v sum low : ℕ) → as_row p (residues_of p sums) ≡ old → j < length sums → sum ≡ slice_index sums j →
-    (low ≡ sum + v) ⊎ (low + limit_of p ≡ sum + v) → new ≡ as_row p (residues_of p (slice_set sums j low)) → IsAdded j v old new
-added {p} {old} {new} sums j v sum low is_old l e same is_new = subst (λ r. IsAdded j v r new) is_old (record {
+    (low ≡ sum + v) ⊎ (low + limit_of p ≡ sum + v) → new ≡ as_row p (residues_of p (slice_set sums j low)) → AddsAt j v old new
+added {p} {old} {new} sums j v sum low is_old l e same is_new = subst (λ r. AddsAt j v r new) is_old (record {
   modulus = ap (λ (r : ResidueRow). r.modulus) is_new;
   row = ap (λ (r : ResidueRow). r.row) is_new ∙ residues_set p sums j low _
       (lowered_same p low (sum + v) same ∙ ap (λ t. (t + v) % p) e ∙ add_same p (slice_index sums j) (slice_index (residues_of p sums) j) v v

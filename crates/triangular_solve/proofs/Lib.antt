@@ -1,5 +1,4 @@
 pub mod Accumulating
-pub mod Adding
 pub mod Appending
 pub mod Changing
 pub mod Combining

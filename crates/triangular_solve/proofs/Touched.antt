@@ -3,7 +3,7 @@ use Rattle.std.proofs.Common.{ℕ, ◌≡◌, ◌≢◌, ◌<◌, List, length, 
 use Rattle.std.proofs.lemmas.List.{length-set, get_or-set_same, get_or-set_other}
 use Rattle.std.proofs.lemmas.Bool.{cases_eq}
 use Rattle.triangular_solve.proofs.Extent.{extent, extent_falls}
-use Rattle.sparse_rows.specs.Marks.{AllZero, TakesFirst}
+use Rattle.sparse_rows.specs.ColumnSet.{AllZero, TakesFirst}
 use Rattle.triangular_solve.specs.Accumulator.{AreTouched}
 
 -- a sum at a marked column may change

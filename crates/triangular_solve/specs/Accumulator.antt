@@ -1,10 +1,9 @@
 -- Sums by column, of which few are not 0.
-use Rattle.std.specs.Prelude.{◌≡◌, ◌≢◌, ◌<◌, ◌≤◌, ◌+◌, ◌*◌, ◌/◌, ◌%◌, ℕ, List, leb, if◌then◌else◌, length, map, slice_index, slice_set}
-use Rattle.residue_words.specs.Matrix.{IsVector, zeros}
+use Rattle.std.specs.Prelude.{◌≡◌, ◌≢◌, ◌<◌, ◌≤◌, ◌*◌, ◌/◌, ◌%◌, ℕ, List, leb, if◌then◌else◌, length, map, slice_index}
+use Rattle.residue_words.specs.Matrix.{zeros}
 use Rattle.residue_words.specs.declared.modulus.TheConstants.{MODULUS_BOUND}
 use Rattle.residue_words.specs.declared.shoup.TheConstants.{LANE_BOUND}
 use Rattle.sparse_rows.specs.Rows.{ResidueRow}
-use Rattle.sparse_rows.specs.Stored.{entry_at}
 
 -- what sums modulo p are kept below: for a p below 2^31 the greatest multiple of p up to 2^63, else p
 abbrev pub limit_of : ℕ → ℕ
@@ -26,17 +25,6 @@ pub record IsAccumulator (p limit : ℕ) (sums marks : List ℕ) : Type 0 where
   pub limit_is : limit ≡ limit_of p
   pub below : (j : ℕ) → j < length sums → slice_index sums j < limit
   pub touched : AreTouched sums marks
-
--- v was added to the entry at column j
-pub record IsAdded (j v : ℕ) (old new : ResidueRow) : Type 0 where
-  pub modulus : new.modulus ≡ old.modulus
-  pub row : new.row ≡ slice_set old.row j ((slice_index old.row j + v) % old.modulus)
-
--- the multiple of the row that stands in these columns and values was added
-pub record AddsMultiple (by : ℕ) (cols vals : List ℕ) (old new : ResidueRow) : Type 0 where
-  pub modulus : new.modulus ≡ old.modulus
-  pub vector : IsVector old.modulus (length old.row) new.row
-  pub sums : (j : ℕ) → j < length old.row → slice_index new.row j ≡ (slice_index old.row j + by * entry_at cols vals j) % old.modulus
 
 -- the zero row of n entries
 abbrev pub IsClear : ℕ → ℕ → ResidueRow → Type 0

@@ -4,7 +4,7 @@ use Rattle.residue_words.specs.Residues.{IsPrime}
 use Rattle.residue_words.specs.Matrix.{Matrix, IsVector, list_of, row}
 use Rattle.residue_words.specs.declared.modulus.TheConstants.{MODULUS_BOUND}
 use Rattle.row_space.specs.Rows.{DiffersBy, of_rows}
-use Rattle.sparse_rows.specs.Marks.{AllZero}
+use Rattle.sparse_rows.specs.ColumnSet.{AllZero}
 use Rattle.sparse_rows.specs.Rows.{ResidueRow}
 use Rattle.sparse_rows.specs.Stored.{spread, with_row}
 use Rattle.sparse_rows.specs.declared.rows.TheConstants.{LARGEST_SIZE}
@@ -67,8 +67,8 @@ pub record CanTake (s : List ℕ) (rest : ResidueRow) (p : ℕ) : Type 0 where
   pub behind : IsBehind (length s) s rest.row
 
 -- the row of these columns and values, as wide as another row and with its modulus
-abbrev pub row_of : ResidueRow → List ℕ → List ℕ → ResidueRow
-row_of a cs vs = record { modulus = a.modulus; row = spread (length a.row) cs vs }
+abbrev pub spread_row : ResidueRow → List ℕ → List ℕ → ResidueRow
+spread_row a cs vs = record { modulus = a.modulus; row = spread (length a.row) cs vs }
 
 -- the sums of the entries of s and w
 abbrev pub both : ℕ → ℕ → List ℕ → List ℕ → List ℕ

@@ -2,12 +2,13 @@
 ghost use Rattle.std.specs.Prelude.{◌≡◌, ◌<◌, ◌≤◌, ◌⊎◌, ◌+◌, ◌*◌, ◌/◌, ◌%◌, ◌^◌, length, slice_index, slice_set, IfOk, IfSome, IfNone};
 ghost use Rattle.residue_words.specs.Matrix.{IsVector, zeros};
 ghost use Rattle.residue_words.specs.declared.shoup.TheConstants.{LANE_BOUND};
-ghost use Rattle.sparse_rows.specs.Marks.{AllZero, TakesFirst};
+ghost use Rattle.sparse_rows.specs.ColumnSet.{AllZero, TakesFirst};
 ghost use Rattle.sparse_rows.specs.Stored.{IsSparse};
-ghost use Rattle.triangular_solve.specs.Accumulator.{AddsMultiple, IsAdded, limit_of};
+ghost use Rattle.sparse_rows.specs.Rows.{AddsAt, AddsMultiple, ResidueRow};
+ghost use Rattle.triangular_solve.specs.Accumulator.{limit_of};
 
 use residue_words::{LANE_BOUND, Modulus};
-use sparse_rows::Marks;
+use sparse_rows::ColumnSet;
 use std::alloc::{AllocError, Global};
 use std::marker::Model;
 
@@ -28,12 +29,11 @@ pub struct Accumulator {
     limit: u64,
     sums: Vec<u64>,
     // Each column whose sum is not 0, and some whose sum has become 0.
-    touched: Marks,
+    touched: ColumnSet,
 }
 
 impl Model for Accumulator {
-    ghost use Rattle.sparse_rows.specs.Rows.{ResidueRow};
-    ghost use Rattle.triangular_solve.specs.Accumulator.{IsAccumulator, residues_of};
+        ghost use Rattle.triangular_solve.specs.Accumulator.{IsAccumulator, residues_of};
 
     ghost Value = { ResidueRow };
 
@@ -51,7 +51,7 @@ impl Accumulator {
             modulus: *p,
             limit: limit(p.p()),
             sums: vec![in alloc; 0; n as usize]?,
-            touched: Marks::new(alloc, n)?,
+            touched: ColumnSet::new(alloc, n)?,
         })
     }
 
@@ -59,7 +59,7 @@ impl Accumulator {
     fn add(&mut self, j: u32, v: u64)
         requires column { j < length self.old.row }
         requires below { v < limit_of self.old.modulus }
-        ensures { IsAdded j v self.old self.new }
+        ensures { AddsAt j v self.old self.new }
     {
         let sum = self.sums[j as usize];
         if sum == 0 {

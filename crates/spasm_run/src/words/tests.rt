@@ -150,5 +150,5 @@ fn refused_words_are_none(rt: HostRuntime) {
 
 #[test]
 fn the_command_line_is_built(rt: HostRuntime) {
-    assert!(rt; line::command(rt.alloc()).is_ok());
+    assert!(rt; command_line::command(rt.alloc()).is_ok());
 }

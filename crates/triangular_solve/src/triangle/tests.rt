@@ -1,6 +1,6 @@
 // The triangular order of two pivots.
 ghost use Rattle.std.specs.Prelude.{◌≡◌, IfOk};
-ghost use Rattle.pivot_table.specs.Example.{example};
+ghost use Rattle.pivot_table.specs.Example.{pivot_example};
 
 use crate::Triangle;
 use pivot_table::{Book, Pair};
@@ -11,7 +11,7 @@ use std::test::Fail;
 
 // The rows (1, 0, 0), (1, 1, 1) and (1, 1, 2) modulo 7.
 fn rows(alloc: Global) -> Result<Rows, AllocError>
-    ensures { IfOk result (λ rows. rows.matrix ≡ example) }
+    ensures { IfOk result (λ rows. rows.matrix ≡ pivot_example) }
 {
     let entries = [
         (0, 0, 1),

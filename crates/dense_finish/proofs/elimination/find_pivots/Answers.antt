@@ -1,7 +1,7 @@
 use Rattle.std.proofs.Common.{ℕ, ◌≡◌, ◌<◌, ◌∙◌, false, ap, arith, length, slice_index, slice_index_or, slice_set, subst, sym}
 use Rattle.std.proofs.lemmas.List.{get_or-set_same}
 use Rattle.residue_words.specs.Matrix.{IsVector}
-use Rattle.dense_finish.specs.Dense.{IsClear, IsFirstFree, IsPivotOf, KeepsCoefficients}
+use Rattle.dense_finish.specs.Dense.{IsZeroAtFree, IsFirstFree, IsPivotOf, KeepsCoefficients}
 use Rattle.dense_finish.proofs.BlockRows.{read_row, reduced_row}
 use Rattle.dense_finish.proofs.Growing.{found_own}
 use Rattle.dense_finish.proofs.Progress.{panel_begins}
@@ -86,7 +86,7 @@ loop-i-preserved g c =
             split = λ prime from h. stage_more_split state inside reduced first w.in_ok-pivot.ensures.added pivot kept prime from (c.loop-i.invariant.split prime from h);
           }
       | in_default w ↦
-          let none : IsClear taken v =
+          let none : IsZeroAtFree taken v =
           λ j l free. ap (λ u. slice_index u j) (sym left) ∙ w.in_default.ensures.none j (omega (arith, ap length left)) (ap (λ t. slice_index_or t j false) c.deref.ensures.value ∙ free) in
           rw (w.block-is, w.pivots-is, w.panel-is) record {
             state = stage_same state inside reduced none;

@@ -1,6 +1,6 @@
 use Rattle.std.proofs.Common.{◌≡◌, ◌<◌, ◌≤◌, ℕ, slice_index}
 use Rattle.std.specs.List.{Contains}
-use Rattle.optimistic_search.specs.Marks.{Grows}
+use Rattle.optimistic_search.specs.MarkedColumns.{Grows}
 use Rattle.optimistic_search.proofs.leveled_walk.add_all_low.Given as goal
 
 abbrev pub invariant-loop-k : goal.invariant-loop-k

@@ -1,7 +1,7 @@
 use Rattle.std.proofs.Common.{◌≡◌, ◌<◌, ◌*◌, length, slice_index, refl, subst, sym, arith}
 use Rattle.triangular_solve.specs.Accumulator.{limit_of}
 use Rattle.triangular_solve.proofs.Accumulating.{limit_products}
-use Rattle.triangular_solve.proofs.Adding.{IsAddingTo, adding_done, adding_none, adding_step}
+use Rattle.sparse_rows.proofs.Adding.{IsAddingTo, adding_done, adding_none, adding_step}
 use Rattle.triangular_solve.proofs.accumulator.Accumulator.add_products.Goals as goal
 
 pub loop-k-init : goal.loop-k-init

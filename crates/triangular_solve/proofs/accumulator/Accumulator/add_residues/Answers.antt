@@ -3,7 +3,7 @@ use native.Mathlib.Nat.{mod-mod}
 use Rattle.sparse_rows.specs.Rows.{ResidueRow}
 use Rattle.triangular_solve.specs.Accumulator.{limit_of}
 use Rattle.triangular_solve.proofs.Accumulating.{limit_above}
-use Rattle.triangular_solve.proofs.Adding.{IsAddingTo, adding_done, adding_none, adding_step}
+use Rattle.sparse_rows.proofs.Adding.{IsAddingTo, adding_done, adding_none, adding_step}
 use Rattle.triangular_solve.proofs.accumulator.Accumulator.add_residues.Goals as goal
 
 pub loop-k-init : goal.loop-k-init

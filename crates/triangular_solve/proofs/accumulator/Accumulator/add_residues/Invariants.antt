@@ -1,4 +1,4 @@
-use Rattle.triangular_solve.proofs.Adding.{IsAddingTo}
+use Rattle.sparse_rows.proofs.Adding.{IsAddingTo}
 use Rattle.triangular_solve.proofs.accumulator.Accumulator.add_residues.Given as goal
 
 abbrev pub invariant-loop-k : goal.invariant-loop-k

@@ -1,6 +1,6 @@
 use Rattle.std.proofs.Common.{ℕ, ◌≡◌, ◌<◌, ◌%◌, ◌∙◌, List, slice_index, slice_set, ap, arith, subst}
 use Rattle.std.proofs.lemmas.List.{get_or_default}
-use Rattle.sparse_rows.specs.Marks.{AllZero, TakesFirst}
+use Rattle.sparse_rows.specs.ColumnSet.{AllZero, TakesFirst}
 use Rattle.sparse_rows.specs.Rows.{ResidueRow}
 use Rattle.triangular_solve.specs.Accumulator.{residues_of}
 use Rattle.triangular_solve.proofs.Accumulating.{accumulator_zero, as_row, first_skipped, first_taken, residues_none}

@@ -4,7 +4,7 @@ use Rattle.residue_words.proofs.Vectors.{at_zeros, length_list_of}
 use Rattle.sparse_rows.specs.Rows.{ResidueRow}
 use Rattle.sparse_rows.specs.Stored.{IsSparse, spread}
 use Rattle.triangular_solve.specs.Accumulator.{IsClear}
-use Rattle.triangular_solve.specs.Led.{Drains, IsKept, kept_rows, row_of}
+use Rattle.triangular_solve.specs.Led.{Drains, IsKept, kept_rows, spread_row}
 use Rattle.triangular_solve.specs.Leads.{KeptRows, IsRest, IsSettled}
 use Rattle.triangular_solve.proofs.LedRows.{IsAt, read_led}
 use Rattle.triangular_solve.proofs.Draining.{sparse_of}
@@ -54,4 +54,4 @@ returns-clause-settled c =
     read_led c.self.invariant.0 c.args.k (subst (λ (K : KeptRows). c.args.k < K.matrix.height) (sym c.self.view_is) c.requires.row) c.index-row.result.now c.index-row.ensures in
     subst (λ (K : KeptRows). IsSettled K c.args.k c.reduce.new.rest.row) c.self.view_is
     (settled_of_drained c.self.invariant.0 clear at c.cols.ensures.support c.vals.ensures.values (c.in_ok-push.ensures.ok ∙ ap (λ u. slice_set u c.index-row.result.now.lead 1) c.new-rest.ensures.row)
-    (subst (λ rows. Drains rows (row_of c.args.accumulator.now c.cols.result.now c.vals.result.now) c.push.new.self.row c.reduce.new.rest.row) c.deref.ensures.value c.in_ok-reduce.ensures.ok))
+    (subst (λ rows. Drains rows (spread_row c.args.accumulator.now c.cols.result.now c.vals.result.now) c.push.new.self.row c.reduce.new.rest.row) c.deref.ensures.value c.in_ok-reduce.ensures.ok))

@@ -1,8 +1,0 @@
-use Rattle.sparse_rows.proofs.Marking.{marks_length, no_marks_list}
-use Rattle.sparse_rows.proofs.marks.Marks.new.Goals as goal
-
-pub returns-clause-length : goal.returns-clause-length
-returns-clause-length c = marks_length _ _
-
-pub returns-clause-none : goal.returns-clause-none
-returns-clause-none c = no_marks_list _ _ _ (c.in_ok-vec.ensures.items_if_clones_equal (λ y e. e))
