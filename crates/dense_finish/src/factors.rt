@@ -16,7 +16,7 @@ use std::alloc::{AllocError, Global};
 
 /// Factors of a matrix A of m rows and n columns: `l` of m rows and as many columns as there are pivots, and `u` of as many rows and n columns.
 /// For a prime modulus they are valid: A = L U, and the k-th pivot's row of L has its last nonzero entry at k, its column of U too.
-#[derive(Drop)]
+#[derive(Debug, Drop)]
 pub struct Factors {
     /// The row and the column of each pivot, in order.
     pub pivots: List<Pair>,

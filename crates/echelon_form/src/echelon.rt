@@ -14,7 +14,7 @@ use std::thread::Threads;
 
 /// The reduced row echelon form of a matrix: its rows, and of each the column of its first entry, the lead. Contracts see
 /// the modulus, the matrix and the list of the leads.
-#[derive(Drop)]
+#[derive(Debug, Drop)]
 pub struct Echelon {
     rows: Rows,
     leads: Vec<u32>,

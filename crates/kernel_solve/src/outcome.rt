@@ -2,7 +2,7 @@
 use sparse_rows::Rows;
 
 /// What there is to say of the inverse of a square matrix.
-#[derive(Drop)]
+#[derive(Debug, Drop)]
 pub enum Inverse {
     /// It is this.
     Of(Rows),

@@ -16,7 +16,7 @@ use sparse_rows::{Rows, RowsBuilder, Sparse};
 use std::alloc::{AllocError, Global};
 
 /// What the form of [A | b] tells of A x = b.
-#[derive(Drop)]
+#[derive(Debug, Drop)]
 pub enum Found {
     /// The reduced solution, as a column.
     Solution(Rows),

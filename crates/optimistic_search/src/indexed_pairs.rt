@@ -16,7 +16,7 @@ const NONE: u32 = u32::MAX;
 
 // Pairs of a matrix, and for each column the row of its pair. Contracts see the matrix and the list of the pairs.
 // It takes 4 bytes a column and 8 bytes a pair that there can be.
-#[derive(Drop)]
+#[derive(Debug, Drop)]
 pub(crate) struct IndexedPairs<'a> {
     rows: &'a Rows,
     pairs: Vec<Pair>,

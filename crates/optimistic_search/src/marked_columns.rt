@@ -11,7 +11,7 @@ use std::sync::ledger::Ledger;
 
 // Columns that are marked, in the order in which they were. Contracts see the number of columns and the list of the marked ones.
 // It takes 5 bytes a column.
-#[derive(Drop)]
+#[derive(Debug, Drop)]
 pub(crate) struct MarkedColumns {
     flags: Vec<bool>,
     list: Vec<u32>,

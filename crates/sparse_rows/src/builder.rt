@@ -16,7 +16,7 @@ const FEW: usize = 16;
 
 /// Collects the entries of a matrix in any order: what is pushed at one place is summed. It takes 16 bytes a pushed entry,
 /// and has room for a quarter more: where the room grows it takes 36 bytes an entry for a moment.
-#[derive(Drop)]
+#[derive(Debug, Drop)]
 pub struct RowsBuilder {
     alloc: Global,
     modulus: Modulus,

@@ -9,7 +9,7 @@ const PLACES: u64 = 4_294_967_296;
 
 // A value at a place: places count row after row, 2^32 to each, so cells in the order of their places stand by rows and,
 // within a row, by columns.
-#[derive(Clone, Copy)]
+#[derive(Clone, Copy, Debug)]
 pub(crate) struct Cell {
     pub place: u64,
     pub val: u64,

@@ -5,7 +5,7 @@ use std::alloc::{AllocError, Global};
 use std::marker::Model;
 
 /// A list of items that grows at its end.
-#[derive(Drop)]
+#[derive(Debug, Drop)]
 pub struct List<T: Copy> {
     items: Vec<T>,
 }

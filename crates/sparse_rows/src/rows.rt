@@ -26,7 +26,7 @@ pub const LARGEST_SIZE: u32 = 0x8000_0000;
 /// A matrix of residues as compressed rows: of each row the columns with a nonzero entry, ascending, and the entries there.
 /// Contracts see the plain matrix with its modulus. It takes 12 bytes an entry and 8 bytes a row; where the rows are many more
 /// than the entries, 12 bytes for each row that has an entry, and none for the others.
-#[derive(Drop)]
+#[derive(Debug, Drop)]
 pub struct Rows {
     height: u32,
     stored: StoredRows,

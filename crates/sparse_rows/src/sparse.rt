@@ -10,7 +10,7 @@ use std::marker::Model;
 
 /// A row of residues by its nonzero entries: their columns, ascending, and their values. Contracts see the plain row with
 /// its modulus. It takes 12 bytes an entry.
-#[derive(Drop)]
+#[derive(Debug, Drop)]
 pub struct Sparse {
     modulus: Modulus,
     width: u32,

@@ -18,7 +18,7 @@ use std::marker::Model;
 
 // Rows one after another, each by the columns with a nonzero entry, ascending, and the entries there. It takes 12 bytes an entry
 // and 8 bytes a row.
-#[derive(Drop)]
+#[derive(Debug, Drop)]
 pub(crate) struct StoredRows {
     modulus: Modulus,
     width: u32,

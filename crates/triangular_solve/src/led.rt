@@ -7,7 +7,7 @@ use sparse_rows::Sparse;
 use std::alloc::{AllocError, Global};
 
 // A row whose first entry is 1 and stands at `lead`: what follows it.
-#[derive(Drop)]
+#[derive(Debug, Drop)]
 pub(crate) struct Led {
     pub lead: u32,
     pub tail: Sparse,

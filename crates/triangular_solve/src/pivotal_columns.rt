@@ -18,7 +18,7 @@ const COLUMNS_A_PIVOT: usize = 64;
 
 // The columns of pivots, ascending, with a way from a column to its place: a table by column, or where the matrix is far wider
 // than it has pivots, a search by halves. Contracts see the columns.
-#[derive(Drop)]
+#[derive(Debug, Drop)]
 pub(crate) struct PivotalColumns {
     columns: Vec<u32>,
     table: Option<Vec<u32>>,

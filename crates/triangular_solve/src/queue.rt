@@ -9,7 +9,7 @@ use std::collections::BinaryHeap;
 use std::marker::Model;
 
 // Numbers of which the least is taken first. Contracts see them as a list in no order.
-#[derive(Drop)]
+#[derive(Debug, Drop)]
 pub(crate) struct Queue {
     heap: BinaryHeap<Reverse<u32>>,
 }

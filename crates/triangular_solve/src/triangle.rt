@@ -21,7 +21,7 @@ use std::marker::Model;
 /// Pivots of a lent matrix in triangular order: again and again the pair in whose column no other pair that is left has an
 /// entry, of these the one of the least column. So the row of each pair is 0 in the columns of the pairs before it. It takes
 /// 8 bytes a pair.
-#[derive(Drop)]
+#[derive(Debug, Drop)]
 pub struct Triangle<'a> {
     rows: &'a Rows,
     pairs: Vec<Pair>,
