@@ -4,7 +4,7 @@ ghost use Rattle.residue_words.specs.Matrix.{IsVector, zeros};
 ghost use Rattle.residue_words.specs.declared.shoup.TheConstants.{LANE_BOUND};
 ghost use Rattle.sparse_rows.specs.ColumnSet.{AllZero, TakesFirst};
 ghost use Rattle.sparse_rows.specs.Stored.{IsSparse};
-ghost use Rattle.sparse_rows.specs.Rows.{AddsAt, AddsMultiple, ResidueRow};
+ghost use Rattle.sparse_rows.specs.Rows.{AddsAt, AddsMultiple};
 ghost use Rattle.triangular_solve.specs.Accumulator.{limit_of};
 
 use residue_words::{LANE_BOUND, Modulus};
@@ -33,7 +33,8 @@ pub struct Accumulator {
 }
 
 impl Model for Accumulator {
-        ghost use Rattle.triangular_solve.specs.Accumulator.{IsAccumulator, residues_of};
+    ghost use Rattle.sparse_rows.specs.Rows.{ResidueRow};
+    ghost use Rattle.triangular_solve.specs.Accumulator.{IsAccumulator, residues_of};
 
     ghost Value = { ResidueRow };
 
