@@ -18,7 +18,7 @@ use Rattle.kernel_solve.specs.declared.systems.Found.TheVariants.{Solution, Inco
 use Rattle.kernel_solve.specs.Column.{column, column_matrix}
 use Rattle.kernel_solve.specs.Found.{Answers, HasShape}
 use Rattle.kernel_solve.specs.Inverted.{HasInverseShape, Inverts}
-use Rattle.kernel_solve.proofs.Matrices.{column_again, column_matrix, column_vector, one_item}
+use Rattle.kernel_solve.proofs.Matrices.{column_again, column_is_matrix, column_vector, one_item}
 use Rattle.spasm_run.specs.declared.answer.Answer.TheVariants as answer
 use Rattle.spasm_run.specs.declared.words.Task.TheVariants as task
 use Rattle.sparse_rows.specs.declared.rows.TheConstants.{LARGEST_SIZE}
@@ -71,7 +71,7 @@ module _ (p : ℕ) (A B : Matrix) (ma : IsMatrix p A) (mb : IsMatrix p B) (heigh
       let long = side_vector p A.width prime.two_or_more in (
         law,
         subst (λ s. Answers p (refuting_rows A b) s found) (column_again side)
-            (at prime (refuting_rows A b) (column_matrix side) (refuting_matrix p A b ma side_is) (column_matrix (subst (λ n. IsVector p n side) (sym long.len) long)) (sym long.len) refl matrix),
+            (at prime (refuting_rows A b) (column_matrix side) (refuting_matrix p A b ma side_is) (column_is_matrix (subst (λ n. IsVector p n side) (sym long.len) long)) (sym long.len) refl matrix),
       )
 
   -- where the system has no solution, the refuting system has one, the refuting combination
