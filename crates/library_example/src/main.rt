@@ -1,7 +1,7 @@
 //! How a program calls the library: it builds a matrix modulo a prime, and prints its rank and the basis of its kernel.
 #![tactic(auto)]
 
-ghost use Rattle.std.specs.Prelude.{◌≡◌, IfOk};
+ghost use Rattle.std.specs.Prelude.{IfOk};
 ghost use Rattle.residue_words.specs.Residues.{IsPrime};
 ghost use Rattle.row_space.specs.Echelon.{HasRank};
 ghost use Rattle.row_space.specs.Kernel.{IsKernel};
@@ -9,7 +9,7 @@ ghost use Rattle.row_space.specs.Kernel.{IsKernel};
 use echelon_form::Echelon;
 use kernel_solve::kernel;
 use residue_words::Modulus;
-use sparse_rows::{Rows, RowsBuilder};
+use sparse_rows::Rows;
 use std::alloc::{AllocError, Global};
 use std::io;
 use std::thread::Threads;
@@ -33,18 +33,17 @@ fn main(rt: HostRuntime) -> io::Result<()> {
     Ok(())
 }
 
-// The boundary map of a square with one diagonal, modulo 42013: a row for each of its five edges, a column for each of its
-// four corners.
+// The boundary map of a triangle modulo 7: a row for each edge, from one corner to the other, and a column for each corner.
 fn boundary(alloc: Global) -> Result<Rows, AllocError> {
-    let p = Modulus::new(42013);
-    let edges = [(0, 1), (1, 2), (2, 3), (0, 3), (0, 2)];
-    let mut entries = RowsBuilder::new(alloc, 5, 4, p)?;
-    for i in 0..5 {
-        let (from, to) = edges[i as usize];
-        entries.push(i, from, p.neg(1))?;
-        entries.push(i, to, 1)?;
-    }
-    entries.finish()
+    let entries = [
+        (0, 0, 6),
+        (0, 1, 1),
+        (1, 1, 6),
+        (1, 2, 1),
+        (2, 0, 6),
+        (2, 2, 1),
+    ];
+    Rows::from_triples(alloc, 3, 3, &Modulus::new(7), &entries)
 }
 
 // The rank of a matrix and the basis of its kernel, both read off its reduced row echelon form, which two workers settle.
