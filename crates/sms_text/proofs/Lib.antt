@@ -5,6 +5,7 @@ pub mod Filling
 pub mod Following
 pub mod Lining
 pub mod Moving
+pub mod Parts
 pub mod Pulls
 pub mod Puts
 pub mod ReadingMatrices

@@ -1,5 +1,5 @@
 -- A text read line by line as a matrix.
-use Rattle.std.proofs.Common.{ℕ, ◌≡◌, ◌+◌, ◌<◌, ◌&&◌, Bool, false, List, [], ◌∷◌, ◌++◌, map, Option, None, Some, Result, Ok, Err, refl, sym, ap, ◌∙◌, subst, inl, inr, append_assoc}
+use Rattle.std.proofs.Common.{ℕ, ◌≡◌, ◌+◌, ◌<◌, ◌&&◌, List, [], ◌∷◌, ◌++◌, map, Option, None, Some, Result, Ok, Err, refl, sym, ap, ◌∙◌, subst}
 use Rattle.std.proofs.lemmas.List.{map-append}
 use Rattle.std.specs.Prelude.{◌==◌, if◌then◌else◌}
 use Rattle.sparse_rows.specs.Rows.{ResidueMatrix, Building, Triple, sum_at, built}
@@ -7,13 +7,13 @@ use Rattle.sms_text.specs.declared.kind.TextError.{TextError}
 use Rattle.sms_text.specs.declared.kind.TextError.TheVariants as error
 use Rattle.sms_text.specs.declared.reader.Entry.{Entry}
 use Rattle.sms_text.specs.declared.reader.Head.{Head}
-use Rattle.sms_text.specs.Lines.{lines}
-use Rattle.sms_text.specs.Text.{Due, Header, Body, Item, Sizes, Value, Closing, Judged, value_at, matrices}
-use Rattle.sms_text.specs.Reading.{ReaderState, InputState, Draws, TakesLine, MissesLine, LineDid, Repeats, HasCause, IsUnfinished, One, LeavesOpen, supply, due_line, read_on, is_read, header_judged, entry_judged, with_items}
-use Rattle.sms_text.specs.ReadingRows.{TextPart, open_at, IsBetween, IsNoMatrix, IsTooShort, ReadsRows, RowsDid}
+use Rattle.sms_text.specs.Text.{Due, Header, Body, Item, Sizes, Value, Closing, Judged, value_at, matrices, outer_lines}
+use Rattle.sms_text.specs.Parts.{open_at, PartDid, Wanted, wants}
+use Rattle.sms_text.specs.Reading.{InputState, TakesLine, LineDid, Repeats, LeavesOpen, header_judged, entry_judged}
+use Rattle.sms_text.specs.ReadingRows.{SaysRows, RowsDid}
 use Rattle.sms_text.proofs.Falling.{takes_room}
-use Rattle.sms_text.proofs.Moving.{draws_with, draws_on, draws_follow, draws_reach, may_come}
-use Rattle.sms_text.proofs.Runs.{after_one, read_one, line_takes, unfinished_reads, with_items_push, with_items_fault, with_items_short}
+use Rattle.sms_text.proofs.Parts.{ReadSoFar, takes_due, misses_due, so_far_begins, so_far_pauses, so_far_ends, line_taken, line_missed, first_line_missed, part_reads, part_taken, part_missed}
+use Rattle.sms_text.proofs.Runs.{line_takes}
 
 -- a call that took a line found the reader sound
 pub line_sound : (p : ℕ) (due : Due) (old new : InputState) (j : Judged) → LineDid p due old new (Ok j) → old.reader.error ≡ None
@@ -21,85 +21,39 @@ line_sound p due old new j =
     elim old.reader.error as (λ o. elim o [ None ↦ TakesLine p due old new j | Some e ↦ Repeats old new (Ok j) e ] → o ≡ None)
     [ None ↦ λ t. refl | Some e ↦ λ h. absurd (let x = h.0 in cc) ]
 
--- of a reader that was sound
-pub rows_did : (p : ℕ) (old new : InputState) (result : Result ResidueMatrix TextError) → old.reader.error ≡ None → ReadsRows p old new result → RowsDid p old new result
-rows_did p old new result sound h =
-    let P : Option TextError → Type 0 = λ o. elim o [ None ↦ ReadsRows p old new result | Some e ↦ Repeats old new result e ] in subst P (sym sound) h
-
--- too few bytes for a header are too few for a text
-header_short : (p : ℕ) (reader : ReaderState) (more : List ℕ) → IsUnfinished p Header reader more → IsTooShort p reader more
-header_short p reader more few = λ dues. unfinished_reads p Header dues [] reader more _ few refl
-
--- from the header on
-header_reads : (p : ℕ) (old new : InputState) (m n : ℕ) → (t : TakesLine p Header old new (record { item = Sizes m n; due = Body m n ∷ [] })) →
-    new.reader.open_text ≡ Some (m, n) → IsBetween p old.reader new.reader (record { taken = t.taken; items = Sizes m n ∷ []; due = Body m n ∷ [] })
-header_reads p old new m n t opened = record {
-  sound = t.error;
-  opened = opened;
-  reads = λ ended more dues h.
-      read_one p ended old.reader.room old.reader.number Header dues (lines (old.reader.kept ++ (t.taken ++ more))) ∙ ap (after_one p ended dues) (t.reads ended more h);
-}
-
--- too few bytes for the line that is due are too few for the text
-line_short : (p : ℕ) (old mid : ReaderState) (part : TextPart) (due : Due) (more : List ℕ) → IsBetween p old mid part → part.due ≡ due ∷ [] → mid.ended ≡ false →
-    IsUnfinished p due mid more → IsTooShort p old (part.taken ++ more)
-line_short p old mid part due more is one going few = λ dues.
-    unfinished_reads p due dues part.items mid more _ few
-    (is.reads false more dues (may_come mid.ended false more going) ∙ rw one refl)
-
--- one line more
-line_reads : (p : ℕ) (old mid new : InputState) (taken : List ℕ) (items : List Item) (due : Due) (j : Judged) →
-    IsBetween p old.reader mid.reader (record { taken = taken; items = items; due = due ∷ [] }) → (t : TakesLine p due mid new j) → new.reader.open_text ≡ open_at j.due →
-    IsBetween p old.reader new.reader (record { taken = taken ++ t.taken; items = items ++ j.item ∷ []; due = j.due })
-line_reads p old mid new taken items due j is t opened = record {
-  sound = t.error;
-  opened = opened;
-  reads = λ ended more dues h.
-      ap (read_on p ended (Header ∷ dues) old.reader) (append_assoc taken t.taken more)
-      ∙ is.reads ended (t.taken ++ more) dues (draws_follow (IsUnfinished p due mid.reader) false t.taken (supply mid) (supply new) ended more t.draws h)
-      ∙ ap (with_items items) (read_one p ended mid.reader.room mid.reader.number due dues (lines (mid.reader.kept ++ (t.taken ++ more)))
-      ∙ ap (after_one p ended dues) (t.reads ended more h))
-      ∙ sym (with_items_push items j.item (read_on p ended (j.due ++ dues) new.reader more));
-}
-
--- its bytes behind those that were taken
-line_draws : (p : ℕ) (x : Bool) (old mid new : InputState) (taken more : List ℕ) (items : List Item) (due : Due) → IsBetween p old.reader mid.reader (record { taken = taken; items = items; due = due ∷ [] }) →
-    Draws (IsTooShort p old.reader) false taken (supply old) (supply mid) → Draws (IsUnfinished p due mid.reader) x more (supply mid) (supply new) →
-    Draws (IsTooShort p old.reader) x (taken ++ more) (supply old) (supply new)
-line_draws p x old mid new taken more items due is first next =
-    draws_on (IsTooShort p old.reader) (IsUnfinished p due mid.reader) x taken more (supply old) (supply mid) (supply new)
-    (λ b going few. line_short p old.reader mid.reader (record { taken = taken; items = items; due = due ∷ [] }) due b is refl going few) first next
+-- the line that is due was read, or an error was kept: then no line is kept for refusal
+pub line_last : (p : ℕ) (due : Due) (old new : InputState) (result : Result Judged TextError) → LineDid p due old new result → old.reader.error ≡ None → new.reader.last ≡ None
+line_last p due old new (Ok j) did sound = (line_takes p due old new (Ok j) sound did).last
+line_last p due old new (Err e) did sound = (line_takes p due old new (Err e) sound did).last
 
 -- what the pushed entries are as items
 abbrev pub triple_item : Triple → Item
 triple_item t = Value t.i t.j t.v
+
+-- what is wanted is a text
+abbrev pub a_text : ℕ → Wanted
+a_text p = wants p (Header ∷ [])
 
 -- a text of these sizes was read as far as the entries that the builder has got
 pub record IsReading (p : ℕ) (h : Head) (b : Building) (old new : InputState) : Type 0 where
   pub modulus : b.modulus ≡ p
   pub height : b.height ≡ h.m
   pub width : b.width ≡ h.n
-  pub begun : old.reader.error ≡ None
-  pub taken : List ℕ
-  pub draws : Draws (IsTooShort p old.reader) false taken (supply old) (supply new)
+  pub so_far : ReadSoFar (a_text p) old new (Sizes h.m h.n ∷ map triple_item b.pushed) (Body h.m h.n ∷ [])
   pub last : new.reader.last ≡ None
-  pub stands : IsBetween p old.reader new.reader (record { taken = taken; items = Sizes h.m h.n ∷ map triple_item b.pushed; due = Body h.m h.n ∷ [] })
 
 -- the header was read
 pub reading_begins : (p : ℕ) (h : Head) (b : Building) (old new : InputState) → b ≡ record { modulus = p; height = h.m; width = h.n; pushed = [] } →
-    LineDid p Header old new (header_judged (Ok h)) → new.reader.open_text ≡ Some (h.m, h.n) → IsReading p h b old new
-reading_begins p h b old new blank did opened =
+    old.reader.open_text ≡ None → LineDid p Header old new (header_judged (Ok h)) → new.reader.open_text ≡ Some (h.m, h.n) → IsReading p h b old new
+reading_begins p h b old new blank closed did opened =
     let sound = line_sound p Header old new _ did in
     let t = line_takes p Header old new (header_judged {E = TextError} (Ok h)) sound did in
     rw blank (record {
       modulus = refl;
       height = refl;
       width = refl;
-      begun = sound;
-      taken = t.taken;
-      draws = draws_with (IsUnfinished p Header old.reader) (IsTooShort p old.reader) false t.taken (supply old) (supply new) (header_short p old.reader) t.draws;
+      so_far = line_taken (a_text p) old old new [] Header [] (so_far_begins (a_text p) old sound closed) _ (takes_due p Header old new _ t) opened;
       last = t.last;
-      stands = header_reads p old new h.m h.n t opened;
     })
 
 -- an entry was read and pushed
@@ -110,35 +64,27 @@ reading_goes p h b b' e None old mid new is did opened some more = absurd cc
 reading_goes p h b b' e (Some d) old mid new is did opened some more =
     let same : d ≡ e = cc in
     let due = Body h.m h.n in
-    let t = line_takes p due mid new (entry_judged h (Ok (Some d))) is.stands.sound did in
-    let stands = line_reads p old mid new is.taken _ due _ is.stands t opened.0 in
-    let P : List Item → Type 0 = λ l. IsBetween p old.reader new.reader (record { taken = is.taken ++ t.taken; items = Sizes h.m h.n ∷ l; due = Body h.m h.n ∷ [] }) in
+    let t = line_takes p due mid new (entry_judged h (Ok (Some d))) is.so_far.stands.sound did in
+    let so_far = line_taken (a_text p) old mid new _ due [] is.so_far _ (takes_due p due mid new _ t) opened.0 in
+    let P : List Item → Type 0 = λ l. ReadSoFar (a_text p) old new (Sizes h.m h.n ∷ l) (Body h.m h.n ∷ []) in
     let pushed : map triple_item b.pushed ++ Value d.i d.j d.v ∷ [] ≡ map triple_item (b.pushed ++ record { i = e.i; j = e.j; v = e.v } ∷ []) = rw same (sym (map-append triple_item b.pushed (record { i = e.i; j = e.j; v = e.v } ∷ []))) in
     rw more (record {
       modulus = is.modulus;
       height = is.height;
       width = is.width;
-      begun = is.begun;
-      taken = is.taken ++ t.taken;
-      draws = line_draws p false old mid new is.taken t.taken _ due is.stands is.draws t.draws;
+      so_far = subst P pushed so_far;
       last = t.last;
-      stands = subst P pushed stands;
     })
 
 -- memory was wanted between two lines
 pub reading_pauses : (p : ℕ) (h : Head) (b : Building) (old new : InputState) → IsReading p h b old new → RowsDid p old new (Err error.Memory)
-reading_pauses p h b old new is = rows_did p old new (Err error.Memory) is.begun (record {
-  taken = is.taken;
-  draws = is.draws;
-  last = is.last;
-  reads = inr (_, _, is.stands);
-})
+reading_pauses p h b old new is = so_far_pauses (a_text p) (SaysRows p) old new _ _ is.so_far
 
 -- memory was wanted for the matrix, behind the header and behind an entry
 pub header_pauses : (p : ℕ) (h : Head) (old new : InputState) →
-    LineDid p Header old new (header_judged (Ok h)) → new.reader.open_text ≡ Some (h.m, h.n) → RowsDid p old new (Err error.Memory)
-header_pauses p h old new did opened =
-    reading_pauses p h (record { modulus = p; height = h.m; width = h.n; pushed = [] }) old new (reading_begins p h _ old new refl did opened)
+    old.reader.open_text ≡ None → LineDid p Header old new (header_judged (Ok h)) → new.reader.open_text ≡ Some (h.m, h.n) → RowsDid p old new (Err error.Memory)
+header_pauses p h old new closed did opened =
+    reading_pauses p h (record { modulus = p; height = h.m; width = h.n; pushed = [] }) old new (reading_begins p h _ old new refl closed did opened)
 
 pub entry_pauses : (p : ℕ) (h : Head) (b : Building) (e : Entry) (o : Option Entry) (old mid new : InputState) →
     IsReading p h b old mid → LineDid p (Body h.m h.n) mid new (entry_judged h (Ok o)) → LeavesOpen h p new.reader o → o ≡ Some e → RowsDid p old new (Err error.Memory)
@@ -149,9 +95,9 @@ entry_pauses p h b e o old mid new is did opened some =
 pub entry_falls : (p : ℕ) (h : Head) (b : Building) (o : Option Entry) (old mid new : InputState) →
     IsReading p h b old mid → LineDid p (Body h.m h.n) mid new (entry_judged h (Ok o)) → new.reader.room < mid.reader.room
 entry_falls p h b None old mid new is did =
-    takes_room p (Body h.m h.n) mid new _ (line_takes p (Body h.m h.n) mid new (entry_judged h (Ok None)) is.stands.sound did)
+    takes_room p (Body h.m h.n) mid new _ (line_takes p (Body h.m h.n) mid new (entry_judged h (Ok None)) is.so_far.stands.sound did)
 entry_falls p h b (Some e) old mid new is did =
-    takes_room p (Body h.m h.n) mid new _ (line_takes p (Body h.m h.n) mid new (entry_judged h (Ok (Some e))) is.stands.sound did)
+    takes_room p (Body h.m h.n) mid new _ (line_takes p (Body h.m h.n) mid new (entry_judged h (Ok (Some e))) is.so_far.stands.sound did)
 
 -- the value at a place is the sum of what was pushed there
 value_sum : (i j : ℕ) (ts : List Triple) (more : List Item) → value_at i j ((map triple_item ts ++ Closing ∷ []) ++ more) ≡ sum_at i j ts
@@ -166,6 +112,11 @@ no_matrices p (t ∷ ts) more = no_matrices p ts more
 whole_matrix : (p m n : ℕ) (ts : List Triple) (more : List Item) → matrices p ((Sizes m n ∷ (map triple_item ts ++ Closing ∷ [])) ++ more) ≡ built p m n ts ∷ matrices p more
 whole_matrix p m n ts more = simp (value_sum, no_matrices)
 
+-- it has no line of words
+no_outer : (ts : List Triple) (more : List Item) → outer_lines ((map triple_item ts ++ Closing ∷ []) ++ more) ≡ outer_lines more
+no_outer [] more = refl
+no_outer (t ∷ ts) more = no_outer ts more
+
 -- the matrix was made of what was pushed, or memory was wanted
 abbrev pub IsMade : Building → Result ResidueMatrix TextError → Type 0
 IsMade b (Ok A) = (A.modulus ≡ b.modulus) × (A.matrix ≡ built b.modulus b.height b.width b.pushed)
@@ -175,72 +126,45 @@ IsMade b (Err e) = e ≡ error.Memory
 pub reading_closes : (p : ℕ) (h : Head) (b : Building) (o : Option Entry) (old mid new : InputState) (result : Result ResidueMatrix TextError) →
     IsReading p h b old mid → LineDid p (Body h.m h.n) mid new (entry_judged h (Ok o)) → LeavesOpen h p new.reader o → o ≡ None → IsMade b result → RowsDid p old new result
 reading_closes p h b (Some e) old mid new result is did opened none made = absurd cc
-reading_closes p h b None old mid new (Ok A) is did opened none made =
+reading_closes p h b None old mid new result is did opened none made =
     let due = Body h.m h.n in
-    let t = line_takes p due mid new (entry_judged h (Ok None)) is.stands.sound did in
-    rows_did p old new (Ok A) is.begun (record {
-      taken = is.taken ++ t.taken;
-      draws = line_draws p false old mid new is.taken t.taken _ due is.stands is.draws t.draws;
-      last = t.last;
-      reads = record {
-        items = _;
-        stands = line_reads p old mid new is.taken _ due _ is.stands t opened;
-        matrix = λ more. whole_matrix p h.m h.n b.pushed more ∙ ap (λ B. B ∷ matrices p more) (sym (made.1 ∙ rw (is.modulus, is.height, is.width) refl));
-        modulus = made.0 ∙ is.modulus;
-      };
-    })
-reading_closes p h b None old mid new (Err e) is did opened none made =
-    let due = Body h.m h.n in
-    let t = line_takes p due mid new (entry_judged h (Ok None)) is.stands.sound did in
-    rw made (rows_did p old new (Err error.Memory) is.begun (record {
-      taken = is.taken ++ t.taken;
-      draws = line_draws p false old mid new is.taken t.taken _ due is.stands is.draws t.draws;
-      last = t.last;
-      reads = inr (_, _, line_reads p old mid new is.taken _ due _ is.stands t opened);
-    }))
-
--- why the bytes at hand give no matrix
-cause_reads : (p : ℕ) (old new : ReaderState) (bytes : List ℕ) (items : List Item) (e : TextError) (what : One) → new.error ≡ Some e →
-    ((dues : List Due) → read_on p new.ended (Header ∷ dues) old bytes ≡ with_items items (after_one p new.ended dues what)) →
-    HasCause e what → IsNoMatrix p old new bytes e
-cause_reads p old new bytes items (error.Bad line k) what kept reads cause =
-    (kept, λ dues. reads dues ∙ ap (λ w. with_items items (after_one p new.ended dues w)) cause ∙ with_items_fault items line k)
-cause_reads p old new bytes items error.Read what kept reads cause =
-    (kept, λ dues. reads dues ∙ ap (λ w. with_items items (after_one p new.ended dues w)) cause ∙ with_items_short items)
-cause_reads p old new bytes items error.Memory what kept reads cause = inl kept
+    let t = line_takes p due mid new (entry_judged h (Ok None)) is.so_far.stands.sound did in
+    closes result made (line_taken (a_text p) old mid new _ due [] is.so_far _ (takes_due p due mid new _ t) opened)
+  where
+    closes : (r : Result ResidueMatrix TextError) → IsMade b r → ReadSoFar (a_text p) old new ((Sizes h.m h.n ∷ map triple_item b.pushed) ++ Closing ∷ []) [] → RowsDid p old new r
+    closes (Ok A) made s =
+        let is_built : A.matrix ≡ built p h.m h.n b.pushed = made.1 ∙ rw (is.modulus, is.height, is.width) refl in
+        so_far_ends (a_text p) (SaysRows p) old new _ [] A s (record {
+          whole = refl;
+          sizes = (map triple_item b.pushed ++ Closing ∷ [], ap (λ B. Sizes B.height B.width ∷ (map triple_item b.pushed ++ Closing ∷ [])) (sym is_built));
+          matrix = λ more. whole_matrix p h.m h.n b.pushed more ∙ ap (λ B. B ∷ matrices p more) (sym is_built);
+          inside = λ more. no_outer b.pushed more;
+          modulus = made.0 ∙ is.modulus;
+        })
+    closes (Err e) made s = rw made (so_far_pauses (a_text p) (SaysRows p) old new _ [] s)
 
 -- no entry was read
 pub reading_stops : (p : ℕ) (h : Head) (b : Building) (old mid new : InputState) (e : TextError) →
     IsReading p h b old mid → LineDid p (Body h.m h.n) mid new (entry_judged h (Err e)) → RowsDid p old new (Err e)
 reading_stops p h b old mid new e is did =
     let due = Body h.m h.n in
-    let items = Sizes h.m h.n ∷ map triple_item b.pushed in
-    let t = line_takes p due mid new (entry_judged h (Err e)) is.stands.sound did in
-    let reads : (dues : List Due) → read_on p new.reader.ended (Header ∷ dues) old.reader (is.taken ++ t.taken)
-    ≡ with_items items (after_one p new.reader.ended dues (due_line p new.reader.ended due mid.reader t.taken)) = λ dues.
-    is.stands.reads new.reader.ended t.taken dues (draws_reach (IsUnfinished p due mid.reader) (is_read e) t.taken (supply mid) (supply new) t.draws)
-    ∙ ap (with_items items) (read_one p new.reader.ended mid.reader.room mid.reader.number due dues (lines (mid.reader.kept ++ t.taken))) in
-    rows_did p old new (Err e) is.begun (record {
-      taken = is.taken ++ t.taken;
-      draws = line_draws p (is_read e) old mid new is.taken t.taken items due is.stands is.draws t.draws;
-      last = t.last;
-      reads = cause_reads p old.reader new.reader (is.taken ++ t.taken) items e _ t.error reads t.cause;
-    })
+    let t = line_takes p due mid new (entry_judged h (Err e)) is.so_far.stands.sound did in
+    line_missed (a_text p) old mid new _ due [] is.so_far (SaysRows p) e (misses_due p due mid new e t)
 
 -- no header was read
-missed_header : (p : ℕ) (old new : InputState) (e : TextError) → MissesLine p Header old new e → ReadsRows p old new (Err e)
-missed_header p old new e t = record {
-  taken = t.taken;
-  draws = draws_with (IsUnfinished p Header old.reader) (IsTooShort p old.reader) (is_read e) t.taken (supply old) (supply new) (header_short p old.reader) t.draws;
-  last = t.last;
-  reads = cause_reads p old.reader new.reader t.taken [] e _ t.error
-      (λ dues. read_one p new.reader.ended old.reader.room old.reader.number Header dues (lines (old.reader.kept ++ t.taken))) t.cause;
-}
+pub header_stops : (p : ℕ) (old new : InputState) (e : TextError) → old.reader.open_text ≡ None → LineDid p Header old new (header_judged (Err e)) → RowsDid p old new (Err e)
+header_stops p old new e closed did = first_line_missed p Header [] (SaysRows p) old new e closed did
 
-pub header_stops : (p : ℕ) (old new : InputState) (e : TextError) → LineDid p Header old new (header_judged (Err e)) → RowsDid p old new (Err e)
-header_stops p old new e =
-    elim old.reader.error as (λ o. elim o [ None ↦ MissesLine p Header old new e | Some d ↦ Repeats {T = Judged} old new (Err e) d ]
-    → elim o [ None ↦ ReadsRows p old new (Err e) | Some d ↦ Repeats {T = ResidueMatrix} old new (Err e) d ]) [
-      | None ↦ missed_header p old new e
-      | Some d ↦ λ h. (let x = h.0 in let same : e ≡ d = cc in ap Err same, h.1)
-    ]
+-- Behind what was read so far a text is due, which was read as a matrix.
+pub rows_taken : (w : Wanted) (rest : List Due) (old mid new : InputState) (items : List Item) (A : ResidueMatrix) → ReadSoFar w old mid items (Header ∷ rest) → open_at rest ≡ None → RowsDid w.modulus mid new (Ok A) →
+    (more : List Item) × SaysRows w.modulus A more [] × ReadSoFar w old new (items ++ more) rest
+rows_taken w rest old mid new items A s closed did =
+    let r = part_reads (a_text w.modulus) (SaysRows w.modulus) mid new (Ok A) s.stands.sound did in
+    let so_far = part_taken w (Header ∷ []) rest (SaysRows w.modulus) old mid new items s closed A r in
+    let P : List Due → Type 0 = λ d. ReadSoFar w old new (items ++ r.reads.items) (d ++ rest) in
+    (r.reads.items, subst (SaysRows w.modulus A r.reads.items) r.reads.means.whole r.reads.means, subst P r.reads.means.whole so_far)
+
+-- it wasn't
+pub rows_missed : {T : Type 0} (w : Wanted) (rest : List Due) (Means : T → List Item → List Due → Type 0) (old mid new : InputState) (items : List Item) (e : TextError) → ReadSoFar w old mid items (Header ∷ rest) → open_at rest ≡ None →
+    RowsDid w.modulus mid new (Err e) → PartDid w Means old new (Err e)
+rows_missed w rest Means old mid new items e s closed did = part_missed w (Header ∷ []) rest (SaysRows w.modulus) old mid new items s closed Means e did

@@ -5,10 +5,13 @@ pub mod Laws
 pub mod Lines
 pub mod Memory
 pub mod Numbers
+pub mod OuterLines
+pub mod Parts
 pub mod Reading
 pub mod ReadingRows
 pub mod Spelling
 pub mod Stream
 pub mod Text
+pub mod TextExamples
 pub mod Writing
 pub mod Written

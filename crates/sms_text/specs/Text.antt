@@ -1,23 +1,29 @@
 -- Texts: which lines are due, what a line says, and which line of an input is the first with a fault (this project's profile of the SMS format).
-use Rattle.std.specs.Prelude.{◌≡◌, ◌+◌, ◌-◌, ◌%◌, ◌==◌, ◌||◌, ◌&&◌, nat_lt, Bool, false, not, if◌then◌else◌, ℕ, List, [], ◌∷◌, ◌++◌, Result, Ok, Err, map}
+use Rattle.std.specs.Prelude.{◌≡◌, ◌+◌, ◌-◌, ◌%◌, ◌==◌, ◌||◌, ◌&&◌, nat_lt, Bool, false, not, if◌then◌else◌, ℕ, List, [], ◌∷◌, ◌++◌, Result, Ok, Err, map, slice_index_or, codes}
 use Rattle.std.specs.List.{range_with_len}
+use Rattle.std.specs.Str.{bytes_eq}
 use Rattle.residue_words.specs.Matrix.{Matrix, list_of}
 use Rattle.sms_text.specs.declared.kind.Kind.{Kind}
 use Rattle.sms_text.specs.declared.kind.Kind.TheVariants as kind
 use Rattle.sms_text.specs.declared.reader.TheConstants.{LARGEST_TEXT_SIZE}
 use Rattle.sms_text.specs.Lines.{Line, lines, size, content, words, is_void}
 use Rattle.sms_text.specs.Numbers.{is_number, is_letter, value, is_value, is_zero, divides_by_zero, value_modulo}
+use Rattle.sms_text.specs.OuterLines.{LineForm, Certificate, Pivot, Trace, Step, Script, has_form, fault_of, is_script_end}
 
--- which line is due: a header, or an entry or the closing line of a text of this height and width
+-- which line is due: a header; an entry or the closing line of a text of this height and width; the header of a text behind which a script
+-- for rows of its width is due; or, outside of texts, a line of words of this form
 pub data Due : Type 0 where
   Header : Due
   Body : ℕ → ℕ → Due
+  Scripted : Due
+  Outer : LineForm → Due
 
--- what a line says: the sizes m and n; the value v at row i and column j, from 0; the end of a text
+-- what a line says: the sizes m and n; the value v at row i and column j, from 0; the end of a text; or, outside of texts, its words
 pub data Item : Type 0 where
   Sizes : ℕ → ℕ → Item
   Value : ℕ → ℕ → ℕ → Item
   Closing : Item
+  Words : List (List ℕ) → Item
 
 -- what a line says, and which lines it makes due
 pub record Judged : Type 0 where
@@ -53,14 +59,56 @@ body_of p m n (i ∷ j ∷ v ∷ []) =
     Ok (record { item = Value (value i - 1) (value j - 1) (value_modulo p v); due = Body m n ∷ [] })
 body_of p m n _ = Err kind.Words
 
+-- behind a text of these sizes comes a script for rows of its width
+abbrev pub script_behind : Item → List Due
+script_behind (Sizes m n) = Outer (Script n) ∷ []
+script_behind item = []
+
+abbrev pub with_script : Result Judged Kind → Result Judged Kind
+with_script (Ok j) = Ok (record j { due = j.due ++ script_behind j.item })
+with_script (Err k) = Err k
+
+-- the number that the word at k, from 0, spells
+abbrev pub number_at : List (List ℕ) → ℕ → ℕ
+number_at ws k = value (slice_index_or ws k [])
+
+-- so many pivots; so many steps
+abbrev pub pivot_lines : ℕ → List Due
+pivot_lines n = if n == 0 then [] else Outer (Pivot (n - 1)) ∷ []
+
+abbrev pub step_lines : ℕ → List Due
+step_lines n = if n == 0 then [] else Outer (Step (n - 1)) ∷ []
+
+-- the texts of a certificate of this kind: the factors L and U, and, where more than the rank is claimed, the matrix that is claimed
+abbrev pub texts_of_kind : List ℕ → List Due
+texts_of_kind k = if bytes_eq k (codes "rank") then Header ∷ Header ∷ [] else Header ∷ Header ∷ Header ∷ []
+
+-- the lines that a line of this form makes due
+abbrev pub due_behind : LineForm → List (List ℕ) → List Due
+due_behind Certificate ws = pivot_lines (number_at ws 3) ++ texts_of_kind (slice_index_or ws 1 [])
+due_behind (Pivot n) ws = pivot_lines n
+due_behind Trace ws = step_lines (number_at ws 2)
+due_behind (Step n) ws = step_lines n
+due_behind (Script n) ws = if is_script_end ws then [] else Outer (Script n) ∷ []
+
+-- Certificate, Trace or Script
+abbrev pub outer_of : ℕ → LineForm → List (List ℕ) → Result Judged Kind
+outer_of p form ws =
+    if has_form p form ws then Ok (record { item = Words ws; due = due_behind form ws })
+    else Err (fault_of form)
+
 abbrev pub judge : ℕ → Due → List (List ℕ) → Result Judged Kind
 judge p Header ws = header_of ws
 judge p (Body m n) ws = body_of p m n ws
+judge p Scripted ws = with_script (header_of ws)
+judge p (Outer form) ws = outer_of p form ws
 
 -- the fault of an input that ends where this line is due
 abbrev pub end_kind : Due → Kind
 end_kind Header = kind.NoHeader
 end_kind (Body m n) = kind.NoEnd
+end_kind Scripted = kind.NoHeader
+end_kind (Outer form) = kind.NoEnd
 
 -- what an input turns out to be: these items and the lines behind them; a fault of this kind at this line; or too short to tell
 pub data Reading : Type 0 where
@@ -110,6 +158,7 @@ value_at i j [] = 0
 value_at i j (Sizes m n ∷ items) = value_at i j items
 value_at i j (Value a b v ∷ items) = (if a == i && b == j then v else 0) + value_at i j items
 value_at i j (Closing ∷ items) = 0
+value_at i j (Words ws ∷ items) = value_at i j items
 
 abbrev pub matrix_of : ℕ → ℕ → ℕ → List Item → Matrix
 matrix_of p m n items = record {
@@ -124,3 +173,12 @@ matrices p [] = []
 matrices p (Sizes m n ∷ items) = matrix_of p m n items ∷ matrices p items
 matrices p (Value i j v ∷ items) = matrices p items
 matrices p (Closing ∷ items) = matrices p items
+matrices p (Words ws ∷ items) = matrices p items
+
+-- the words of the lines outside of texts
+abbrev pub outer_lines : List Item → List (List (List ℕ))
+outer_lines [] = []
+outer_lines (Sizes m n ∷ items) = outer_lines items
+outer_lines (Value i j v ∷ items) = outer_lines items
+outer_lines (Closing ∷ items) = outer_lines items
+outer_lines (Words ws ∷ items) = ws ∷ outer_lines items

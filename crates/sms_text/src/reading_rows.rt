@@ -28,6 +28,7 @@ pub fn read_rows<S: Source>(
     requires { reader.old.open_text ≡ None }
     ensures did { RowsDid p.now
         (input reader.old (S.state source.old)) (input reader.new (S.state source.new)) result }
+    ensures last { reader.old.error ≡ None → reader.new.last ≡ None }
     ensures closed { IfOk result (λ rows. reader.new.open_text ≡ None) }
     ensures height { IfOk result (λ rows. rows.matrix.height ≤ LARGEST_TEXT_SIZE) }
     ensures width { IfOk result (λ rows. rows.matrix.width ≤ LARGEST_TEXT_SIZE) }
