@@ -10,7 +10,9 @@ use Rattle.residue_words.specs.declared.plain.Pair.{Pair}
 use Rattle.pivot_table.specs.History.{pair, HasRow, Dead, StartsWith}
 use Rattle.pivot_table.specs.Core.{Mark, free, held, done, Noted, Chair, HasMark, StandsAt, Carries}
 use Rattle.pivot_table.specs.Lawful.{Lawful, After, Sound}
-use Rattle.pivot_table.specs.Closing.{Begun, start_at, IsDone, AreStartsFrom, IsLast, is_done, start_of, start_in}
+use Rattle.pivot_table.specs.Closing.{Begun, start_at, IsDone, AreStartsFrom, is_done, start_of, start_in}
+use Rattle.pivot_table.specs.Last.{IsLast}
+use Rattle.pivot_table.specs.declared.closed.Closed.{Closed}
 use Rattle.pivot_table.proofs.Listed.{within, at_get, read_at}
 use Rattle.pivot_table.proofs.Runs.{reached_lawful, reached_after}
 
@@ -45,7 +47,7 @@ start_there : (b : Begun) (k : ℕ) → b.first ≤ k → k - b.first < length b
 start_there b k le lt = ap (λ (x : Bool). told x (ltb (k - b.first) (length b.starts)) (get_or b.starts (k - b.first) 0)) (le-ltb k b.first le)
     ∙ ap (λ (y : Bool). told false y (get_or b.starts (k - b.first) 0)) (lt-ltb (k - b.first) (length b.starts) lt)
 
-module _ (A : Matrix) (h0 : List Pair) (s : Chair) (h : List Pair) (marks : List Bool) (b : Begun) (l : IsLast A h0 s h marks b) where
+module _ (A : Matrix) (h0 : List Pair) (s : Chair) (left : Closed) (l : IsLast A h0 s left) where
   law : Lawful A l.last
   law = reached_lawful A h0 l.last l.reached
 
@@ -55,66 +57,66 @@ module _ (A : Matrix) (h0 : List Pair) (s : Chair) (h : List Pair) (marks : List
   it : Sound l.last.history l.last.rows s
   it = law.each l.seat.0 s l.seat.1
 
-  pub last_begins : StartsWith h h0
+  pub last_begins : StartsWith left.book.pairs h0
   last_begins = subst (λ (x : List Pair). StartsWith x h0) l.history after.begins
 
-  pub last_seen : StartsWith h s.seen
+  pub last_seen : StartsWith left.book.pairs s.seen
   last_seen = subst (λ (x : List Pair). StartsWith x s.seen) l.history it.seen_first
 
-  pub last_tall : length marks ≡ A.height
+  pub last_tall : length left.done ≡ A.height
   last_tall = ap length l.done ∙ length-map l.last.rows is_done ∙ l.tall
 
-  done_is : (r : ℕ) → get_or marks r false ≡ is_done (get_or l.last.rows r free)
+  done_is : (r : ℕ) → get_or left.done r false ≡ is_done (get_or l.last.rows r free)
   done_is r = ap (λ (m : List Bool). get_or m r false) l.done ∙ read_done l.last.rows r
 
-  pub last_settled : (r : ℕ) → IsDone marks r → HasRow h r ⊎ Dead A h r
+  pub last_settled : (r : ℕ) → IsDone left.done r → HasRow left.book.pairs r ⊎ Dead A left.book.pairs r
   last_settled r d = let t = done_mark (get_or l.last.rows r free) (sym (done_is r) ∙ d) in
       subst (λ (x : List Pair). HasRow x r ⊎ Dead A x r) l.history (law.done_is_settled r t.0 (marked_of l.last.rows r t.0 t.1))
 
-  pub last_finished : (r : ℕ) → Contains s.finished r → IsDone marks r
+  pub last_finished : (r : ℕ) → Contains s.finished r → IsDone left.done r
   last_finished r c = let t = it.finished_done r c in done_is r ∙ ap is_done (read_at l.last.rows r (done t.0) free t.1)
 
-  long : length b.starts + length h0 ≡ length h
-  long = let n : length h ≡ length (h0 ++ last_begins.0) = ap length last_begins.1 in
-      let e : length b.starts ≡ length (map (start_in l.last.rows) (drop (length h0) h)) = ap length l.starts in
-      omega (arith, length-append h0 last_begins.0, length-map (drop (length h0) h) (start_in l.last.rows), length-drop (length h0) h)
+  long : length left.starts.starts + length h0 ≡ length left.book.pairs
+  long = let n : length left.book.pairs ≡ length (h0 ++ last_begins.0) = ap length last_begins.1 in
+      let e : length left.starts.starts ≡ length (map (start_in l.last.rows) (drop (length h0) left.book.pairs)) = ap length l.starts in
+      omega (arith, length-append h0 last_begins.0, length-map (drop (length h0) left.book.pairs) (start_in l.last.rows), length-drop (length h0) left.book.pairs)
 
   -- the start at a place is the one that the row there carries
-  start_is : (k n : ℕ) (q : Pair) → length h0 ≤ k → StandsAt h k q → Carries l.last.rows q.row n → start_at b k ≡ Some n
+  start_is : (k n : ℕ) (q : Pair) → length h0 ≤ k → StandsAt left.book.pairs k q → Carries l.last.rows q.row n → start_at left.starts k ≡ Some n
   start_is k n q le at c =
-      let lt : k < length h = within h k q at in
+      let lt : k < length left.book.pairs = within left.book.pairs k q at in
       let all = long in
       let first = l.first in
-      let i : ℕ = k - b.first in
+      let i : ℕ = k - left.starts.first in
       let place : length h0 + i ≡ k = omega arith in
       let d : Pair = pair 0 0 in
-      let rest : List Pair = drop (length h0) h in
-      let short : i < length rest = omega (arith, length-drop (length h0) h) in
-      let one : get_or b.starts i 0 ≡ n = ap (λ (x : List ℕ). get_or x i 0) l.starts
+      let rest : List Pair = drop (length h0) left.book.pairs in
+      let short : i < length rest = omega (arith, length-drop (length h0) left.book.pairs) in
+      let one : get_or left.starts.starts i 0 ≡ n = ap (λ (x : List ℕ). get_or x i 0) l.starts
       ∙ get_or-map (start_in l.last.rows) rest i d 0 short
-      ∙ ap (start_in l.last.rows) (get_or-drop (length h0) h i d ∙ ap (λ (j : ℕ). get_or h j d) place ∙ read_at h k q d at)
+      ∙ ap (start_in l.last.rows) (get_or-drop (length h0) left.book.pairs i d ∙ ap (λ (j : ℕ). get_or left.book.pairs j d) place ∙ read_at left.book.pairs k q d at)
       ∙ carried l.last.rows q.row n c in
-      start_there b k (omega arith) (omega arith) ∙ ap (λ (x : ℕ). Some x) one
+      start_there left.starts k (omega arith) (omega arith) ∙ ap (λ (x : ℕ). Some x) one
 
-  pub last_noted : (x : Noted) → Contains s.places x → start_at b x.place ≡ Some x.start
+  pub last_noted : (x : Noted) → Contains s.places x → start_at left.starts x.place ≡ Some x.start
   last_noted x c = let t = it.places_start x c in
       start_is x.place x.start t.0 (after.behind l.seat.0 s x l.seat.1 c) (subst (λ (y : List Pair). StandsAt y x.place t.0) l.history t.1) t.2
 
-  pub last_starts : AreStartsFrom (length h0) (length h) b
+  pub last_starts : AreStartsFrom (length h0) (length left.book.pairs) left.starts
   last_starts = record {
     first = l.first;
     long = let a = long in let f = l.first in omega arith;
     low = λ k n e.
-        let t = tells (ltb k b.first) (ltb (k - b.first) (length b.starts)) (get_or b.starts (k - b.first) 0) n e in
-        let le : b.first ≤ k = ltb-false k b.first t.0 in
-        let lt : k - b.first < length b.starts = ltb-true (k - b.first) (length b.starts) t.1 in
+        let t = tells (ltb k left.starts.first) (ltb (k - left.starts.first) (length left.starts.starts)) (get_or left.starts.starts (k - left.starts.first) 0) n e in
+        let le : left.starts.first ≤ k = ltb-false k left.starts.first t.0 in
+        let lt : k - left.starts.first < length left.starts.starts = ltb-true (k - left.starts.first) (length left.starts.starts) t.1 in
         let f = l.first in
         let a = long in
         let d : Pair = pair 0 0 in
-        let inside : k < length h = omega arith in
-        let at : StandsAt h k (get_or h k d) = at_get h k d inside in
-        let u = law.started k (get_or h k d) (subst (λ (y : List Pair). StandsAt y k (get_or h k d)) (sym l.history) at) in
-        let v : start_at b k ≡ Some u.0 = start_is k u.0 (get_or h k d) (omega arith) at u.1 in
+        let inside : k < length left.book.pairs = omega arith in
+        let at : StandsAt left.book.pairs k (get_or left.book.pairs k d) = at_get left.book.pairs k d inside in
+        let u = law.started k (get_or left.book.pairs k d) (subst (λ (y : List Pair). StandsAt y k (get_or left.book.pairs k d)) (sym l.history) at) in
+        let v : start_at left.starts k ≡ Some u.0 = start_is k u.0 (get_or left.book.pairs k d) (omega arith) at u.1 in
         let same : Some n ≡ Some u.0 = sym e ∙ v in
         let w : n ≡ u.0 = cc in
         let low = u.2 in

@@ -1,5 +1,5 @@
 -- What the last words say.
-use Rattle.std.proofs.Common.{◌≡◌, ℕ, ◌<◌, ◌≤◌, Bool, true, min, List, ◌++◌, length, map, drop, refl, ap, subst, arith, length-append}
+use Rattle.std.proofs.Common.{◌≡◌, ℕ, ◌<◌, ◌≤◌, true, min, List, ◌++◌, length, map, drop, sym, ◌∙◌, ap, subst, arith, length-append}
 use mathlib.Core.Option.{some}
 use lib.ListN.{get_elem?}
 use Rattle.std.specs.List.{Contains}
@@ -8,9 +8,11 @@ use Rattle.residue_words.specs.Matrix.{Matrix}
 use Rattle.residue_words.specs.declared.plain.Pair.{Pair}
 use Rattle.pivot_table.specs.History.{Grown}
 use Rattle.pivot_table.specs.Core.{Chair, core}
-use Rattle.pivot_table.specs.Closing.{CellsSay, MarksSay, Begun, IsLast, is_done, start_in}
+use Rattle.pivot_table.specs.Closing.{CellsSay, MarksSay, Begun, is_done, start_in}
+use Rattle.pivot_table.specs.Last.{IsLast}
 use Rattle.pivot_table.specs.Rule.{Kept, rows_at}
 use Rattle.pivot_table.specs.declared.view.View.{View}
+use Rattle.pivot_table.specs.declared.closed.Closed.{Closed}
 use Rattle.pivot_table.proofs.Listed.{cut_here}
 use Rattle.residue_words.proofs.Lists.{cut_at}
 use Rattle.pivot_table.proofs.Short.{grown_short}
@@ -37,28 +39,26 @@ module _ (A : Matrix) (h0 : List Pair) (s : State (Unit {0}) View) (k : Kept A h
   pub begun_short : length h0 ≤ length k.history
   begun_short = let b = (reached_after A h0 (core k.history k.rows (seats_of s)) k.reached).begins in let e : length k.history ≡ length (h0 ++ b.0) = ap length b.1 in omega (arith, length-append h0 b.0)
 
-  pub is_last : (id : ℕ) (v : View) → get_elem? s.views id ≡ some v → v.live ≡ true
-      → IsLast A h0 v.chair k.history (map is_done k.rows) (record { first = length h0; starts = map (start_in k.rows) (drop (length h0) k.history) })
-  is_last id v at live = record {
+  pub is_last : (id : ℕ) (v : View) → get_elem? s.views id ≡ some v → v.live ≡ true → (left : Closed)
+      → left.book.pairs ≡ k.history → left.done ≡ map is_done k.rows
+      → left.starts ≡ record { first = length h0; starts = map (start_in k.rows) (drop (length h0) k.history) }
+      → IsLast A h0 v.chair left
+  is_last id v at live left eh ed es = record {
     last = core k.history k.rows (seats_of s);
     reached = k.reached;
     seat = (id, seat_there s.views id v live at);
-    history = refl;
+    history = sym eh;
     tall = k.spells.height;
-    done = refl;
-    first = refl;
-    starts = refl;
+    done = ed;
+    first = ap (λ (b : Begun). b.first) es;
+    starts = ap (λ (b : Begun). b.starts) es ∙ ap (λ (h : List Pair). map (start_in k.rows) (drop (length h0) h)) (sym eh);
   }
 
-pub last_same : (A A' : Matrix) (h0 h0' : List Pair) (s s' : Chair) (h h' : List Pair) (m m' : List Bool) (b b' : Begun)
-    → A ≡ A' → h0 ≡ h0' → s ≡ s' → h ≡ h' → m ≡ m' → b ≡ b' → IsLast A h0 s h m b → IsLast A' h0' s' h' m' b'
-last_same A A' h0 h0' s s' h h' m m' b b' ea e0 es eh em eb l =
-    subst (λ (x : Matrix). IsLast x h0' s' h' m' b') ea
-    (subst (λ (x : List Pair). IsLast A x s' h' m' b') e0
-    (subst (λ (x : Chair). IsLast A h0 x h' m' b') es
-    (subst (λ (x : List Pair). IsLast A h0 s x m' b') eh
-    (subst (λ (x : List Bool). IsLast A h0 s h x b') em
-    (subst (λ (x : Begun). IsLast A h0 s h m x) eb l)))))
+pub last_same : (A A' : Matrix) (h0 h0' : List Pair) (s s' : Chair) (left : Closed) → A ≡ A' → h0 ≡ h0' → s ≡ s' → IsLast A h0 s left → IsLast A' h0' s' left
+last_same A A' h0 h0' s s' left ea e0 es l =
+    subst (λ (x : Matrix). IsLast x h0' s' left) ea
+    (subst (λ (x : List Pair). IsLast A x s' left) e0
+    (subst (λ (x : Chair). IsLast A h0 x left) es l))
 
 pub begun_same : (f f' : ℕ) (l l' : List ℕ) → f ≡ f' → l ≡ l' → ◌≡◌ {A = Begun} (record { first = f; starts = l }) (record { first = f'; starts = l' })
 begun_same f f' l l' ef el = λ i. record { first = ef i; starts = el i }

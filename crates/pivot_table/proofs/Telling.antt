@@ -8,7 +8,7 @@ use Rattle.residue_words.specs.Matrix.{Matrix}
 use Rattle.residue_words.specs.declared.plain.Pair.{Pair}
 use Rattle.pivot_table.specs.History.{pair, Alive}
 use Rattle.pivot_table.specs.Core.{Chair, publishing, seeing}
-use Rattle.pivot_table.specs.Outcome.{IsOutcome}
+use Rattle.pivot_table.specs.Calls.{IsOutcome}
 use Rattle.pivot_table.specs.declared.board.Outcome.TheVariants as told
 use Rattle.pivot_table.specs.Rule.{TableSeat, with_chair, published, rows_at, pair_of}
 

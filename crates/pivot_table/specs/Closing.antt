@@ -1,10 +1,10 @@
 -- What a closed board leaves.
-use Rattle.std.specs.Prelude.{◌≡◌, ◌<◌, ◌≤◌, ◌+◌, ◌-◌, ℕ, Bool, true, false, Option, None, Some, List, length, map, drop, slice_index, slice_index_or, nat_lt, if◌then◌else◌}
+use Rattle.std.specs.Prelude.{◌≡◌, ◌<◌, ◌≤◌, ◌+◌, ◌-◌, ℕ, Bool, true, false, Option, None, Some, List, length, map, slice_index, slice_index_or, nat_lt, if◌then◌else◌}
 use mathlib.Core.Option.{some}
 use lib.ListN.{get_elem?}
-use Rattle.residue_words.specs.Matrix.{Matrix}
 use Rattle.residue_words.specs.declared.plain.Pair.{Pair}
-use Rattle.pivot_table.specs.Core.{Mark, free, held, done, Chair, Core, HasSeat, Reached}
+use Rattle.pivot_table.specs.Core.{Mark, free, held, done, Noted}
+use Rattle.std.specs.List.{Contains}
 use Rattle.pivot_table.specs.Rule.{mark_word, pair_word}
 
 -- whether a row is done, and the start that it carries
@@ -27,7 +27,8 @@ pub record Begun : Type 0 where
   pub starts : List ℕ
 
 abbrev pub start_at : Begun → ℕ → Option ℕ
-start_at b k = if nat_lt k b.first then None else (if nat_lt (k - b.first) (length b.starts) then Some (slice_index b.starts (k - b.first)) else None)
+start_at b k = if nat_lt k b.first then None
+    else (if nat_lt (k - b.first) (length b.starts) then Some (slice_index b.starts (k - b.first)) else None)
 
 abbrev pub IsDone : List Bool → ℕ → Type 0
 IsDone marks r = slice_index_or marks r false ≡ true
@@ -38,16 +39,9 @@ pub record AreStartsFrom (from to : ℕ) (b : Begun) : Type 0 where
   pub long : b.first + length b.starts ≡ to
   pub low : (k n : ℕ) → start_at b k ≡ Some n → n ≤ k
 
--- h is the history of the last state of the core, in which a seat knows s; the marks and the starts are those of its rows
-pub record IsLast (A : Matrix) (h0 : List Pair) (s : Chair) (h : List Pair) (marks : List Bool) (b : Begun) : Type 0 where
-  pub last : Core
-  pub reached : Reached A h0 last
-  pub seat : (i : ℕ) × HasSeat last.seats i s
-  pub history : last.history ≡ h
-  pub tall : length last.rows ≡ A.height
-  pub done : marks ≡ map is_done last.rows
-  pub first : b.first ≡ length h0
-  pub starts : b.starts ≡ map (start_in last.rows) (drop (length h0) h)
+-- the starts noted at places
+abbrev pub AreNoted : List Noted → Begun → Type 0
+AreNoted places b = (x : Noted) → Contains places x → start_at b x.place ≡ Some x.start
 
 -- what words say: the cells before c say the history, the words from c on the rows
 pub record CellsSay (words : List ℕ) (c : ℕ) (h : List Pair) : Type 0 where
@@ -58,3 +52,12 @@ pub record CellsSay (words : List ℕ) (c : ℕ) (h : List Pair) : Type 0 where
 pub record MarksSay (words : List ℕ) (c height : ℕ) (rows : List Mark) : Type 0 where
   pub tall : length rows ≡ height
   pub each : (r : ℕ) (x : Mark) → get_elem? rows r ≡ some x → slice_index words (c + r) ≡ mark_word x
+
+-- whatever rows the words say, these tell which of them are done
+abbrev pub SayDone : List ℕ → ℕ → ℕ → List Bool → Type 0
+SayDone words c height marks = (rows : List Mark) → MarksSay words c height rows → marks ≡ map is_done rows
+
+-- and these are the starts of the rows of the pairs, where the rows are the last of n words
+abbrev pub SayStarts : List ℕ → ℕ → ℕ → List Pair → List ℕ → Type 0
+SayStarts words n c pairs starts = (height : ℕ) (rows : List Mark) → MarksSay words c height rows →
+    c + height ≡ n → starts ≡ map (start_in rows) pairs

@@ -53,25 +53,29 @@ Carries rows r n = HasMark rows r (held n) ⊎ HasMark rows r (done n)
 
 -- what each event and move makes of a seat
 abbrev pub claiming : Chair → ℕ → Chair
-claiming s r = record { seen = s.seen; hand = Some r; start = length s.seen; published = false; met = s.met; finished = s.finished; places = s.places }
+claiming s r = record s { hand = Some r; start = length s.seen; published = false }
 
 abbrev pub seeing : Chair → Pair → Chair
-seeing s q = record { seen = s.seen ++ q ∷ []; hand = s.hand; start = s.start; published = s.published; met = s.met; finished = s.finished; places = s.places }
+seeing s q = record s { seen = s.seen ++ q ∷ [] }
 
 abbrev pub noted : ℕ → ℕ → Noted
 noted k n = record { place = k; start = n }
 
 abbrev pub publishing : Chair → Pair → Chair
-publishing s q = record { seen = s.seen ++ q ∷ []; hand = s.hand; start = s.start; published = true; met = s.met; finished = s.finished; places = s.places ++ noted (length s.seen) s.start ∷ [] }
+publishing s q = record s {
+  seen = s.seen ++ q ∷ [];
+  published = true;
+  places = s.places ++ noted (length s.seen) s.start ∷ [];
+}
 
 abbrev pub finishing : Chair → ℕ → Chair
-finishing s r = record { seen = s.seen; hand = None; start = 0; published = false; met = s.met; finished = s.finished ++ r ∷ []; places = s.places }
+finishing s r = record s { hand = None; start = 0; published = false; finished = s.finished ++ r ∷ [] }
 
 abbrev pub meeting : Chair → ℕ → Chair
-meeting s r = record { seen = s.seen; hand = s.hand; start = s.start; published = s.published; met = Some r; finished = s.finished; places = s.places }
+meeting s r = record s { met = Some r }
 
 abbrev pub splitting : Chair → Chair
-splitting s = record { seen = s.seen; hand = None; start = 0; published = false; met = None; finished = []; places = [] }
+splitting s = record s { hand = None; start = 0; published = false; met = None; finished = []; places = [] }
 
 -- the longer of two lists, the first where they are as long
 abbrev pub longer_by : ℕ → List Pair → List Pair → List Pair
@@ -82,14 +86,26 @@ abbrev pub longer : List Pair → List Pair → List Pair
 longer xs ys = longer_by (length ys - length xs) xs ys
 
 abbrev pub joining : Chair → Chair → Chair
-joining s t = record { seen = longer s.seen t.seen; hand = s.hand; start = s.start; published = s.published; met = s.met; finished = s.finished ++ t.finished; places = s.places ++ t.places }
+joining s t = record s {
+  seen = longer s.seen t.seen;
+  finished = s.finished ++ t.finished;
+  places = s.places ++ t.places;
+}
 
 -- the opening: the rows of the history are done, the others free; one seat has seen the history and finished its rows
 abbrev pub rows_of : List Pair → List ℕ
 rows_of h = map (λ q. q.row) h
 
 abbrev pub opened : List Pair → Chair
-opened h = record { seen = h; hand = None; start = 0; published = false; met = None; finished = rows_of h; places = [] }
+opened h = record {
+  seen = h;
+  hand = None;
+  start = 0;
+  published = false;
+  met = None;
+  finished = rows_of h;
+  places = [];
+}
 
 abbrev pub with_done : List Pair → List Mark → List Mark
 with_done [] rows = rows
@@ -116,19 +132,27 @@ seated c i s = slice_set c.seats i (Some s)
 
 -- the turn is allowed in the state c, and leads to d
 abbrev pub Goes : Matrix → Core → Turn → Core → Type 0
-Goes A c (claim i r) d = (s : Chair) × HasSeat c.seats i s × (s.hand ≡ None) × HasMark c.rows r free
+Goes A c (claim i r) d = (s : Chair)
+    × HasSeat c.seats i s × (s.hand ≡ None) × HasMark c.rows r free
     × (d ≡ core c.history (slice_set c.rows r (held (length s.seen))) (seated c i (claiming s r)))
-Goes A c (see i) d = (s : Chair) × (q : Pair) × HasSeat c.seats i s × StartsWith c.history (s.seen ++ q ∷ [])
+Goes A c (see i) d = (s : Chair) × (q : Pair)
+    × HasSeat c.seats i s × StartsWith c.history (s.seen ++ q ∷ [])
     × (d ≡ core c.history c.rows (seated c i (seeing s q)))
-Goes A c (publish i j) d = (s : Chair) × (r : ℕ) × HasSeat c.seats i s × (s.hand ≡ Some r) × (s.published ≡ false) × (c.history ≡ s.seen) × LeastAlive A c.history r j
+Goes A c (publish i j) d = (s : Chair) × (r : ℕ)
+    × HasSeat c.seats i s × (s.hand ≡ Some r) × (s.published ≡ false)
+    × (c.history ≡ s.seen) × LeastAlive A c.history r j
     × (d ≡ core (c.history ++ pair r j ∷ []) c.rows (seated c i (publishing s (pair r j))))
-Goes A c (finish i) d = (s : Chair) × (r : ℕ) × HasSeat c.seats i s × (s.hand ≡ Some r) × ((s.published ≡ true) ⊎ Dead A s.seen r)
+Goes A c (finish i) d = (s : Chair) × (r : ℕ)
+    × HasSeat c.seats i s × (s.hand ≡ Some r) × ((s.published ≡ true) ⊎ Dead A s.seen r)
     × (d ≡ core c.history (slice_set c.rows r (done s.start)) (seated c i (finishing s r)))
-Goes A c (meet i r) d = (s : Chair) × HasSeat c.seats i s × (¬ HasMark c.rows r free)
+Goes A c (meet i r) d = (s : Chair)
+    × HasSeat c.seats i s × (¬ HasMark c.rows r free)
     × (d ≡ core c.history c.rows (seated c i (meeting s r)))
-Goes A c (split i) d = (s : Chair) × HasSeat c.seats i s
+Goes A c (split i) d = (s : Chair)
+    × HasSeat c.seats i s
     × (d ≡ core c.history c.rows (c.seats ++ Some (splitting s) ∷ []))
-Goes A c (join i j) d = (s : Chair) × (t : Chair) × HasSeat c.seats i s × HasSeat c.seats j t × (j ≢ i) × (t.hand ≡ None)
+Goes A c (join i j) d = (s : Chair) × (t : Chair)
+    × HasSeat c.seats i s × HasSeat c.seats j t × (j ≢ i) × (t.hand ≡ None)
     × (d ≡ core c.history c.rows (slice_set (seated c i (joining s t)) j None))
 
 -- the turns lead from c to d

@@ -3,7 +3,7 @@ use Rattle.std.specs.Prelude.{◌≡◌, ◌≢◌, ◌<◌, ◌≤◌, ◌⊎�
 use Rattle.std.specs.List.{Contains}
 use Rattle.residue_words.specs.Matrix.{Matrix}
 use Rattle.residue_words.specs.declared.plain.Pair.{Pair}
-use Rattle.pivot_table.specs.History.{HasRow, HasCol, Dead, Grown, StartsWith}
+use Rattle.pivot_table.specs.History.{HasRow, HasCol, Grown, StandsOrIsDead, StartsWith}
 use Rattle.pivot_table.specs.Core.{Mark, free, held, done, Noted, Chair, Core, HasSeat, HasMark, StandsAt, Carries, Turn, Goes, Reached}
 
 abbrev pub HaveDistinctPlaces : List Noted → Type 0
@@ -21,7 +21,8 @@ pub record Sound (h : List Pair) (rows : List Mark) (s : Chair) : Type 0 where
   pub finished_done : (r : ℕ) → Contains s.finished r → (n : ℕ) × HasMark rows r (done n)
   pub places_below : (x : Noted) → Contains s.places x → x.place < length s.seen
   pub places_distinct : HaveDistinctPlaces s.places
-  pub places_start : (x : Noted) → Contains s.places x → (q : Pair) × StandsAt h x.place q × Carries rows q.row x.start
+  pub places_start : (x : Noted) → Contains s.places x →
+      (q : Pair) × StandsAt h x.place q × Carries rows q.row x.start
 
 -- what holds of two seats: they have no row in hand and no place in common
 pub record Apart (s t : Chair) : Type 0 where
@@ -31,8 +32,9 @@ pub record Apart (s t : Chair) : Type 0 where
 pub record Lawful (A : Matrix) (c : Core) : Type 0 where
   pub grown : Grown A c.history
   pub free_is_fresh : (r : ℕ) → HasMark c.rows r free → ¬ HasRow c.history r
-  pub done_is_settled : (r n : ℕ) → HasMark c.rows r (done n) → HasRow c.history r ⊎ Dead A c.history r
-  pub held_in_hand : (r n : ℕ) → HasMark c.rows r (held n) → (i : ℕ) × (s : Chair) × HasSeat c.seats i s × (s.hand ≡ Some r)
+  pub done_is_settled : (r n : ℕ) → HasMark c.rows r (done n) → StandsOrIsDead A c.history r
+  pub held_in_hand : (r n : ℕ) → HasMark c.rows r (held n) →
+      (i : ℕ) × (s : Chair) × HasSeat c.seats i s × (s.hand ≡ Some r)
   pub started : (k : ℕ) (q : Pair) → StandsAt c.history k q → (n : ℕ) × Carries c.rows q.row n × (n ≤ k)
   pub each : (i : ℕ) (s : Chair) → HasSeat c.seats i s → Sound c.history c.rows s
   pub apart : (i j : ℕ) (s t : Chair) → HasSeat c.seats i s → HasSeat c.seats j t → i ≢ j → Apart s t
@@ -40,7 +42,8 @@ pub record Lawful (A : Matrix) (c : Core) : Type 0 where
 -- the history begins with the one of the opening, and each place that a seat published lies behind it
 pub record After (h : List Pair) (c : Core) : Type 0 where
   pub begins : StartsWith c.history h
-  pub behind : (i : ℕ) (s : Chair) (x : Noted) → HasSeat c.seats i s → Contains s.places x → length h ≤ x.place
+  pub behind : (i : ℕ) (s : Chair) (x : Noted) → HasSeat c.seats i s → Contains s.places x →
+      length h ≤ x.place
 
 -- the laws of runs
 abbrev pub RunsAreLawful : Type 0

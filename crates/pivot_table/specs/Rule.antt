@@ -6,7 +6,7 @@ use Rattle.atomic_table.specs.Table.{State, Me, Step}
 use Rattle.residue_words.specs.Matrix.{Matrix}
 use Rattle.residue_words.specs.declared.plain.Pair.{Pair}
 use Rattle.pivot_table.specs.History.{pair, HasRow, Alive}
-use Rattle.pivot_table.specs.Core.{Mark, free, held, done, Chair, core, Reached, claiming, meeting, seeing, publishing, finishing, splitting, joining, opened}
+use Rattle.pivot_table.specs.Core.{Mark, free, held, done, Chair, core, Reached, claiming, meeting, seeing, publishing, finishing, splitting, joining, opened, opening_marks}
 use Rattle.pivot_table.specs.declared.view.View.{View}
 
 abbrev pub view : Matrix → Bool → Chair → View
@@ -42,6 +42,10 @@ pub record Spells (A : Matrix) (words : List ℕ) (h : List Pair) (rows : List M
   pub height : length rows ≡ A.height
   pub size : length words ≡ rows_at A + A.height
 
+-- the words of a board with this history, on which nothing was done yet
+abbrev pub SpellsOpening : Matrix → List ℕ → List Pair → Type 0
+SpellsOpening A words h = Spells A words h (opening_marks A h)
+
 -- a view that is not spent names the board's matrix
 abbrev pub OfBoard : Matrix → List View → Type 0
 OfBoard A views = (i : ℕ) (v : View) → get_elem? views i ≡ some v → v.live ≡ true → v.matrix ≡ A
@@ -66,15 +70,19 @@ abbrev pub row_of_step : Step (Unit {0}) → TableSeat → ℕ
 row_of_step st m = st.word - rows_at m.0.matrix
 
 abbrev pub claimed : Step (Unit {0}) → TableSeat → ℕ → TableSeat → Type 0
-claimed st m n m' = (n ≡ 0 → (m' ≡ with_chair m (claiming m.0.chair (row_of_step st m))) × (¬ HasRow m.0.chair.seen (row_of_step st m))) × (n ≢ 0 → m' ≡ with_chair m (meeting m.0.chair (row_of_step st m)))
+claimed st m n m' =
+    (n ≡ 0 → (m' ≡ with_chair m (claiming m.0.chair (row_of_step st m))) × (¬ HasRow m.0.chair.seen (row_of_step st m)))
+    × (n ≢ 0 → m' ≡ with_chair m (meeting m.0.chair (row_of_step st m)))
 
 abbrev pub finished : Step (Unit {0}) → TableSeat → ℕ → TableSeat → Type 0
 finished st m n m' = m' ≡ with_chair m (finishing m.0.chair (row_of_step st m))
 
 -- the pair found was alive in what was seen, and its row is not the one in hand
 abbrev pub published : Step (Unit {0}) → TableSeat → ℕ → TableSeat → Type 0
-published st m n m' = (length m'.0.chair.seen < rows_at m.0.matrix) × (n ≡ 0 → m' ≡ with_chair m (publishing m.0.chair (pair_of st.second)))
-    × (n ≢ 0 → (m' ≡ with_chair m (seeing m.0.chair (pair_of n))) × (4294967296 ≤ n) × Alive m.0.matrix m.0.chair.seen (pair_of n).row (pair_of n).col × (m.0.chair.hand ≢ Some (pair_of n).row))
+published st m n m' = (length m'.0.chair.seen < rows_at m.0.matrix)
+    × (n ≡ 0 → m' ≡ with_chair m (publishing m.0.chair (pair_of st.second)))
+    × (n ≢ 0 → (m' ≡ with_chair m (seeing m.0.chair (pair_of n))) × (4294967296 ≤ n)
+    × Alive m.0.matrix m.0.chair.seen (pair_of n).row (pair_of n).col × (m.0.chair.hand ≢ Some (pair_of n).row))
 
 -- the second of two views is spent
 abbrev pub spent_view : View

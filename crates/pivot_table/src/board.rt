@@ -1,12 +1,14 @@
 // A history that several threads grow, on words that change in single steps.
-ghost use Rattle.std.specs.Prelude.{◌≡◌, ℕ, ◌+◌, ◌<◌, ◌≤◌, ◌⊎◌, true, false, MatchBool, None, Some, length, min, IfOk};
+ghost use Rattle.std.specs.Prelude.{◌≡◌, ℕ, ◌+◌, ◌<◌, false, MatchBool, None, length, IfOk};
 ghost use Rattle.std.specs.List.{Contains};
-ghost use Rattle.pivot_table.specs.Rule.{rows_at};
-ghost use Rattle.pivot_table.specs.Core.{Noted, opened, claiming, meeting, finishing, splitting, joining};
-ghost use Rattle.pivot_table.specs.Closing.{AreStartsFrom, IsDone, IsLast, start_at};
 ghost use Rattle.pivot_table.specs.Board.{IsSeatOf};
-ghost use Rattle.pivot_table.specs.Outcome.{IsOutcome};
-ghost use Rattle.pivot_table.specs.History.{HasRow, LeastAlive, Dead, StartsWith};
+ghost use Rattle.pivot_table.specs.Book.{HasRoom};
+ghost use Rattle.pivot_table.specs.Calls.{Claims, Finishes, IsOutcome, MayFinish, MayPublish};
+ghost use Rattle.pivot_table.specs.Closing.{AreNoted, AreStartsFrom, IsDone};
+ghost use Rattle.pivot_table.specs.Last.{IsLast};
+ghost use Rattle.pivot_table.specs.Core.{meeting, opened, splitting, joining};
+ghost use Rattle.pivot_table.specs.History.{StandsOrIsDead, StartsWith};
+ghost use Rattle.pivot_table.specs.Rule.{rows_at};
 
 use crate::board_rule::{Both, Claim, Finish, Law, Part, Publish};
 use crate::board_words::{pair_at, read_cells, read_marks, read_starts, spell, word_of_pair};
@@ -47,13 +49,19 @@ impl<'a> Model for Board<'a> {
 
     ghost Value = { BoardState };
 
-    ghost view = { λ b. record { table = b.table.shared.table_id; rows = b.rows.now; pairs = b.table.shared.key.pairs } };
+    ghost view = { λ b. record {
+      table = b.table.shared.table_id;
+      rows = b.rows.now;
+      pairs = b.table.shared.key.pairs;
+    } };
 
     ghost invariant = { λ b. (b.rows.now ≡ b.table.shared.key.rows) × (b.table.shared.table_id.slots ≡ 0)
-        × (b.pairs.items ≡ []) × (min b.rows.now.matrix.height b.rows.now.matrix.width ≤ vec_capacity b.pairs)
+        × (b.pairs.items ≡ [])
+        × (min b.rows.now.matrix.height b.rows.now.matrix.width ≤ vec_capacity b.pairs)
         × (b.table.shared.table_id.words ≡ rows_at b.rows.now.matrix + b.rows.now.matrix.height)
         × (b.done.items ≡ []) × (b.rows.now.matrix.height ≤ vec_capacity b.done)
-        × (b.starts.items ≡ []) × (min b.rows.now.matrix.height b.rows.now.matrix.width ≤ vec_capacity b.starts)
+        × (b.starts.items ≡ [])
+        × (min b.rows.now.matrix.height b.rows.now.matrix.width ≤ vec_capacity b.starts)
         × (b.first ≡ length b.table.shared.key.pairs) };
 }
 
@@ -112,7 +120,7 @@ impl<'a> Board<'a> {
         requires row { row < self.now.rows.matrix.height }
         requires idle { seat.old.chair.hand ≡ None }
         ensures seat { IsSeatOf self.now seat.new }
-        ensures chair { MatchBool result ((seat.new.chair ≡ claiming seat.old.chair row) × (¬ HasRow seat.old.chair.seen row)) (seat.new.chair ≡ meeting seat.old.chair row) }
+        ensures chair { MatchBool result (Claims seat.old.chair row seat.new.chair) (seat.new.chair ≡ meeting seat.old.chair row) }
     {
         let word = self.word_of(row);
         let found = self
@@ -131,8 +139,8 @@ impl<'a> Board<'a> {
     /// Publishes the row in hand at the column, or sees the pair that another seat published next.
     pub fn publish(&self, seat: &mut Seat, col: u32) -> Outcome
         requires seat { IsSeatOf self.now seat.old }
-        requires open { seat.old.chair.published ≡ false }
-        requires alive { (row : ℕ) × (seat.old.chair.hand ≡ Some row) × LeastAlive self.now.rows.matrix seat.old.chair.seen row col }
+        requires unpublished { seat.old.chair.published ≡ false }
+        requires alive { MayPublish self.now.rows.matrix seat.old.chair col }
         ensures seat { IsSeatOf self.now seat.new }
         ensures chair { IsOutcome self.now.rows.matrix seat.old.chair col result seat.new.chair }
     {
@@ -157,9 +165,9 @@ impl<'a> Board<'a> {
     /// Lets go of the row in hand, which is published or dead in what the seat has seen.
     pub fn finish_row(&self, seat: &mut Seat)
         requires seat { IsSeatOf self.now seat.old }
-        requires settled { (row : ℕ) × (seat.old.chair.hand ≡ Some row) × ((seat.old.chair.published ≡ true) ⊎ Dead self.now.rows.matrix seat.old.chair.seen row) }
+        requires settled { MayFinish self.now.rows.matrix seat.old.chair }
         ensures seat { IsSeatOf self.now seat.new }
-        ensures chair { (row : ℕ) × (seat.old.chair.hand ≡ Some row) × (seat.new.chair ≡ finishing seat.old.chair row) }
+        ensures chair { Finishes seat.old.chair seat.new.chair }
     {
         let Some(row) = seat.row else { unreachable!() };
         let word = self.word_of(row);
@@ -210,15 +218,15 @@ impl<'a> Board<'a> {
     pub fn close(self, seat: Seat) -> Closed<'a>
         requires { IsSeatOf self seat }
         ensures rows { result.book.rows ≡ self.entry.rows }
-        ensures room { min self.entry.rows.matrix.height self.entry.rows.matrix.width ≤ length result.book.pairs + result.book.spare }
+        ensures room { HasRoom self.entry.rows.matrix result.book }
         ensures begins { StartsWith result.book.pairs self.entry.pairs }
         ensures seen { StartsWith result.book.pairs seat.chair.seen }
         ensures tall { length result.done ≡ self.entry.rows.matrix.height }
-        ensures settled { (r : ℕ) → IsDone result.done r → HasRow result.book.pairs r ⊎ Dead self.entry.rows.matrix result.book.pairs r }
+        ensures settled { (r : ℕ) → IsDone result.done r → StandsOrIsDead self.entry.rows.matrix result.book.pairs r }
         ensures finished { (r : ℕ) → Contains seat.chair.finished r → IsDone result.done r }
         ensures starts { AreStartsFrom (length self.entry.pairs) (length result.book.pairs) result.starts }
-        ensures noted { (x : Noted) → Contains seat.chair.places x → start_at result.starts x.place ≡ Some x.start }
-        ensures last { IsLast self.entry.rows.matrix self.entry.pairs seat.chair result.book.pairs result.done result.starts }
+        ensures noted { AreNoted seat.chair.places result.starts }
+        ensures last { IsLast self.entry.rows.matrix self.entry.pairs seat.chair result }
     {
         let Board {
             table,

@@ -1,11 +1,11 @@
 // The words of a board: pairs and marks, written when it is made and read back when no thread shares them any more.
-ghost use Rattle.std.specs.Prelude.{◌≡◌, ◌≢◌, ℕ, ◌+◌, ◌<◌, ◌≤◌, [], List, length, map, drop, replicate, vec_len, vec_capacity};
+ghost use Rattle.std.specs.Prelude.{◌≡◌, ◌+◌, ◌<◌, ◌≤◌, [], List, length, drop, replicate, vec_capacity};
 ghost use Rattle.std.specs.Mem.Slots.{slots_items, slots_len, IsFull};
 ghost use Rattle.std.specs.List.{Contains};
 ghost use Rattle.residue_words.specs.declared.plain.Pair.{Pair};
-ghost use Rattle.pivot_table.specs.Core.{Mark, opening_marks};
-ghost use Rattle.pivot_table.specs.Closing.{CellsSay, MarksSay, is_done, start_in, start_of};
-ghost use Rattle.pivot_table.specs.Rule.{Spells, mark_word, pair_of, pair_word, rows_at};
+ghost use Rattle.pivot_table.specs.Core.{Mark};
+ghost use Rattle.pivot_table.specs.Closing.{CellsSay, SayDone, SayStarts, is_done, start_of};
+ghost use Rattle.pivot_table.specs.Rule.{SpellsOpening, mark_word, pair_of, pair_word, rows_at};
 
 use crate::book::Book;
 use atomic_table::Closed;
@@ -33,7 +33,7 @@ pub(crate) fn pair_at(word: u64) -> Pair
 // The words that a board begins with.
 pub(crate) fn spell(book: &Book<'_>, words: &mut [u64])
     requires { words.old ≡ replicate (rows_at book.now.rows.matrix + book.now.rows.matrix.height) 0 }
-    ensures { Spells book.now.rows.matrix words.new book.now.pairs (opening_marks book.now.rows.matrix book.now.pairs) }
+    ensures { SpellsOpening book.now.rows.matrix words.new book.now.pairs }
 {
     let rows = book.rows();
     let first = rows.height().min(rows.width()) as usize + 1;
@@ -85,7 +85,7 @@ pub(crate) fn read_marks(
     requires empty { done.old.items ≡ [] }
     requires room { height ≤ vec_capacity done.old }
     requires words { IsFull closed.now.words × (first + height ≤ slots_len closed.now.words) }
-    ensures read { (rows : List Mark) → MarksSay (slots_items closed.now.words) first height rows → done.new.items ≡ map is_done rows }
+    ensures read { SayDone (slots_items closed.now.words) first height done.new.items }
 {
     for r in 0..height {
         let word = closed.word(first + r);
@@ -106,7 +106,7 @@ pub(crate) fn read_starts(
     requires from { from ≤ length pairs.now }
     requires words { IsFull closed.now.words }
     requires inside { (q : Pair) → Contains pairs.now q → first + q.row < slots_len closed.now.words }
-    ensures read { (height : ℕ) (rows : List Mark) → MarksSay (slots_items closed.now.words) first height rows → first + height ≡ slots_len closed.now.words → starts.new.items ≡ map (start_in rows) (drop from pairs.now) }
+    ensures read { SayStarts (slots_items closed.now.words) (slots_len closed.now.words) first (drop from pairs.now) starts.new.items }
 {
     for k in from..pairs.len() {
         let word = closed.word(first + pairs[k].row as usize);

@@ -20,10 +20,16 @@ impl Model for Seat {
 
     ghost Value = { SeatState };
 
-    ghost view = { λ s. record { table = s.token.table_id; matrix = s.token.me.0.matrix; chair = s.token.me.0.chair } };
+    ghost view = { λ s. record {
+      table = s.token.table_id;
+      matrix = s.token.me.0.matrix;
+      chair = s.token.me.0.chair;
+    } };
 
-    ghost invariant = { λ s. (s.seen ≡ length s.token.me.0.chair.seen) × (s.row ≡ s.token.me.0.chair.hand) × (s.start ≡ s.token.me.0.chair.start)
-        × (s.token.me.0.live ≡ true) × (length s.token.me.0.chair.seen < rows_at s.token.me.0.matrix) × (s.token.me.1 ≡ []) × (s.start ≤ s.seen)
+    ghost invariant = { λ s. (s.seen ≡ length s.token.me.0.chair.seen) × (s.row ≡ s.token.me.0.chair.hand)
+        × (s.start ≡ s.token.me.0.chair.start) × (s.token.me.0.live ≡ true)
+        × (length s.token.me.0.chair.seen < rows_at s.token.me.0.matrix)
+        × (s.token.me.1 ≡ []) × (s.start ≤ s.seen)
         × IfSome s.row (λ r. r < s.token.me.0.matrix.height) };
 }
 

@@ -8,7 +8,7 @@ use Rattle.pivot_table.specs.Core.{Chair}
 use Rattle.pivot_table.specs.History.{pair, LeastAlive}
 use Rattle.pivot_table.specs.Board.{BoardState, SeatState}
 use Rattle.pivot_table.specs.Rule.{Kept, published, rows_at, pair_of}
-use Rattle.pivot_table.specs.Outcome.{IsOutcome}
+use Rattle.pivot_table.specs.Calls.{IsOutcome}
 use Rattle.pivot_table.specs.declared.board.Outcome.{Outcome}
 use Rattle.pivot_table.proofs.Telling.{tells_published, tells_newer}
 use Rattle.pivot_table.proofs.Words.{pair_back}
@@ -45,7 +45,7 @@ compare_exchange-found-requires c =
     let given = c.requires.alive in
     let theirs : it.me.0.chair.hand ≡ Some given.0 = ap (λ (s : SeatState). s.chair.hand) c.seat.view_is ∙ given.1 in
     let one : given.0 ≡ r = cc in
-    let unpub : it.me.0.chair.published ≡ false = ap (λ (s : SeatState). s.chair.published) c.seat.view_is ∙ c.requires.open in
+    let unpub : it.me.0.chair.published ≡ false = ap (λ (s : SeatState). s.chair.published) c.seat.view_is ∙ c.requires.unpublished in
     let least : LeastAlive A it.me.0.chair.seen r col =
     subst (λ (m : Matrix). LeastAlive m it.me.0.chair.seen r col) board
     (subst (λ (k : Chair). LeastAlive c.args.self.now.rows.matrix k.seen r col) (sym (ap (λ (s : SeatState). s.chair) c.seat.view_is))
