@@ -4,7 +4,7 @@ ghost use Rattle.pivot_table.specs.Greedy.{IsGreedy, IsTried};
 ghost use Rattle.pivot_table.specs.History.{Grown, HasRow, Maximal, StartsWith};
 ghost use Rattle.optimistic_search.specs.Candidate.{IsCovered};
 ghost use Rattle.optimistic_search.specs.Cost.{TakesItsCost};
-ghost use Rattle.optimistic_search.specs.Search.{HasRoom};
+ghost use Rattle.pivot_table.specs.Book.{HasRoom};
 
 use crate::steps::Steps;
 use crate::walk::Walk;

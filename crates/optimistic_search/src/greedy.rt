@@ -2,7 +2,7 @@
 ghost use Rattle.std.specs.Prelude.{◌≡◌, ◌<◌, [], IfOk};
 ghost use Rattle.pivot_table.specs.Greedy.{IsGreedy, IsTried};
 ghost use Rattle.pivot_table.specs.History.{Grown};
-ghost use Rattle.optimistic_search.specs.Search.{HasRoom};
+ghost use Rattle.pivot_table.specs.Book.{HasRoom};
 
 use crate::leveled_walk::LeveledWalk;
 use pivot_table::Book;

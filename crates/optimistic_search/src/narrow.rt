@@ -6,7 +6,7 @@ ghost use Rattle.pivot_table.specs.History.{StartsWith};
 ghost use Rattle.sparse_rows.specs.Rows.{AreEnough, AreRising, narrowed};
 ghost use Rattle.sparse_rows.specs.declared.rows.TheConstants.{LARGEST_SIZE};
 ghost use Rattle.optimistic_search.specs.Renamed.{AreInside, renamed};
-ghost use Rattle.optimistic_search.specs.Search.{HasRoom};
+ghost use Rattle.pivot_table.specs.Book.{HasRoom};
 
 use crate::greedy::search_greedily;
 use pivot_table::Book;

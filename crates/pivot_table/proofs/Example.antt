@@ -28,6 +28,12 @@ first_least = (
   (λ k l a. shown (decide_not (decide_below (Alive pivot_example (pair 0 0 ∷ []) 1) (decide_alive pivot_example (pair 0 0 ∷ []) 1) 1)) tt (k, l, a)),
 )
 
+other_least : LeastAlive pivot_example (pair 0 0 ∷ []) 2 1
+other_least = (
+  shown (decide_alive pivot_example (pair 0 0 ∷ []) 2 1) tt,
+  (λ k l a. shown (decide_not (decide_below (Alive pivot_example (pair 0 0 ∷ []) 2) (decide_alive pivot_example (pair 0 0 ∷ []) 2) 1)) tt (k, l, a)),
+)
+
 first_greedy : IsGreedy pivot_example (pair 0 0 ∷ []) first_history
 unfolding IsGreedyBelow
 first_greedy = (
@@ -43,6 +49,7 @@ pub worked : AreWorkedHistories
 worked = record {
   grown = first_grown;
   least = first_least;
+  other_least = other_least;
   overtaken = shown (decide_dead pivot_example other_history 1) tt;
   maximal = shown (decide_maximal pivot_example first_history) tt;
   other_maximal = shown (decide_maximal pivot_example other_history) tt;

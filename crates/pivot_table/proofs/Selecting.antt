@@ -1,12 +1,11 @@
 -- From a search and its order to the selection; and that there is just one selection of one worker.
-use Rattle.std.proofs.Common.{◌≡◌, ◌≢◌, ℕ, zero, suc, ◌<◌, ◌≤◌, ◌⊎◌, List, [], ◌∷◌, ◌++◌, length, slice_index, sym, refl, ap, ap₂, ◌∙◌, inl, inr, ⊎_elim, subst, arith}
+use Rattle.std.proofs.Common.{◌≡◌, ℕ, zero, suc, ◌≤◌, List, [], ◌∷◌, ◌++◌, sym, refl, ap, ap₂, ◌∙◌, inl, inr, subst, arith}
 use Rattle.std.specs.List.{Contains}
 use Rattle.std.proofs.lemmas.List.Elements.{Contains-append_left}
 use Rattle.std.proofs.lemmas.Bool.{cases_lt}
 use Rattle.residue_words.specs.Matrix.{Matrix}
 use Rattle.residue_words.specs.declared.plain.Pair.{Pair}
-use Rattle.residue_words.proofs.Lists.{in_head, in_tail, in_cases, not_in_nil}
-use Rattle.pivot_table.specs.History.{pair, Alive, Dead, HasCol, HasRow, LeastAlive, Maximal, Path, Reaches, StartsWith}
+use Rattle.pivot_table.specs.History.{pair, Alive, LeastAlive, Maximal, Path, Reaches, StartsWith}
 use Rattle.pivot_table.specs.Greedy.{IsGreedy, IsGreedyBelow, IsTried}
 use Rattle.pivot_table.specs.Leftmost.{IsLeftmost, IsSparsest}
 use Rattle.pivot_table.specs.Order.{IsTriangularOrder}

@@ -20,6 +20,7 @@ other_history = pair 0 0 ∷ pair 2 1 ∷ []
 pub record AreWorkedHistories : Type 0 where
   pub grown : Grown pivot_example first_history
   pub least : LeastAlive pivot_example (pair 0 0 ∷ []) 1 1
+  pub other_least : LeastAlive pivot_example (pair 0 0 ∷ []) 2 1
   pub overtaken : Dead pivot_example other_history 1
   pub maximal : Maximal pivot_example first_history
   pub other_maximal : Maximal pivot_example other_history

@@ -1,7 +1,7 @@
 use Rattle.std.proofs.Common.{◌∙◌, subst, refl}
 use Rattle.sparse_rows.specs.Rows.{ResidueMatrix}
 use Rattle.pivot_table.specs.Greedy.{IsTried}
-use Rattle.optimistic_search.specs.Search.{HasRoom}
+use Rattle.pivot_table.specs.Book.{HasRoom}
 use Rattle.optimistic_search.proofs.Searching.{greedy_none, greedy_more}
 use Rattle.optimistic_search.proofs.by_walk.try_all.Goals as goal
 

@@ -2,7 +2,7 @@ use Rattle.std.proofs.Common.{◌∙◌, subst, refl, arith}
 use Rattle.residue_words.specs.Matrix.{IsMatrix}
 use Rattle.sparse_rows.specs.Rows.{AreZeroFrom, IsNextFilled, ResidueMatrix}
 use Rattle.pivot_table.specs.Greedy.{IsTried}
-use Rattle.optimistic_search.specs.Search.{HasRoom}
+use Rattle.pivot_table.specs.Book.{HasRoom}
 use Rattle.optimistic_search.proofs.Searching.{greedy_none, greedy_more, greedy_past}
 use Rattle.optimistic_search.proofs.greedy.try_all.Goals as goal
 

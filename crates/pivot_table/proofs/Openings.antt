@@ -1,0 +1,20 @@
+-- What a board begins with meets the rule.
+use Rattle.std.proofs.Common.{ℕ, ◌≤◌, true, List, [], sym, refl, ap}
+use Rattle.atomic_table.specs.Table.{opening}
+use Rattle.residue_words.specs.Matrix.{Matrix}
+use Rattle.residue_words.specs.declared.plain.Pair.{Pair}
+use Rattle.pivot_table.specs.History.{Grown}
+use Rattle.pivot_table.specs.Core.{opening_marks, opened}
+use Rattle.pivot_table.specs.Rule.{Kept, Spells, view}
+use Rattle.pivot_table.specs.declared.view.View.{View}
+use Rattle.pivot_table.proofs.Runs.{lone}
+
+pub kept_open : (A : Matrix) (h : List Pair) → Grown A h → (ws : List ℕ) → Spells A ws h (opening_marks A h) → A.width ≤ 4294967296 → Kept A h (opening ws [] (view A true (opened h)))
+kept_open A h grown ws sp narrow = record {
+  history = h;
+  rows = opening_marks A h;
+  reached = (grown, ([], refl));
+  spells = sp;
+  of_board = λ i v at live. sym (ap (λ (x : View). x.matrix) (lone (view A true (opened h)) v i at).1);
+  narrow = narrow;
+}

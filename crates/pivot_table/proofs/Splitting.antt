@@ -1,0 +1,52 @@
+-- Seats that are split and joined keep the rule.
+use Rattle.std.proofs.Common.{◌≡◌, ℕ, Bool, true, List, [], ◌∷◌, ◌++◌, map, set, sym, refl, ap, ◌∙◌, ⊎_elim, subst}
+use Rattle.std.specs.Prelude.{None, Some}
+use mathlib.Core.List.{map-append}
+use mathlib.Core.Option.{some}
+use lib.ListN.{get_elem?}
+use lib.Seq.{map-set}
+use Rattle.atomic_table.specs.Table.{Splits, Joins}
+use Rattle.atomic_table.proofs.Lists.{set_else, set_again, at_snoc}
+use Rattle.residue_words.specs.Matrix.{Matrix}
+use Rattle.residue_words.specs.declared.plain.Pair.{Pair}
+use Rattle.pivot_table.specs.Core.{Chair, core, split, join, Reached, splitting, joining}
+use Rattle.pivot_table.specs.Rule.{Kept, seat_of, seat_by, joined, parted, spent_view}
+use Rattle.pivot_table.specs.declared.view.View.{View}
+use Rattle.pivot_table.proofs.Seats.{Seats}
+use Rattle.pivot_table.proofs.Runs.{reached_next}
+use Rattle.pivot_table.proofs.Allowed.{seats_of, seat_there, seats_set, each_view}
+
+module _ (A : Matrix) (h0 : List Pair) (id : ℕ) (v : View) (live : v.live ≡ true) where
+  pub split_allowed : Splits (Kept A h0) id v v (parted v)
+  split_allowed s k at =
+      let seats : Seats = seats_of s in
+      let goes = reached_next A h0 (core k.history k.rows seats) (core k.history k.rows (seats ++ Some (splitting v.chair) ∷ [])) (split id) k.reached (v.chair, seat_there s.views id v live at, refl) in
+      let grown : map seat_of (s.views ++ parted v ∷ []) ≡ seats ++ Some (splitting v.chair) ∷ [] = map-append seat_of s.views (parted v ∷ []) ∙ ap (λ (b : Bool). seats ++ seat_by b (splitting v.chair) ∷ []) live in
+      let same : set s.views id v ≡ s.views = set_again s.views id v at in
+      subst (λ (l : List View). Kept A h0 (record { words = s.words; homes = s.homes; views = l ++ parted v ∷ [] })) (sym same) (record {
+        history = k.history;
+        rows = k.rows;
+        reached = subst (λ (l : Seats). Reached A h0 (core k.history k.rows l)) (sym grown) goes;
+        spells = k.spells;
+        of_board = λ j u au lives. ⊎_elim (λ e. k.of_board j u e lives) (λ e. (let f : parted v ≡ u = e in sym (ap (λ (x : View). x.matrix) f) ∙ k.of_board id v at live)) (at_snoc s.views (parted v) u j au);
+        narrow = k.narrow;
+      })
+
+  pub join_allowed : (other : ℕ) (w : View) → w.live ≡ true → w.chair.hand ≡ None → Joins (Kept A h0) id v other w (joined v w) spent_view
+  join_allowed other w there idle s k at ne au =
+      let seats : Seats = seats_of s in
+      let both : Chair = joining v.chair w.chair in
+      let av : get_elem? s.views other ≡ some w = sym (set_else s.views id other (joined v w) ne) ∙ au in
+      let after : Seats = set (set seats id (Some both)) other None in
+      let goes = reached_next A h0 (core k.history k.rows seats) (core k.history k.rows after) (join id other) k.reached
+      (v.chair, w.chair, seat_there s.views id v live at, seat_there s.views other w there av, ne, idle, refl) in
+      let written : map seat_of (set (set s.views id (joined v w)) other spent_view) ≡ after = map-set seat_of (set s.views id (joined v w)) other spent_view ∙ ap (λ (l : Seats). set l other None) (seats_set s.views id (joined v w) live) in
+      record {
+        history = k.history;
+        rows = k.rows;
+        reached = subst (λ (l : Seats). Reached A h0 (core k.history k.rows l)) (sym written) goes;
+        spells = k.spells;
+        of_board = each_view (λ u. u.live ≡ true → u.matrix ≡ A) (set s.views id (joined v w)) other spent_view (λ l. absurd (cc))
+            (each_view (λ u. u.live ≡ true → u.matrix ≡ A) s.views id (joined v w) (λ l. k.of_board id v at live) (λ j u aj. k.of_board j u aj));
+        narrow = k.narrow;
+      }

@@ -1,0 +1,51 @@
+// The rule of a board's table, and what its steps tell.
+ghost use Rattle.std.specs.Prelude.{true};
+ghost use Rattle.pivot_table.specs.Core.{opened};
+ghost use Rattle.pivot_table.specs.Rule.{Kept, claimed, finished, published, view, parted, joined, spent_view};
+
+use crate::book::Book;
+use crate::view::View;
+use atomic_table::{Join, Play, Split, TableRule};
+
+// Between any two steps the words and the views spell a state that a run of the core reaches.
+pub(crate) struct Law;
+
+impl<'a> TableRule<(), View, Book<'a>> for Law {
+    ghost holds = { λ b. Kept b.rows.matrix b.pairs };
+
+    ghost first = { λ b. view b.rows.matrix true (opened b.pairs) };
+}
+
+pub(crate) struct Claim;
+
+impl Play<(), View> for Claim {
+    ghost then = { claimed };
+}
+
+pub(crate) struct Finish;
+
+impl Play<(), View> for Finish {
+    ghost then = { finished };
+}
+
+pub(crate) struct Publish;
+
+impl Play<(), View> for Publish {
+    ghost then = { published };
+}
+
+pub(crate) struct Part;
+
+impl Split<View> for Part {
+    ghost left = { λ v. v };
+
+    ghost right = { parted };
+}
+
+pub(crate) struct Both;
+
+impl Join<View> for Both {
+    ghost both = { joined };
+
+    ghost spent = { spent_view };
+}
