@@ -11,8 +11,7 @@ use crate::walk::Walk;
 use pivot_table::Book;
 use residue_words::plain::Pair;
 use std::alloc::{AllocError, Global};
-use std::marker::Brand;
-use std::sync::ledger::{Blank, Ledger};
+use std::sync::ledger::Ledger;
 
 // Tries a row: where it has an alive column, the row is appended with the least. A row that is in a pair, or all of whose entries
 // are in columns of pairs, takes no step.
@@ -78,10 +77,11 @@ fn try_all<L: Ledger>(book: &mut Book, walk: &mut Walk, steps: &mut Steps<L>)
 }
 
 // Takes all memory first.
-fn search_with<L: Ledger>(alloc: Global, book: Book, blank: Blank) -> Result<Book, AllocError>
-    requires name { blank.name ≡ L.name }
-    requires parts { blank.parts ≡ L.parts }
-    requires some { 0 < blank.parts }
+fn search_with<'a, L: Ledger>(
+    alloc: Global,
+    book: Book<'a>,
+    steps: &mut Steps<L>,
+) -> Result<Book<'a>, AllocError>
     ensures rows { IfOk result (λ b. b.rows ≡ book.entry.rows) }
     ensures greedy { IfOk result (λ b. IsGreedy book.entry.rows.matrix book.entry.pairs b.pairs) }
 {
@@ -90,22 +90,25 @@ fn search_with<L: Ledger>(alloc: Global, book: Book, blank: Blank) -> Result<Boo
     let many = rows.height().min(rows.width()) as usize;
     book.reserve(many.saturating_sub(book.pairs().len()))?;
     let mut walk = Walk::new(alloc, rows)?;
-    let mut steps = Steps::<L>::new(blank);
-    follow(&mut walk, book.pairs(), &mut steps);
-    try_all(&mut book, &mut walk, &mut steps);
+    follow(&mut walk, book.pairs(), steps);
+    try_all(&mut book, &mut walk, steps);
     Ok(book)
 }
 
 /// What `search` with one worker does, by a walk from each row alone: the rows are tried in ascending order, and each that has an
 /// alive column is appended with the least. Nothing is alive afterwards.
 ///
-/// It is kept to compare with, and takes two to five times as long as `search`. It takes 9 bytes a column and 16 bytes a pair that
+/// It is kept to compare with, counts its steps, and takes two to five times as long as `search`. It takes 9 bytes a column and 16 bytes a pair that
 /// there can be, all before the first row.
-pub fn search_by_walk(alloc: Global, book: Book) -> Result<Book, AllocError>
+pub fn search_by_walk<'a, L: Ledger>(
+    alloc: Global,
+    book: Book<'a>,
+    steps: &mut Steps<L>,
+) -> Result<Book<'a>, AllocError>
     ensures rows { IfOk result (λ b. b.rows ≡ book.entry.rows) }
     ensures greedy { IfOk result (λ b. IsGreedy book.entry.rows.matrix book.entry.pairs b.pairs) }
     ensures begins { IfOk result (λ b. StartsWith b.pairs book.entry.pairs) }
     ensures maximal { IfOk result (λ b. Maximal book.entry.rows.matrix b.pairs) }
 {
-    search_with::<Brand>(alloc, book, Blank::new(1))
+    search_with(alloc, book, steps)
 }

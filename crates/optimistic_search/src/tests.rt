@@ -115,6 +115,20 @@ fn chessboard(alloc: Global) -> Result<Vec<(u32, u32)>, AllocError> {
     Ok(places)
 }
 
+// What the search by walks finds.
+fn walked<'a, L: Ledger>(
+    alloc: Global,
+    book: Book<'a>,
+    blank: Blank,
+) -> Result<Book<'a>, AllocError>
+    requires name { blank.name ≡ L.name }
+    requires parts { blank.parts ≡ L.parts }
+    requires some { 0 < blank.parts }
+{
+    let mut steps = Steps::<L>::new(blank);
+    search_by_walk(alloc, book, &mut steps)
+}
+
 // How many pairs the search finds, if the search by walks finds the same and a search of what was found finds no more.
 fn agreed<R: Threads + Sync>(
     rt: &R,
@@ -122,7 +136,7 @@ fn agreed<R: Threads + Sync>(
     rows: &Rows,
 ) -> Result<Option<usize>, AllocError> {
     let found = search(rt, alloc, Book::empty(alloc, rows)?, 1, &Open)?;
-    let walked = search_by_walk(alloc, Book::empty(alloc, rows)?)?;
+    let walked = walked::<Brand>(alloc, Book::empty(alloc, rows)?, Blank::new(1))?;
     let many = found.pairs().len();
     if found.pairs() != walked.pairs() {
         return Ok(None);
