@@ -1,0 +1,4 @@
+pub mod Diagonal
+pub mod Factoring
+pub mod OuterOnes
+pub mod Product

@@ -1,0 +1,75 @@
+// Whether a certificate's last matrix shows the echelon form, or the kernel basis.
+ghost use Rattle.std.specs.Prelude.{◌≡◌, ◌≤◌, ◌↔◌, IfOk, IsTrue};
+ghost use Rattle.row_space.specs.Factors.{ShowsKernel, ShowsRref};
+ghost use Rattle.sparse_rows.specs.declared.rows.TheConstants.{LARGEST_SIZE};
+ghost use Rattle.sparse_rows.specs.Rows.{matrix_by};
+
+use crate::outer_ones::{Side, are_single, outer_ones};
+use crate::product::is_product;
+use residue_words::Modulus;
+use sparse_rows::{LARGEST_SIZE, Rows};
+use std::alloc::{AllocError, Global};
+
+// Whether E has the reduced form, and U is what its columns at the leads make of E.
+pub(crate) fn shows_rref(alloc: Global, u: &Rows, e: &Rows) -> Result<bool, AllocError>
+    requires { e.now.modulus ≡ u.now.modulus }
+    ensures { IfOk result (λ yes. IsTrue yes ↔ ShowsRref u.now.modulus u.now.matrix e.now.matrix) }
+{
+    // The proof wants that both are matrices of residues.
+    let _ = (u.modulus(), e.modulus());
+    if e.height() != u.height() {
+        return Ok(false);
+    }
+    if e.width() != u.width() {
+        return Ok(false);
+    }
+    let Some(leads) = outer_ones(alloc, e, Side::Left)? else {
+        return Ok(false);
+    };
+    let columns = e.transpose(alloc)?;
+    if !are_single(&columns, &leads) {
+        return Ok(false);
+    }
+    let u_columns = u.transpose(alloc)?;
+    let leading = u_columns.select(alloc, &leads)?;
+    let at_leads = leading.transpose(alloc)?;
+    let product = is_product(alloc, u, &at_leads, e)?;
+    Ok(product)
+}
+
+// Whether K has the reduced form, as many rows as A's width exceeds the rank, and A times each row of K is 0.
+pub(crate) fn shows_kernel(alloc: Global, a: &Rows, rank: u32, k: &Rows) -> Result<bool, AllocError>
+    requires { k.now.modulus ≡ a.now.modulus }
+    ensures { IfOk result (λ yes. IsTrue yes ↔ ShowsKernel a.now.modulus a.now.matrix rank k.now.matrix) }
+{
+    // The proof wants that both are matrices of residues.
+    let _ = (a.modulus(), k.modulus());
+    if u64::from(k.height()) + u64::from(rank) != u64::from(a.width()) {
+        return Ok(false);
+    }
+    if k.width() != a.width() {
+        return Ok(false);
+    }
+    let Some(ends) = outer_ones(alloc, k, Side::Right)? else {
+        return Ok(false);
+    };
+    let columns = k.transpose(alloc)?;
+    if !are_single(&columns, &ends) {
+        return Ok(false);
+    }
+    let nothing = zero_matrix(alloc, &a.modulus(), a.height(), k.height())?;
+    let product = is_product(alloc, &nothing, a, &columns)?;
+    Ok(product)
+}
+
+// The matrix of zeros, which takes no memory by its sizes.
+fn zero_matrix(alloc: Global, p: &Modulus, height: u32, width: u32) -> Result<Rows, AllocError>
+    requires height { height ≤ LARGEST_SIZE }
+    requires width { width ≤ LARGEST_SIZE }
+    ensures modulus { IfOk result (λ rows. rows.modulus ≡ p.now) }
+    ensures matrix { IfOk result (λ rows. rows.matrix ≡ matrix_by height width (λ i j. 0)) }
+{
+    let mut rows = Rows::with_room(alloc, *p, width, height, 0)?;
+    rows.append_zeros(height)?;
+    Ok(rows)
+}
