@@ -4,8 +4,8 @@ use Rattle.residue_words.specs.Matrix.{Matrix}
 use Rattle.sms_text.specs.declared.kind.TextError.{TextError}
 use Rattle.sms_text.specs.declared.kind.TextError.TheVariants as error
 use Rattle.sms_text.specs.Lines.{lines}
-use Rattle.sms_text.specs.Parts.{IsReadAs, IsTooShort, IsUnread, PartDid, ReadsPart, open_at, wants}
-use Rattle.sms_text.specs.Reading.{InputState, IsShort, ReaderState, input, is_failed, new_reader, read_on, supply, untouched, with_items}
+use Rattle.sms_text.specs.Parts.{IsReadAs, IsTooShort, IsUnread, PartDid, ReadsPart, wants}
+use Rattle.sms_text.specs.Reading.{InputState, IsShort, ReaderState, input, new_reader, read_on, supply, untouched, with_items}
 use Rattle.sms_text.specs.ReadingRows.{RowsDid, SaysRows}
 use Rattle.sms_text.specs.Stream.{SourceState}
 use Rattle.sms_text.specs.Text.{Due, Header, Got, Item, Request, matrices}

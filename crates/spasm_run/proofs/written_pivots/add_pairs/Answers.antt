@@ -1,5 +1,5 @@
 -- Line by line.
-use Rattle.std.proofs.Common.{◌≡◌, ◌+◌, ◌<◌, ℕ, List, [], ◌∷◌, ◌++◌, drop, length, refl, ap}
+use Rattle.std.proofs.Common.{refl}
 use Rattle.std.proofs.lemmas.Result.{err_from_is_err_and}
 use Rattle.sms_text.proofs.WrittenRows.{added_nothing, added_more, added_fault, added_all}
 use Rattle.spasm_run.proofs.Written.{pair_lines_end, pair_lines_from}
