@@ -9,9 +9,9 @@ ghost use Rattle.optimistic_search.specs.MarkedColumns.{AllBetween, Grows};
 ghost use Rattle.optimistic_search.specs.Reached.{AreReached};
 ghost use Rattle.optimistic_search.specs.Walked.{IsLeastAlive};
 
+use crate::indexed_pairs::IndexedPairs;
 use crate::levels::Levels;
 use crate::marked_columns::MarkedColumns;
-use crate::indexed_pairs::IndexedPairs;
 use crate::raising::raise_all;
 use residue_words::plain::Pair;
 use sparse_rows::Rows;
@@ -142,7 +142,13 @@ fn is_left(pivots: &IndexedPairs, marks: &MarkedColumns, c: u32) -> bool
 }
 
 // The place of the first of these columns, from `from` on and before `end`, that is neither marked nor in a pair; else `end`.
-fn pass_over(pivots: &IndexedPairs, marks: &MarkedColumns, cols: &[u32], from: usize, end: usize) -> usize
+fn pass_over(
+    pivots: &IndexedPairs,
+    marks: &MarkedColumns,
+    cols: &[u32],
+    from: usize,
+    end: usize,
+) -> usize
     requires cols { AreBelow pivots.now.rows.matrix.width cols.now }
     requires width { marks.now.width ≡ pivots.now.rows.matrix.width }
     requires from { from ≤ end }

@@ -6,13 +6,20 @@ ghost use Rattle.pivot_table.specs.History.{Grown, HasCol};
 ghost use Rattle.optimistic_search.specs.Levels.{AreLevels, AreRaised, AreRaisedBut};
 ghost use Rattle.optimistic_search.specs.Raising.{Stays, work};
 
+use crate::indexed_pairs::IndexedPairs;
 use crate::levels::Levels;
 use crate::marked_columns::MarkedColumns;
-use crate::indexed_pairs::IndexedPairs;
 
 // Raises column d above the level of column c, if need be, where d stands in the row of the pair in column c. A column that is
 // raised is marked.
-fn raise_column(pivots: &IndexedPairs, levels: &mut Levels, marks: &mut MarkedColumns, c: u32, level: u32, d: u32)
+fn raise_column(
+    pivots: &IndexedPairs,
+    levels: &mut Levels,
+    marks: &mut MarkedColumns,
+    c: u32,
+    level: u32,
+    d: u32,
+)
     requires width { marks.old.width ≡ pivots.now.rows.matrix.width }
     requires long { length levels.old ≡ pivots.now.rows.matrix.width }
     requires inside { d < pivots.now.rows.matrix.width }
