@@ -192,6 +192,26 @@ fn in_threads<R: Threads + Sync>(
     early
 }
 
+// The calls of both seats, in two threads or in one.
+fn both_go<R: Threads + Sync>(
+    rt: &R,
+    board: &Board<'_>,
+    first: &mut Seat,
+    second: &mut Seat,
+    threads: bool,
+) -> bool
+    requires matrix { board.now.rows.matrix ≡ pivot_example }
+    requires first { IsSeatOf board.now first.old × (first.old.chair ≡ opened (pair 0 0 ∷ [])) }
+    requires second { IsSeatOf board.now second.old × (second.old.chair ≡ splitting (opened (pair 0 0 ∷ []))) }
+    ensures first { IsSeatOf board.now first.new × (IsTrue result → MayFinish pivot_example first.new.chair) }
+    ensures second { IsSeatOf board.now second.new × (IsTrue result → MayFinish pivot_example second.new.chair) }
+{
+    if threads {
+        return in_threads(rt, board, first, second);
+    }
+    by_turns(board, first, second)
+}
+
 // The first pair alone.
 fn first_pair<'a>(alloc: Global, rows: &'a Rows) -> Result<Book<'a>, AllocError>
     requires { rows.now.matrix ≡ pivot_example }
@@ -224,11 +244,7 @@ fn two_seats<R: Threads + Sync>(rt: &R, alloc: Global, threads: bool) -> Result<
     let book = first_pair(alloc, &rows)?;
     let (board, mut first) = Board::new(alloc, &book)?;
     let mut second = board.split(&mut first);
-    let went = if threads {
-        in_threads(rt, &board, &mut first, &mut second)
-    } else {
-        by_turns(&board, &mut first, &mut second)
-    };
+    let went = both_go(rt, &board, &mut first, &mut second, threads);
     if !went {
         return Ok(false);
     }
