@@ -50,6 +50,6 @@ AgreeBelow n v w = (j : ℕ) → j < n → slice_index w j ≡ slice_index v j
 abbrev pub HasRowAt : ℕ → Matrix → ℕ → List ℕ → Type 0
 HasRowAt by A i w = (j : ℕ) → j < A.width → slice_index w (by + j) ≡ entry A i j
 
--- w, of n entries, is 0 from column k on
-abbrev pub EndsAt : ℕ → ℕ → List ℕ → Type 0
-EndsAt k n w = (j : ℕ) → k ≤ j → j < n → slice_index w j ≡ 0
+-- w is 0 from column k up to column n
+abbrev pub IsZeroBetween : ℕ → ℕ → List ℕ → Type 0
+IsZeroBetween k n w = (j : ℕ) → k ≤ j → j < n → slice_index w j ≡ 0

@@ -6,7 +6,7 @@ ghost use Rattle.std.specs.Option.{MatchOption};
 ghost use Rattle.residue_words.specs.Matrix.{IsMatrix, IsVector, apply, entry, row};
 ghost use Rattle.residue_words.specs.Residues.{sum_below};
 ghost use Rattle.sparse_rows.specs.Columns.{GoTo};
-ghost use Rattle.sparse_rows.specs.Placed.{AgreeBelow, AreBothZeroFrom, EndsAt, HasRowAt, IsNextInEither};
+ghost use Rattle.sparse_rows.specs.Placed.{AgreeBelow, AreBothZeroFrom, IsZeroBetween, HasRowAt, IsNextInEither};
 ghost use Rattle.sparse_rows.specs.Cells.{AreEntries, IsWithin, matrix_of_cells, place_of, weight};
 ghost use Rattle.sparse_rows.specs.Rows.{AreBelow, AreEnough, AreFilled, AreOccupied, AreRising, AreZeroFrom, FitsMatrix, IsNextFilled, beside, built, entry_count, identity, matrix_by, narrowed, nonzeros, row_triples, selected, support, transposed, triple, triples_of, widened, with_zeros};
 ghost use Rattle.sparse_rows.specs.Stored.{IsSparse, spread, with_row, with_sparse_row};
@@ -522,12 +522,12 @@ impl Rows {
         requires width { by + self.now.matrix.width ≤ length to.old.row }
         requires narrow { by + self.now.matrix.width ≤ LARGEST_SIZE }
         requires sound { IsMatrix self.now.modulus self.now.matrix }
-        requires behind { EndsAt by (length to.old.row) to.old.row }
+        requires behind { IsZeroBetween by (length to.old.row) to.old.row }
         ensures modulus { to.new.modulus ≡ to.old.modulus }
         ensures length { length to.new.row ≡ length to.old.row }
         ensures before { OnOk result (AgreeBelow by to.old.row to.new.row) }
         ensures inside { OnOk result (HasRowAt by self.now.matrix i to.new.row) }
-        ensures after { OnOk result (EndsAt (by + self.now.matrix.width) (length to.old.row) to.new.row) }
+        ensures after { OnOk result (IsZeroBetween (by + self.now.matrix.width) (length to.old.row) to.new.row) }
     {
         let cols = self.cols(i);
         let vals = self.vals(i);
