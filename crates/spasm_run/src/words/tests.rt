@@ -1,5 +1,5 @@
 //! The words that are accepted, with the command that they ask for, and words that are refused.
-use crate::words::{Command, Task, line, read_words};
+use crate::words::{Command, Task, command_line, read_words};
 
 const ACCEPTED: &[(&[&str], Task, u64, u32, u32)] = &[
     (&["rank"], Task::Rank, 42_013, 1, 3),
