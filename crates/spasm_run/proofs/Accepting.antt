@@ -1,12 +1,12 @@
 -- Options that are known and given once are options that fit, and their rows give their values.
-use Rattle.std.proofs.Common.{◌≡◌, ◌≢◌, ◌||◌, ◌++◌, ◌∙◌, ℕ, zero, suc, Bool, true, false, List, [], ◌∷◌, map, Option, Some, None, refl, sym, ap, subst, arith}
+use Rattle.std.proofs.Common.{◌≡◌, ◌≢◌, ◌||◌, ◌++◌, ◌∙◌, zero, suc, Bool, true, false, List, [], ◌∷◌, map, Option, Some, None, refl, sym, ap, subst, arith}
 use Rattle.std.specs.List.{Contains}
 use Rattle.std.specs.Str.{bytes_eq}
 use Rattle.std.proofs.lemmas.Slice.Eq.{bytes_eq-Decides}
 use Rattle.std.proofs.lemmas.List.Folds.{list_any-append}
 use Rattle.clap.specs.Walk.{Row, Text, first_of, has_row}
-use Rattle.spasm_run.specs.Words.{AreKnown, Absent, Given, GivenOnce, IsValueOf, Rule}
-use Rattle.spasm_run.specs.Options.{RowsGive, IsNumber}
+use Rattle.spasm_run.specs.Words.{AreKnown, Given, IsGivenAs, IsNumber, IsSetBy, Setting}
+use Rattle.spasm_run.specs.Options.{RowsSet}
 use Rattle.spasm_run.proofs.Reading.{Fits, row_of_given}
 
 -- ---- places in a list
@@ -114,38 +114,41 @@ none_first_of (g ∷ gs) name h =
     let other : bytes_eq g.name name ≡ false = differs g.name name (h g (first_of_list g gs)) in
     rw other (none_first_of gs name (λ x c. h x (later_in_list x g gs c)))
 
--- an option is given, or no option has its name
-data Look (options : List Given) (name : Text) : Type 0 where
-  IsGiven : (before : List Given) (joined : Bool) (v : Text) (after : List Given) → options ≡ before ++ (record { name = name; value = v; joined = joined }) ∷ after
-      → first_of name (map row_of_given options) ≡ Some v → Look options name
-  IsAbsent : ((g : Given) → Contains options g → g.name ≢ name) → Look options name
-
 absent_more : (g : Given) (gs : List Given) (name : Text) → g.name ≢ name → ((h : Given) → Contains gs h → h.name ≢ name) → (h : Given) → Contains (g ∷ gs) h → h.name ≢ name
 absent_more g gs name n rest h (zero, lt, e) = subst (λ (x : Given). x.name ≢ name) e n
 absent_more g gs name n rest h (suc k, lt, e) = rest h (k, omega arith, e)
 
-look : (options : List Given) (name : Text) → Look options name
-look [] name = IsAbsent (λ g (k, lt, e). absurd (omega arith))
-look (g ∷ gs) name = go (bytes_eq g.name name) refl (look gs name)
-  where
-    go : (b : Bool) → bytes_eq g.name name ≡ b → Look gs name → Look (g ∷ gs) name
-    go true e r =
-        let same : g.name ≡ name = (bytes_eq-Decides g.name name).0 e in
-        IsGiven [] g.joined g.value gs (ap (λ (t : Text). (record { name = t; value = g.value; joined = g.joined }) ∷ gs) same) (rw e refl)
-    go false e (IsGiven before joined v after is f) = IsGiven (g ∷ before) joined v after (ap (λ (l : List Given). g ∷ l) is) (rw e f)
-    go false e (IsAbsent h) = IsAbsent (absent_more g gs name (differ g.name name e) h)
+-- what the rows have by a name is given
+first_here : (g : Given) (gs : List Given) (name : Text) → bytes_eq g.name name ≡ true → first_of name (map row_of_given (g ∷ gs)) ≡ Some g.value
+first_here g gs name e = rw e refl
 
--- the number that the rows give is the one that the options give
-pub value_gives : (names : List Text) (options : List Given) (rule : Rule) (n : ℕ) → Fits names [] options → IsValueOf options rule n → RowsGive rule (map row_of_given options) n
-value_gives names options rule n f (GivenOnce before joined w after e r) =
-    let c : Contains options (record { name = rule.name; value = w; joined = joined }) = subst (λ (l : List Given). Contains l (record { name = rule.name; value = w; joined = joined })) (sym e) (in_middle before _ after) in
-    subst (λ (o : Option Text). IsNumber rule.low rule.high rule.absent o n) (sym (fits_first names [] options _ f c)) r
-value_gives names options rule n f (Absent h e) =
-    subst (λ (o : Option Text). IsNumber rule.low rule.high rule.absent o n) (sym (none_first_of options rule.name h)) e
+first_later : (g : Given) (gs : List Given) (name : Text) → bytes_eq g.name name ≡ false → first_of name (map row_of_given (g ∷ gs)) ≡ first_of name (map row_of_given gs)
+first_later g gs name e = rw e refl
 
-pub gives_value : (options : List Given) (rule : Rule) (n : ℕ) → RowsGive rule (map row_of_given options) n → IsValueOf options rule n
-gives_value options rule n h = go (look options rule.name)
+given_more : (g : Given) (gs : List Given) (name : Text) (text : Option Text) → g.name ≢ name → IsGivenAs gs name text → IsGivenAs (g ∷ gs) name text
+given_more g gs name None n r = absent_more g gs name n r
+given_more g gs name (Some w) n (joined, c) = (joined, later_in_list _ g gs c)
+
+given_first : (g : Given) (gs : List Given) (name : Text) → g.name ≡ name → IsGivenAs (g ∷ gs) name (Some g.value)
+given_first g gs name e = (g.joined, (0, omega arith, ap (λ (t : Text). record { name = t; value = g.value; joined = g.joined }) e))
+
+pub given_text : (options : List Given) (name : Text) → IsGivenAs options name (first_of name (map row_of_given options))
+given_text [] name = λ g (k, lt, e). absurd (omega arith)
+given_text (g ∷ gs) name = go (bytes_eq g.name name) refl (given_text gs name)
   where
-    go : Look options rule.name → IsValueOf options rule n
-    go (IsGiven before joined v after e f) = GivenOnce before joined v after e (subst (λ (o : Option Text). IsNumber rule.low rule.high rule.absent o n) f h)
-    go (IsAbsent a) = Absent a (subst (λ (o : Option Text). IsNumber rule.low rule.high rule.absent o n) (none_first_of options rule.name a) h)
+    go : (b : Bool) → bytes_eq g.name name ≡ b → IsGivenAs gs name (first_of name (map row_of_given gs)) → IsGivenAs (g ∷ gs) name (first_of name (map row_of_given (g ∷ gs)))
+    go true e r = subst (IsGivenAs (g ∷ gs) name) (sym (first_here g gs name e)) (given_first g gs name ((bytes_eq-Decides g.name name).0 e))
+    go false e r = subst (IsGivenAs (g ∷ gs) name) (sym (first_later g gs name e)) (given_more g gs name _ (differ g.name name e) r)
+
+-- and what is given, the rows have
+pub text_given : (names : List Text) (options : List Given) (name : Text) (text : Option Text) → Fits names [] options → IsGivenAs options name text → first_of name (map row_of_given options) ≡ text
+text_given names options name None f absent = none_first_of options name absent
+text_given names options name (Some w) f (joined, c) = fits_first names [] options _ f c
+
+-- the rows set what the options set
+pub set_rows : (names : List Text) (options : List Given) (s : Setting) → Fits names [] options → IsSetBy options s → RowsSet (map row_of_given options) s
+set_rows names options s f (text, given, is) =
+    subst (λ (o : Option Text). IsNumber s.rule o s.number) (sym (text_given names options s.rule.name text f given)) is
+
+pub rows_set : (options : List Given) (s : Setting) → RowsSet (map row_of_given options) s → IsSetBy options s
+rows_set options s h = (first_of s.rule.name (map row_of_given options), given_text options s.rule.name, h)

@@ -1,6 +1,6 @@
 -- The words that are accepted are those that clap takes, with each number in its range.
-use Rattle.std.proofs.Common.{◌≡◌, ◌≢◌, ◌==◌, ◌&&◌, ◌||◌, ◌++◌, ◌∙◌, ℕ, zero, suc, Bool, true, false, List, [], ◌∷◌, get_or, map, Option, Some, None, MatchOption, refl, sym, ap, subst, arith, codes}
-use Rattle.std.specs.Prelude.{unwrap_or}
+use Rattle.std.proofs.Common.{if◌then◌else◌, All, ap₂, not, ◌≡◌, ◌≢◌, ◌==◌, ◌&&◌, ◌||◌, ◌++◌, ◌∙◌, ℕ, zero, suc, Bool, true, false, List, [], ◌∷◌, get_or, map, Option, Some, None, MatchOption, refl, sym, ap, subst, arith, codes}
+use Rattle.std.specs.Prelude.{option_map, unwrap_or}
 use Rattle.std.specs.List.{Contains, find, flat_map, list_any}
 use Rattle.std.specs.Str.{bytes_eq}
 use Rattle.std.proofs.lemmas.Bool.Decides.{nat_tests}
@@ -11,17 +11,17 @@ use Rattle.clap.specs.declared.parser.matches.ArgMatches.{ArgMatches}
 use Rattle.clap.specs.Faults.{fault_of}
 use Rattle.clap.proofs.CutLemmas.{Lacks}
 use Rattle.sms_text.specs.Numbers.{are_digits, is_digit, is_number}
-use Rattle.spasm_run.specs.Words.{Accepted, AreRefused, Given, IsInRange, Rule, modulus_rule, rounds_rule, spelling, spelling_of, task_name, workers_rule}
-use Rattle.spasm_run.specs.Options.{AcceptedIsPlain, AreTaken, RowsGive, IsCommandOf, IsNumber, IsOneCommand, AsksFor}
-use Rattle.spasm_run.specs.Line.{command_line, option_names, tasks}
+use Rattle.spasm_run.specs.Words.{Accepted, AreKnown, AreRefused, Given, IsInRange, IsNumber, Rule, Setting, cols_rule, modulus_rule, names_of, own_settings, per_rule, rounds_rule, rows_rule, seed_rule, setting, settings, spelling, spelling_of, task_name, workers_rule}
+use Rattle.spasm_run.specs.Options.{AcceptedIsPlain, AreTaken, RowsSet, IsCommandOf, IsOneCommand, AsksFor}
+use Rattle.spasm_run.specs.Line.{command_line, commands, option_names}
 use Rattle.spasm_run.specs.declared.words.Command.{Command}
 use Rattle.spasm_run.specs.declared.words.Task.{Task}
-use Rattle.spasm_run.specs.declared.words.Task.TheVariants.{Rank, Rref, Kernel, Solve, LeftKernel, Inverse, Pivots}
-use Rattle.spasm_run.proofs.Accepting.{differ, fits_first, fits_known, first_of_list, gives_value, known_fits, later_in_list, value_gives}
-use Rattle.spasm_run.proofs.Program.{fault_at, first_is_named, subcommand_at}
+use Rattle.spasm_run.specs.declared.words.Task.TheVariants.{Rank, Rref, Kernel, Solve, LeftKernel, Inverse, Pivots, Drill}
+use Rattle.spasm_run.proofs.Accepting.{differ, fits_first, fits_known, first_of_list, known_fits, later_in_list, rows_set, set_rows}
+use Rattle.spasm_run.proofs.Program.{fault_at, first_is_named, subcommand_at, task_names, tasks}
 use Rattle.spasm_run.proofs.Reading.{ArePlain, Fits, IsName, IsPlainValue, NoDashes, apart_dashes, joined_dashes, level_passes, passes_level, passes_reads, reads_passes, row_of_given}
 
--- ---- the names of the options
+-- ---- bytes that a text lacks
 
 lacks_of : (c : ℕ) (xs : List ℕ) → list_any (λ x. x == c) xs ≡ false → Lacks c xs
 lacks_of c [] e i lt = absurd (omega arith)
@@ -36,15 +36,6 @@ lacks_of c (x ∷ xs) e (suc i) lt = go (x == c) e (lacks_of c xs)
     go true e k = absurd (let f : true ≡ false = e in cc)
     go false e k = k e i (omega arith)
 
-named_so : (name : Text) (x : ℕ) (xs : Text) → x ∷ xs ≡ name → list_any (λ y. y == 61) (x ∷ xs) ≡ false → IsName name
-named_so name x xs e l = record { lacks = subst (Lacks 61) e (lacks_of 61 (x ∷ xs) l); first = x; others = xs; nonempty = sym e }
-
-are_names : (name : Text) → Contains option_names name → IsName name
-are_names name (zero, lt, e) = named_so name _ _ e refl
-are_names name (suc zero, lt, e) = named_so name _ _ e refl
-are_names name (suc (suc zero), lt, e) = named_so name _ _ e refl
-are_names name (suc (suc (suc k)), lt, e) = absurd (omega arith)
-
 -- ---- digits are plain values
 
 and_first : (a b : Bool) → (a && b) ≡ true → a ≡ true
@@ -58,18 +49,55 @@ plain_value (b ∷ bs) e =
     let other : (b == 45) ≡ false = grind (arith, nat_tests) in
     (rw other refl, rw other refl, rw other refl)
 
--- a given value of which a number is made is digits
-given_digits : (rule : Rule) (rows : List Row) (n : ℕ) (g : Given) → RowsGive rule rows n → rule.name ≡ g.name → first_of g.name rows ≡ Some g.value → is_number g.value ≡ true
-given_digits rule rows n g h e f =
-    let h2 : IsInRange rule.low rule.high g.value n = subst (λ (o : Option Text). IsNumber rule.low rule.high rule.absent o n) (ap (λ (t : Text). first_of t rows) e ∙ f) h in
-    h2.0
+-- ---- the names of the options can be told from their values
 
-digits_given : (c : Command) (rows : List Row) (g : Given) → RowsGive modulus_rule rows c.modulus → RowsGive workers_rule rows c.workers → RowsGive rounds_rule rows c.rounds
-    → Contains option_names g.name → first_of g.name rows ≡ Some g.value → is_number g.value ≡ true
-digits_given c rows g m w r (zero, lt, e) f = given_digits modulus_rule rows c.modulus g m e f
-digits_given c rows g m w r (suc zero, lt, e) f = given_digits workers_rule rows c.workers g w e f
-digits_given c rows g m w r (suc (suc zero), lt, e) f = given_digits rounds_rule rows c.rounds g r e f
-digits_given c rows g m w r (suc (suc (suc k)), lt, e) f = absurd (omega arith)
+and_second : (a b : Bool) → (a && b) ≡ true → b ≡ true
+and_second true b e = e
+and_second false b e = absurd (let f : false ≡ true = e in cc)
+
+abbrev is_plain : Text → Bool
+is_plain [] = false
+is_plain (x ∷ xs) = not (list_any (λ y. y == 61) (x ∷ xs))
+
+abbrev are_plain : List Text → Bool
+are_plain [] = true
+are_plain (n ∷ ns) = is_plain n && are_plain ns
+
+not_true : (b : Bool) → not b ≡ true → b ≡ false
+not_true false e = refl
+not_true true e = absurd (let f : false ≡ true = e in cc)
+
+plain_name : (name : Text) → is_plain name ≡ true → IsName name
+plain_name [] e = absurd (let f : false ≡ true = e in cc)
+plain_name (x ∷ xs) e = record { lacks = lacks_of 61 (x ∷ xs) (not_true (list_any (λ y. y == 61) (x ∷ xs)) e); first = x; others = xs; nonempty = refl }
+
+each_name : (names : List Text) → are_plain names ≡ true → (name : Text) → Contains names name → IsName name
+each_name [] e name (k, lt, h) = absurd (omega arith)
+each_name (n ∷ ns) e name (zero, lt, h) = subst IsName h (plain_name n (and_first (is_plain n) (are_plain ns) e))
+each_name (n ∷ ns) e name (suc k, lt, h) = each_name ns (and_second (is_plain n) (are_plain ns) e) name (k, omega arith, h)
+
+are_names : (t : Task) → (name : Text) → Contains (task_names t) name → IsName name
+are_names Rank = each_name (task_names Rank) refl
+are_names Rref = each_name (task_names Rref) refl
+are_names Kernel = each_name (task_names Kernel) refl
+are_names Solve = each_name (task_names Solve) refl
+are_names LeftKernel = each_name (task_names LeftKernel) refl
+are_names Inverse = each_name (task_names Inverse) refl
+are_names Pivots = each_name (task_names Pivots) refl
+are_names (Drill g) = each_name (task_names (Drill g)) refl
+
+-- ---- given values are digits
+
+-- a given value of which a number is made is digits
+given_digits : (rows : List Row) (s : Setting) (g : Given) → RowsSet rows s → s.rule.name ≡ g.name → first_of g.name rows ≡ Some g.value → is_number g.value ≡ true
+given_digits rows s g h e f =
+    let is : IsInRange s.rule.low s.rule.high g.value s.number = subst (λ (o : Option Text). IsNumber s.rule o s.number) (ap (λ (t : Text). first_of t rows) e ∙ f) h in
+    is.0
+
+digits_given : (ss : List Setting) (rows : List Row) (g : Given) → All (RowsSet rows) ss → Contains (names_of ss) g.name → first_of g.name rows ≡ Some g.value → is_number g.value ≡ true
+digits_given [] rows g all (k, lt, e) f = absurd (omega arith)
+digits_given (s ∷ ss) rows g all (zero, lt, e) f = given_digits rows s g (all 0 s (omega arith)) e f
+digits_given (s ∷ ss) rows g all (suc k, lt, e) f = digits_given ss rows g (λ i d less. all (suc i) d (omega arith)) (k, omega arith, e) f
 
 all_plain : (options : List Given) → ((g : Given) → Contains options g → IsPlainValue g.value) → ArePlain options
 all_plain [] h = tt
@@ -81,9 +109,9 @@ spelled_dashes : (joined : Bool) (name v : Text) (rest : List Text) → IsName n
 spelled_dashes true name v rest n p r = (joined_dashes name v n, r)
 spelled_dashes false name v rest n p r = (apart_dashes name n, (p.0, r))
 
-options_dashes : (rows : List Row) (options : List Given) → Fits option_names rows options → ArePlain options → NoDashes (flat_map spelling options)
-options_dashes rows [] f p = tt
-options_dashes rows (g ∷ gs) f p = spelled_dashes g.joined g.name g.value _ (are_names g.name f.0) p.0 (options_dashes (rows ++ row_of_given g ∷ []) gs f.2 p.1)
+options_dashes : (t : Task) (rows : List Row) (options : List Given) → Fits (task_names t) rows options → ArePlain options → NoDashes (flat_map spelling options)
+options_dashes t rows [] f p = tt
+options_dashes t rows (g ∷ gs) f p = spelled_dashes g.joined g.name g.value _ (are_names t g.name f.0) p.0 (options_dashes t (rows ++ row_of_given g ∷ []) gs f.2 p.1)
 
 task_dashes : (t : Task) → bytes_eq (task_name t) (codes "--") ≡ false
 task_dashes Rank = refl
@@ -93,6 +121,7 @@ task_dashes Solve = refl
 task_dashes LeftKernel = refl
 task_dashes Inverse = refl
 task_dashes Pivots = refl
+task_dashes (Drill g) = refl
 
 abbrev has_dashes : List Text → Bool
 has_dashes words = list_any (λ w. bytes_eq w (codes "--")) words
@@ -121,23 +150,26 @@ record Taken (words : List Text) (c : Command) : Type 0 where
   says : AsksFor (subcommand_of command_line words) c
   dashes : NoDashes words
 
-taken_options : (c : Command) (options : List Given) (rest : List Text) → rest ≡ flat_map spelling options → Fits option_names [] options → RowsGive modulus_rule (map row_of_given options) c.modulus
-    → RowsGive workers_rule (map row_of_given options) c.workers → RowsGive rounds_rule (map row_of_given options) c.rounds → Taken (task_name c.task ∷ flat_map spelling options) c
-taken_options c options rest e f m w r =
-    let plain = all_plain options (λ g k. plain_value g.value (digits_given c (map row_of_given options) g m w r ((fits_known option_names options f).known g k) (fits_first option_names [] options g f k))) in
-    let level = passes_level (task_name c.task) option_names (flat_map spelling options) (map row_of_given options) (reads_passes (task_name c.task) option_names are_names options f plain) in
+taken_options : (c : Command) (options : List Given) → Fits (task_names c.task) [] options → All (RowsSet (map row_of_given options)) (settings c) → Taken (task_name c.task ∷ flat_map spelling options) c
+taken_options c options f set =
+    let names : List Text = task_names c.task in
+    let plain = all_plain options (λ g k. plain_value g.value (digits_given (settings c) (map row_of_given options) g set ((fits_known names options f).known g k) (fits_first names [] options g f k))) in
+    let level = passes_level (task_name c.task) names (flat_map spelling options) (map row_of_given options) (reads_passes (task_name c.task) names (are_names c.task) options f plain) in
     record {
       no_fault = fault_at c.task (flat_map spelling options) ∙ level.0;
-      says = record { rows = map row_of_given options; entered_as = subcommand_at c.task (flat_map spelling options) ∙ ap (λ (rs : List Row). Some (task_name c.task, rs)) level.1; modulus = m; workers = w; rounds = r };
-      dashes = (task_dashes c.task, options_dashes [] options f plain);
+      says = record { rows = map row_of_given options; entered_as = subcommand_at c.task (flat_map spelling options) ∙ ap (λ (rs : List Row). Some (task_name c.task, rs)) level.1; set = set };
+      dashes = (task_dashes c.task, options_dashes c.task [] options f plain);
     }
+
+accepted_fits : (words : List Text) (c : Command) (a : Accepted words c) → Fits (task_names c.task) [] a.options
+accepted_fits words c a = known_fits (task_names c.task) a.options a.known
+
+accepted_rows : (words : List Text) (c : Command) (a : Accepted words c) → All (RowsSet (map row_of_given a.options)) (settings c)
+accepted_rows words c a = λ k d lt. set_rows (task_names c.task) a.options _ (accepted_fits words c a) (a.set k d lt)
 
 taken : (words : List Text) (c : Command) → Accepted words c → Taken words c
 taken words c a =
-    let f = known_fits option_names a.options a.known in
-    subst (λ (ws : List Text). Taken ws c) (sym a.spelled)
-    (taken_options c a.options _ refl f (value_gives option_names a.options modulus_rule c.modulus f a.modulus)
-    (value_gives option_names a.options workers_rule c.workers f a.workers) (value_gives option_names a.options rounds_rule c.rounds f a.rounds))
+    subst (λ (ws : List Text). Taken ws c) (sym a.spelled) (taken_options c a.options (accepted_fits words c a) (accepted_rows words c a))
 
 pub accepted_fault : (words : List Text) (c : Command) → Accepted words c → fault_of command_line words ≡ []
 accepted_fault words c a = (taken words c a).no_fault
@@ -153,33 +185,48 @@ digits_first w h rest e = let f : false ≡ true = subst (λ (x : Text). is_numb
 
 pub accepted_plain : AcceptedIsPlain
 accepted_plain words c a =
-    let f = known_fits option_names a.options a.known in
-    let known : (g : Given) → Contains a.options g → Contains option_names g.name = (fits_known option_names a.options f).known in (
+    let names : List Text = task_names c.task in
+    let f = accepted_fits words c a in (
       λ w k. differ w (codes "--") (dashes_at words (accepted_dashes words c a) w k),
       λ g k. record {
-        value = digits_first g.value (digits_given c (map row_of_given a.options) g (value_gives option_names a.options modulus_rule c.modulus f a.modulus)
-            (value_gives option_names a.options workers_rule c.workers f a.workers) (value_gives option_names a.options rounds_rule c.rounds f a.rounds) (known g k) (fits_first option_names [] a.options g f k));
-        name = (are_names g.name (known g k)).lacks;
+        value = digits_first g.value (digits_given (settings c) (map row_of_given a.options) g (accepted_rows words c a) (a.known.known g k) (fits_first names [] a.options g f k));
+        name = (are_names c.task g.name (a.known.known g k)).lacks;
       },
     )
 
 -- ---- and words that are taken and say a command are accepted
 
+own_names_at : Text → List Text
+own_names_at name = unwrap_or (option_map (λ (c : Text × List Text). c.1) (find (λ (c : Text × List Text). bytes_eq c.0 name) commands)) []
+
+own_names_of : (t : Task) → option_names ++ own_names_at (task_name t) ≡ task_names t
+unfolding own_names_at
+own_names_of Rank = refl
+own_names_of Rref = refl
+own_names_of Kernel = refl
+own_names_of Solve = refl
+own_names_of LeftKernel = refl
+own_names_of Inverse = refl
+own_names_of Pivots = refl
+own_names_of (Drill g) = refl
+
+-- tasks of one name have the same options
+same_names : (s t : Task) → task_name s ≡ task_name t → task_names s ≡ task_names t
+same_names s t e = sym (own_names_of s) ∙ ap (λ (n : Text). option_names ++ own_names_at n) e ∙ own_names_of t
+
 says_accepted_at : (t : Task) (rest : List Text) (c : Command) → NoDashes rest → fault_of command_line (task_name t ∷ rest) ≡ [] → AsksFor (subcommand_of command_line (task_name t ∷ rest)) c
     → Accepted (task_name t ∷ rest) c
 says_accepted_at t rest c d none s =
-    let level = level_passes (task_name t) option_names rest (sym (fault_at t rest) ∙ none) in
-    let r = passes_reads (task_name t) option_names rest _ d level in
+    let level = level_passes (task_name t) (task_names t) rest (sym (fault_at t rest) ∙ none) in
+    let r = passes_reads (task_name t) (task_names t) rest _ d level in
     let same = sym s.entered_as ∙ subcommand_at t rest in
     let name : task_name c.task ≡ task_name t = ap (λ (o : Option (Text × List Row)). (unwrap_or o (task_name t, [])).0) same in
     let rows : s.rows ≡ map row_of_given r.options = ap (λ (o : Option (Text × List Row)). (unwrap_or o (task_name t, [])).1) same ∙ r.ends in
     record {
       options = r.options;
       spelled = ap (λ (x : Text). x ∷ rest) (sym name) ∙ ap (λ (ws : List Text). task_name c.task ∷ ws) r.spelled;
-      known = fits_known option_names r.options r.fits;
-      modulus = gives_value r.options modulus_rule c.modulus (subst (λ (rs : List Row). RowsGive modulus_rule rs c.modulus) rows s.modulus);
-      workers = gives_value r.options workers_rule c.workers (subst (λ (rs : List Row). RowsGive workers_rule rs c.workers) rows s.workers);
-      rounds = gives_value r.options rounds_rule c.rounds (subst (λ (rs : List Row). RowsGive rounds_rule rs c.rounds) rows s.rounds);
+      known = subst (AreKnown r.options) (sym (same_names c.task t name)) (fits_known (task_names t) r.options r.fits);
+      set = λ k d lt. rows_set r.options _ (subst (λ (rs : List Row). All (RowsSet rs) (settings c)) rows s.set k d lt);
     }
 
 pub says_accepted : (words : List Text) (c : Command) → NoDashes words → fault_of command_line words ≡ [] → AsksFor (subcommand_of command_line words) c → Accepted words c
@@ -190,38 +237,76 @@ says_accepted words c d none s =
 
 -- ---- one command at most
 
-decode : Text → Option Task
-decode name = find (λ t. bytes_eq (task_name t) name) tasks
+-- the rules of a name's options
+rules_of_name : Text → List Rule
+rules_of_name name = if bytes_eq name (codes "drill")
+    then modulus_rule ∷ workers_rule ∷ rounds_rule ∷ seed_rule ∷ rows_rule ∷ cols_rule ∷ per_rule ∷ []
+    else modulus_rule ∷ workers_rule ∷ rounds_rule ∷ []
 
-decoded : (t : Task) → decode (task_name t) ≡ Some t
+rules_for : (c : Command) → rules_of_name (task_name c.task) ≡ map (λ s. s.rule) (settings c)
+unfolding rules_of_name
+rules_for c = go c.task
+  where
+    go : (t : Task) → rules_of_name (task_name t) ≡ modulus_rule ∷ workers_rule ∷ rounds_rule ∷ map (λ s. s.rule) (own_settings t)
+    go Rank = refl
+    go Rref = refl
+    go Kernel = refl
+    go Solve = refl
+    go LeftKernel = refl
+    go Inverse = refl
+    go Pivots = refl
+    go (Drill g) = refl
+
+-- the command of a name with these numbers
+decode_task : Text → List ℕ → Option Task
+decode_task name [] = find (λ t. bytes_eq (task_name t) name) tasks
+decode_task name (s ∷ r ∷ c ∷ p ∷ []) = Some (Drill (record { seed = s; rows = r; cols = c; per = p }))
+decode_task name ns = None
+
+decoded_task : (t : Task) → decode_task (task_name t) (map (λ s. s.number) (own_settings t)) ≡ Some t
+unfolding decode_task
+decoded_task Rank = refl
+decoded_task Rref = refl
+decoded_task Kernel = refl
+decoded_task Solve = refl
+decoded_task LeftKernel = refl
+decoded_task Inverse = refl
+decoded_task Pivots = refl
+decoded_task (Drill g) = refl
+
+decode : Text → List ℕ → Option Command
+decode name (m ∷ w ∷ r ∷ own) = option_map (λ t. record { task = t; modulus = m; workers = w; rounds = r }) (decode_task name own)
+decode name ns = None
+
+decoded : (c : Command) → decode (task_name c.task) (map (λ s. s.number) (settings c)) ≡ Some c
 unfolding decode
-decoded Rank = refl
-decoded Rref = refl
-decoded Kernel = refl
-decoded Solve = refl
-decoded LeftKernel = refl
-decoded Inverse = refl
-decoded Pivots = refl
+decoded c = ap (option_map (λ t. record { task = t; modulus = c.modulus; workers = c.workers; rounds = c.rounds })) (decoded_task c.task)
 
-pub same_task : (s t : Task) → task_name s ≡ task_name t → s ≡ t
-same_task s t e = ap (λ (o : Option Task). unwrap_or o s) (sym (decoded s) ∙ ap decode e ∙ decoded t)
+same_command : (c d : Command) → task_name c.task ≡ task_name d.task → map (λ s. s.number) (settings c) ≡ map (λ s. s.number) (settings d) → c ≡ d
+same_command c d e f = ap (λ (o : Option Command). unwrap_or o c) (sym (decoded c) ∙ ap (λ (n : Text). decode n (map (λ s. s.number) (settings c))) e ∙ ap (decode (task_name d.task)) f ∙ decoded d)
 
-one_number : (low high absent : ℕ) (o : Option Text) (m n : ℕ) → IsNumber low high absent o m → IsNumber low high absent o n → m ≡ n
-one_number low high absent None m n h k = h ∙ sym k
-one_number low high absent (Some w) m n h k = h.1 ∙ sym k.1
+one_number : (rule : Rule) (o : Option Text) (m n : ℕ) → IsNumber rule o m → IsNumber rule o n → m ≡ n
+one_number rule None m n h k = ap (λ (x : Option ℕ). unwrap_or x m) (sym h ∙ k)
+one_number rule (Some w) m n h k = h.1 ∙ sym k.1
 
-one_given : (rule : Rule) (a b : List Row) (m n : ℕ) → a ≡ b → RowsGive rule a m → RowsGive rule b n → m ≡ n
-one_given rule a b m n e h k = one_number rule.low rule.high rule.absent (first_of rule.name b) m n (subst (λ (rs : List Row). RowsGive rule rs m) e h) k
+one_list : (rows : List Row) (ss ts : List Setting) → map (λ s. s.rule) ss ≡ map (λ s. s.rule) ts → All (RowsSet rows) ss → All (RowsSet rows) ts → map (λ s. s.number) ss ≡ map (λ s. s.number) ts
+one_list rows [] [] e h k = refl
+one_list rows [] (t ∷ ts) e h k = absurd cc
+one_list rows (s ∷ ss) [] e h k = absurd cc
+one_list rows (s ∷ ss) (t ∷ ts) e h k =
+    let rule : s.rule ≡ t.rule = cc in
+    let rules : map (λ s. s.rule) ss ≡ map (λ s. s.rule) ts = cc in
+    let here : RowsSet rows (setting t.rule s.number) = subst (λ (r : Rule). RowsSet rows (setting r s.number)) rule (h 0 s (omega arith)) in
+    ap₂ (λ (n : ℕ) (ns : List ℕ). n ∷ ns) (one_number t.rule (first_of t.rule.name rows) s.number t.number here (k 0 t (omega arith)))
+    (one_list rows ss ts rules (λ i d less. h (suc i) d (omega arith)) (λ i d less. k (suc i) d (omega arith)))
 
 one_said : (o : Option (Text × List Row)) (c d : Command) → AsksFor o c → AsksFor o d → c ≡ d
 one_said o c d s t =
     let same = sym s.entered_as ∙ t.entered_as in
-    let task = same_task c.task d.task (ap (λ (x : Option (Text × List Row)). (unwrap_or x ([], [])).0) same) in
+    let name : task_name c.task ≡ task_name d.task = ap (λ (x : Option (Text × List Row)). (unwrap_or x ([], [])).0) same in
     let rows : s.rows ≡ t.rows = ap (λ (x : Option (Text × List Row)). (unwrap_or x ([], [])).1) same in
-    ap (λ (x : Task). record { task = x; modulus = c.modulus; workers = c.workers; rounds = c.rounds }) task
-    ∙ ap (λ (x : ℕ). record { task = d.task; modulus = x; workers = c.workers; rounds = c.rounds }) (one_given modulus_rule _ _ _ _ rows s.modulus t.modulus)
-    ∙ ap (λ (x : ℕ). record { task = d.task; modulus = d.modulus; workers = x; rounds = c.rounds }) (one_given workers_rule _ _ _ _ rows s.workers t.workers)
-    ∙ ap (λ (x : ℕ). record { task = d.task; modulus = d.modulus; workers = d.workers; rounds = x }) (one_given rounds_rule _ _ _ _ rows s.rounds t.rounds)
+    let rules = sym (rules_for c) ∙ ap rules_of_name name ∙ rules_for d in
+    same_command c d name (one_list t.rows (settings c) (settings d) rules (subst (λ (rs : List Row). All (RowsSet rs) (settings c)) rows s.set) t.set)
 
 pub one_command : IsOneCommand
 one_command words c d a b = one_said (subcommand_of command_line words) c d (accepted_says words c a) (accepted_says words d b)

@@ -24,6 +24,14 @@ from_start p limit due = record { modulus = p; limit = limit; due = due }
 pub read_nothing : (r : Request) (source : SourceState) → WasRead r (Err error.Memory) source source
 read_nothing r source = record { input = record { bytes = []; ended = false }; draws = draws_none (IsShort r) (untouched source); says = tt }
 
+-- where no text is due, all is read
+pub all_read : (p limit : ℕ) (source : SourceState) → WasRead (from_start p limit []) (Ok []) source source
+all_read p limit source = record {
+  input = record { bytes = []; ended = false };
+  draws = draws_none (IsShort (from_start p limit [])) (untouched source);
+  says = record { items = []; rest = lines []; reads = refl; are = refl };
+}
+
 -- What a new reader that is used with a source says of parts is what the source's bytes say.
 module _ {T : Type 0} (p limit : ℕ) (due : List Due) (Means : T → List Item → List Due → Type 0) (source : SourceState) (new : InputState) where
   abbrev taken_by : List ℕ → Input

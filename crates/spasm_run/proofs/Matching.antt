@@ -1,5 +1,7 @@
 -- What the matches say of the words.
-use Rattle.std.proofs.Common.{◌≡◌, ◌≢◌, inl, inr, ◌∙◌, ℕ, true, List, [], codes, Option, Some, None, refl, sym, ap, subst}
+use Rattle.std.proofs.Common.{◌≡◌, ◌≢◌, ◌<◌, inl, inr, ◌∙◌, ℕ, suc, true, All, List, [], ◌∷◌, codes, Option, Some, None, refl, sym, ap, subst, arith}
+use Rattle.std.specs.List.{slice_index_or}
+use Rattle.std.proofs.lemmas.List.Elements.{All-cons, All-nil}
 use Rattle.std.specs.Prelude.{Box, option_map, unwrap_or}
 use Rattle.std.specs.Box.{box_value}
 use Rattle.clap.specs.Words.{App, HasKind, HasMatchesOf, IsAmong, Kinds, Row, Text, app_of, fault_of, first_value, is_simple, is_simple_and_free, kind_of, rows_of, subcommand_of, subcommand_rows, subcommand_rows_of}
@@ -13,9 +15,13 @@ use Rattle.clap.specs.declared.parser.matches.Found.{Found}
 use Rattle.clap.specs.declared.parser.matches.SubCommand.{SubCommand}
 use Rattle.clap.proofs.WalkLemmas.{first_value-rows}
 use Rattle.spasm_run.specs.Line.{command_line}
-use Rattle.spasm_run.specs.Options.{RowsGive, IsNumber, AsksFor}
-use Rattle.spasm_run.specs.Words.{Rule, modulus_rule, rounds_rule, task_name, workers_rule}
+use Rattle.spasm_run.specs.Options.{AsksFor, IsTaskOf, RowsSet}
+use Rattle.spasm_run.specs.Words.{IsNumber, Rule, Setting, cols_rule, modulus_rule, own_settings, per_rule, rounds_rule, rows_rule, seed_rule, setting, settings, task_name, workers_rule}
+use Rattle.spasm_run.specs.declared.generator.Generator.{Generator}
+use Rattle.spasm_run.specs.declared.words.Task.{Task}
+use Rattle.spasm_run.specs.declared.words.Task.TheVariants.{Rank, Rref, Kernel, Solve, LeftKernel, Inverse, Pivots, Drill}
 use Rattle.spasm_run.specs.declared.words.Command.{Command}
+use Rattle.spasm_run.proofs.Accepting.{differ}
 use Rattle.spasm_run.proofs.Program.{line_is_simple}
 
 line_simple : is_simple command_line ≡ true
@@ -49,33 +55,75 @@ module _ {Z : Type 0} where
       let r = ap (λ (x : Option (List Row)). unwrap_or x rows) f in
       sym (ap (λ (x : Text). Some (x, rows)) n ∙ ap (λ (x : List Row). Some ((out-SubCommand (box_value b)).name.now, x)) r)
 
-pub gives_number : (rule : Rule) (f : Found) (n : ℕ) → IsNumber rule.low rule.high rule.absent (first_value f rule.name) n → RowsGive rule (rows_of f) n
-gives_number rule f n h = subst (λ (o : Option Text). IsNumber rule.low rule.high rule.absent o n) (first_value-rows f rule.name) h
+pub gives_number : (rule : Rule) (f : Found) (n : ℕ) → IsNumber rule (first_value f rule.name) n → RowsSet (rows_of f) (setting rule n)
+gives_number rule f n h = subst (λ (o : Option Text). IsNumber rule o n) (first_value-rows f rule.name) h
 
-pub number_given : (rule : Rule) (f : Found) (n : ℕ) → RowsGive rule (rows_of f) n → IsNumber rule.low rule.high rule.absent (first_value f rule.name) n
-number_given rule f n h = subst (λ (o : Option Text). IsNumber rule.low rule.high rule.absent o n) (sym (first_value-rows f rule.name)) h
+pub number_given : (rule : Rule) (f : Found) (n : ℕ) → RowsSet (rows_of f) (setting rule n) → IsNumber rule (first_value f rule.name) n
+number_given rule f n h = subst (λ (o : Option Text). IsNumber rule o n) (sym (first_value-rows f rule.name)) h
 
 said_rows : (o : Option (Text × List Row)) (name : Text) (rows : List Row) (c : Command) → o ≡ Some (name, rows) → (s : AsksFor o c) → s.rows ≡ rows
 said_rows o name rows c e s = ap (λ (x : Option (Text × List Row)). (unwrap_or x (name, rows)).1) (sym s.entered_as ∙ e)
 
+said_name : (o : Option (Text × List Row)) (name : Text) (rows : List Row) (c : Command) → o ≡ Some (name, rows) → (s : AsksFor o c) → name ≡ task_name c.task
+said_name o name rows c e s = ap (λ (x : Option (Text × List Row)). (unwrap_or x (name, rows)).0) (sym e ∙ s.entered_as)
+
 -- where a number isn't given in its range, no command is said
-pub no_modulus : (o : Option (Text × List Row)) (name : Text) (f : Found) → o ≡ Some (name, rows_of f) → ((n : ℕ) → ¬ IsNumber 2 281474976710655 42013 (first_value f (codes "modulus")) n) → (c : Command) → ¬ AsksFor o c
-no_modulus o name f e h c s = h c.modulus (number_given modulus_rule f c.modulus (subst (λ (rs : List Row). RowsGive modulus_rule rs c.modulus) (said_rows o name (rows_of f) c e s) s.modulus))
+pub no_number : (rule : Rule) (number : Command → ℕ) (o : Option (Text × List Row)) (name : Text) (f : Found) → ((c : Command) (rows : List Row) → All (RowsSet rows) (settings c) → RowsSet rows (setting rule (number c)))
+    → o ≡ Some (name, rows_of f) → ((n : ℕ) → ¬ IsNumber rule (first_value f rule.name) n) → (c : Command) → ¬ AsksFor o c
+no_number rule number o name f picked e h c s =
+    h (number c) (number_given rule f (number c) (subst (λ (rs : List Row). RowsSet rs (setting rule (number c))) (said_rows o name (rows_of f) c e s) (picked c s.rows s.set)))
 
-pub no_workers : (o : Option (Text × List Row)) (name : Text) (f : Found) → o ≡ Some (name, rows_of f) → ((n : ℕ) → ¬ IsNumber 1 64 1 (first_value f (codes "workers")) n) → (c : Command) → ¬ AsksFor o c
-no_workers o name f e h c s = h c.workers (number_given workers_rule f c.workers (subst (λ (rs : List Row). RowsGive workers_rule rs c.workers) (said_rows o name (rows_of f) c e s) s.workers))
+pub no_modulus : (o : Option (Text × List Row)) (name : Text) (f : Found) → o ≡ Some (name, rows_of f) → ((n : ℕ) → ¬ IsNumber modulus_rule (first_value f (codes "modulus")) n) → (c : Command) → ¬ AsksFor o c
+no_modulus o name f = no_number modulus_rule (λ c. c.modulus) o name f (λ c rows set. set 0 (setting modulus_rule 0) (omega arith))
 
-pub no_rounds : (o : Option (Text × List Row)) (name : Text) (f : Found) → o ≡ Some (name, rows_of f) → ((n : ℕ) → ¬ IsNumber 0 16 3 (first_value f (codes "rounds")) n) → (c : Command) → ¬ AsksFor o c
-no_rounds o name f e h c s = h c.rounds (number_given rounds_rule f c.rounds (subst (λ (rs : List Row). RowsGive rounds_rule rs c.rounds) (said_rows o name (rows_of f) c e s) s.rounds))
+pub no_workers : (o : Option (Text × List Row)) (name : Text) (f : Found) → o ≡ Some (name, rows_of f) → ((n : ℕ) → ¬ IsNumber workers_rule (first_value f (codes "workers")) n) → (c : Command) → ¬ AsksFor o c
+no_workers o name f = no_number workers_rule (λ c. c.workers) o name f (λ c rows set. set 1 (setting workers_rule 0) (omega arith))
+
+pub no_rounds : (o : Option (Text × List Row)) (name : Text) (f : Found) → o ≡ Some (name, rows_of f) → ((n : ℕ) → ¬ IsNumber rounds_rule (first_value f (codes "rounds")) n) → (c : Command) → ¬ AsksFor o c
+no_rounds o name f = no_number rounds_rule (λ c. c.rounds) o name f (λ c rows set. set 2 (setting rounds_rule 0) (omega arith))
+
+pub no_task : (o : Option (Text × List Row)) (name : Text) (f : Found) → o ≡ Some (name, rows_of f) → ((t : Task) → ¬ IsTaskOf name (rows_of f) t) → (c : Command) → ¬ AsksFor o c
+no_task o name f e h c s =
+    let all : All (RowsSet (rows_of f)) (settings c) = subst (λ (rs : List Row). All (RowsSet rs) (settings c)) (said_rows o name (rows_of f) c e s) s.set in
+    h c.task (said_name o name (rows_of f) c e s, λ k d lt. all (suc (suc (suc k))) d (omega arith))
 
 -- where all are given, the command is said
-pub said_by : (o : Option (Text × List Row)) (name : Text) (f : Found) (c : Command) → o ≡ Some (name, rows_of f) → name ≡ task_name c.task
-    → IsNumber 2 281474976710655 42013 (first_value f (codes "modulus")) c.modulus → IsNumber 1 64 1 (first_value f (codes "workers")) c.workers
-    → IsNumber 0 16 3 (first_value f (codes "rounds")) c.rounds → AsksFor o c
-said_by o name f c e t m w r = record {
+pub said_by : (o : Option (Text × List Row)) (name : Text) (f : Found) (c : Command) → o ≡ Some (name, rows_of f)
+    → IsNumber modulus_rule (first_value f (codes "modulus")) c.modulus → IsNumber workers_rule (first_value f (codes "workers")) c.workers
+    → IsNumber rounds_rule (first_value f (codes "rounds")) c.rounds → IsTaskOf name (rows_of f) c.task → AsksFor o c
+said_by o name f c e m w r t = record {
   rows = rows_of f;
-  entered_as = e ∙ ap (λ (n : Text). Some (n, rows_of f)) t;
-  modulus = gives_number modulus_rule f c.modulus m;
-  workers = gives_number workers_rule f c.workers w;
-  rounds = gives_number rounds_rule f c.rounds r;
+  entered_as = e ∙ ap (λ (n : Text). Some (n, rows_of f)) t.0;
+  set =
+      let own = own_settings c.task in
+      let last = All-cons (RowsSet (rows_of f)) (setting rounds_rule c.rounds) own (gives_number rounds_rule f c.rounds r) t.1 in
+      let more = All-cons (RowsSet (rows_of f)) (setting workers_rule c.workers) (setting rounds_rule c.rounds ∷ own) (gives_number workers_rule f c.workers w) last in
+      All-cons (RowsSet (rows_of f)) (setting modulus_rule c.modulus) (setting workers_rule c.workers ∷ setting rounds_rule c.rounds ∷ own) (gives_number modulus_rule f c.modulus m) more;
 }
+
+-- what a matrix is generated from is given
+pub generator_given : (f : Found) (g : Generator) → IsNumber seed_rule (first_value f (codes "seed")) g.seed → IsNumber rows_rule (first_value f (codes "rows")) g.rows
+    → IsNumber cols_rule (first_value f (codes "cols")) g.cols → IsNumber per_rule (first_value f (codes "per")) g.per → All (RowsSet (rows_of f)) (own_settings (Drill g))
+generator_given f g s r c p =
+    let P = RowsSet (rows_of f) in
+    let of_per : List Setting = setting per_rule g.per ∷ [] in
+    let of_cols : List Setting = setting cols_rule g.cols ∷ of_per in
+    let of_rows : List Setting = setting rows_rule g.rows ∷ of_cols in
+    All-cons P (setting seed_rule g.seed) of_rows (gives_number seed_rule f g.seed s) (All-cons P (setting rows_rule g.rows) of_cols (gives_number rows_rule f g.rows r)
+    (All-cons P (setting cols_rule g.cols) of_per (gives_number cols_rule f g.cols c) (All-cons P (setting per_rule g.per) [] (gives_number per_rule f g.per p) (All-nil P))))
+
+-- or one of its numbers isn't
+pub no_own : (rule : Rule) (f : Found) (g : Generator) (k n : ℕ) → k < 4 → ((d : Setting) → slice_index_or (own_settings (Drill g)) k d ≡ setting rule n)
+    → ((n : ℕ) → ¬ IsNumber rule (first_value f rule.name) n) → ¬ All (RowsSet (rows_of f)) (own_settings (Drill g))
+no_own rule f g k n less at h all =
+    h n (number_given rule f n (subst (RowsSet (rows_of f)) (at (setting rule n)) (all k (setting rule n) less)))
+
+pub no_drill : (name : Text) (rows : List Row) → name ≡ codes "drill" → ((g : Generator) → ¬ All (RowsSet rows) (own_settings (Drill g))) → (t : Task) → ¬ IsTaskOf name rows t
+no_drill name rows e h Rank (n, all) = differ (codes "drill") (codes "rank") refl (sym e ∙ n)
+no_drill name rows e h Rref (n, all) = differ (codes "drill") (codes "rref") refl (sym e ∙ n)
+no_drill name rows e h Kernel (n, all) = differ (codes "drill") (codes "kernel") refl (sym e ∙ n)
+no_drill name rows e h Solve (n, all) = differ (codes "drill") (codes "solve") refl (sym e ∙ n)
+no_drill name rows e h LeftKernel (n, all) = differ (codes "drill") (codes "leftkernel") refl (sym e ∙ n)
+no_drill name rows e h Inverse (n, all) = differ (codes "drill") (codes "inverse") refl (sym e ∙ n)
+no_drill name rows e h Pivots (n, all) = differ (codes "drill") (codes "pivots") refl (sym e ∙ n)
+no_drill name rows e h (Drill g) (n, all) = h g all

@@ -9,7 +9,10 @@ use Rattle.kernel_solve.specs.Column.{column, column_matrix}
 use Rattle.sms_text.specs.Written.{text_of}
 use Rattle.sparse_rows.specs.Rows.{transposed}
 use Rattle.spasm_run.specs.declared.words.Task.TheVariants as task
-use Rattle.spasm_run.specs.Answers.{InvertsTo, IsOneAnswer, SolvesTo, as_row, misfit, pivots_text, rank_text}
+use Rattle.spasm_run.specs.declared.words.Command.{Command}
+use Rattle.spasm_run.specs.declared.words.Task.{Task}
+use Rattle.spasm_run.specs.Generator.{generated, summary_of}
+use Rattle.spasm_run.specs.Answers.{AnswerTo, InvertsTo, IsOneAnswer, SolvesTo, as_row, misfit, pivots_text, rank_text}
 use Rattle.spasm_run.proofs.OneSelection.{selection_one}
 
 -- a system's answer
@@ -39,29 +42,36 @@ one_kernel p A K L x y same a b = a ∙ ap text_of same ∙ sym b
 squared : (A : Matrix) → misfit task.Inverse (A ∷ []) ≡ None → A.height ≡ A.width
 squared A fits = grind (arith, nat_tests)
 
-pub one_answer : IsOneAnswer
-one_answer task.Rank p w (A ∷ []) x y two fits alone (r, s, a) (q, t, b) = a ∙ ap rank_text (rank_unique p A r q two s t) ∙ sym b
-one_answer task.Rref p w (A ∷ []) x y two fits alone (E, s, a) (F, t, b) = one_kernel p A E F x y (rref_unique p A E F two s t) a b
-one_answer task.Kernel p w (A ∷ []) x y two fits alone (K, s, a) (L, t, b) = one_kernel p A K L x y (kernel_unique p A K L two s t) a b
-one_answer task.Solve p w (A ∷ B ∷ []) x y two fits alone s t = one_solution p A (column B) x y two s t
-one_answer task.LeftKernel p w (A ∷ []) x y two fits alone (K, s, a) (L, t, b) =
-    one_kernel p A K L x y (kernel_unique p (transposed A) K L two s t) a b
-one_answer task.Inverse p w (A ∷ []) x y two fits alone s t = one_inverse p A x y two (squared A fits) s t
-one_answer task.Rank p w [] x y two fits alone s t = absurd s
-one_answer task.Rank p w (A ∷ B ∷ values) x y two fits alone s t = absurd s
-one_answer task.Rref p w [] x y two fits alone s t = absurd s
-one_answer task.Rref p w (A ∷ B ∷ values) x y two fits alone s t = absurd s
-one_answer task.Kernel p w [] x y two fits alone s t = absurd s
-one_answer task.Kernel p w (A ∷ B ∷ values) x y two fits alone s t = absurd s
-one_answer task.Solve p w [] x y two fits alone s t = absurd s
-one_answer task.Solve p w (A ∷ []) x y two fits alone s t = absurd s
-one_answer task.Solve p w (A ∷ B ∷ C ∷ values) x y two fits alone s t = absurd s
-one_answer task.LeftKernel p w [] x y two fits alone s t = absurd s
-one_answer task.LeftKernel p w (A ∷ B ∷ values) x y two fits alone s t = absurd s
-one_answer task.Inverse p w [] x y two fits alone s t = absurd s
-one_answer task.Inverse p w (A ∷ B ∷ values) x y two fits alone s t = absurd s
-one_answer task.Pivots p w (A ∷ []) x y two fits alone (qs, s, a) (rs, t, b) =
-    let one : w ≡ 1 = alone refl in
+answers_one : (t : Task) (c : Command) (values : List Matrix) (x y : List ℕ) → 2 ≤ c.modulus → misfit t values ≡ None → (t ≡ task.Pivots → c.workers ≡ 1) →
+    AnswerTo t c values x → AnswerTo t c values y → x ≡ y
+answers_one task.Rank c (A ∷ []) x y two fits alone (r, s, a) (q, t, b) = a ∙ ap rank_text (rank_unique c.modulus A r q two s t) ∙ sym b
+answers_one task.Rref c (A ∷ []) x y two fits alone (E, s, a) (F, t, b) = one_kernel c.modulus A E F x y (rref_unique c.modulus A E F two s t) a b
+answers_one task.Kernel c (A ∷ []) x y two fits alone (K, s, a) (L, t, b) = one_kernel c.modulus A K L x y (kernel_unique c.modulus A K L two s t) a b
+answers_one task.Solve c (A ∷ B ∷ []) x y two fits alone s t = one_solution c.modulus A (column B) x y two s t
+answers_one task.LeftKernel c (A ∷ []) x y two fits alone (K, s, a) (L, t, b) =
+    one_kernel c.modulus A K L x y (kernel_unique c.modulus (transposed A) K L two s t) a b
+answers_one task.Inverse c (A ∷ []) x y two fits alone s t = one_inverse c.modulus A x y two (squared A fits) s t
+answers_one task.Pivots c (A ∷ []) x y two fits alone (qs, s, a) (rs, t, b) =
+    let one : c.workers ≡ 1 = alone refl in
     a ∙ ap pivots_text (selection_one A qs rs (s.alone one) (t.alone one)) ∙ sym b
-one_answer task.Pivots p w [] x y two fits alone s t = absurd s
-one_answer task.Pivots p w (A ∷ B ∷ values) x y two fits alone s t = absurd s
+answers_one (task.Drill g) c [] x y two fits alone (E, s, a) (F, t, b) =
+    a ∙ ap (summary_of c.modulus) (rref_unique c.modulus (generated c.modulus g) E F two s t) ∙ sym b
+answers_one task.Rank c [] x y two fits alone s t = absurd s
+answers_one task.Rank c (A ∷ B ∷ values) x y two fits alone s t = absurd s
+answers_one task.Rref c [] x y two fits alone s t = absurd s
+answers_one task.Rref c (A ∷ B ∷ values) x y two fits alone s t = absurd s
+answers_one task.Kernel c [] x y two fits alone s t = absurd s
+answers_one task.Kernel c (A ∷ B ∷ values) x y two fits alone s t = absurd s
+answers_one task.LeftKernel c [] x y two fits alone s t = absurd s
+answers_one task.LeftKernel c (A ∷ B ∷ values) x y two fits alone s t = absurd s
+answers_one task.Inverse c [] x y two fits alone s t = absurd s
+answers_one task.Inverse c (A ∷ B ∷ values) x y two fits alone s t = absurd s
+answers_one task.Pivots c [] x y two fits alone s t = absurd s
+answers_one task.Pivots c (A ∷ B ∷ values) x y two fits alone s t = absurd s
+answers_one task.Solve c [] x y two fits alone s t = absurd s
+answers_one task.Solve c (A ∷ []) x y two fits alone s t = absurd s
+answers_one task.Solve c (A ∷ B ∷ C ∷ values) x y two fits alone s t = absurd s
+answers_one (task.Drill g) c (A ∷ values) x y two fits alone s t = absurd s
+
+pub one_answer : IsOneAnswer
+one_answer c values x y two fits alone s t = answers_one c.task c values x y two fits alone s t

@@ -19,7 +19,8 @@ use Rattle.pivot_table.proofs.Selecting.{greedy_one, selected, sparsest_one}
 use Rattle.optimistic_search.specs.Search.{IsGreedyFrom}
 use Rattle.spasm_run.specs.declared.answer.Answer.TheVariants as answer
 use Rattle.spasm_run.specs.declared.words.Task.TheVariants as task
-use Rattle.spasm_run.specs.Computed.{IsAnswerTo, IsSmallPlace}
+use Rattle.spasm_run.specs.Computed.{IsAnswerTo, IsSmallPlace, asking}
+use Rattle.spasm_run.specs.declared.words.Command.{Command}
 use Rattle.triangular_solve.proofs.Listing.{col_is, no_pair, place_of, triangular_order_one}
 
 -- the pair at place k of leftmost pairs is the sparsest of its column
@@ -62,19 +63,19 @@ small_places A qs is high wide = λ k d l.
     )
 
 -- what was searched, put in order and copied
-pub pivots_answer : (a : ResidueMatrix) (workers : ℕ) (first all : BookState) (listed : List Pair) (pairs : Vec Pair Global) → first.rows ≡ a → IsLeftmost a.matrix first.pairs →
-    all.rows ≡ first.rows → StartsWith all.pairs first.pairs → Maximal first.rows.matrix all.pairs → (workers ≡ 1 → IsGreedyFrom first all) →
+pub pivots_answer : (a : ResidueMatrix) (c : Command) (first all : BookState) (listed : List Pair) (pairs : Vec Pair Global) → first.rows ≡ a → IsLeftmost a.matrix first.pairs →
+    all.rows ≡ first.rows → StartsWith all.pairs first.pairs → Maximal first.rows.matrix all.pairs → (c.workers ≡ 1 → IsGreedyFrom first all) →
     IsTriangularOrder all.rows.matrix all.pairs listed → pairs.items ≡ listed → a.matrix.height ≤ LARGEST_SIZE → a.matrix.width ≤ LARGEST_SIZE →
-    IsAnswerTo task.Pivots a.modulus workers (a.matrix ∷ []) (answer.Pivots pairs)
-pivots_answer a workers first all listed pairs rows leftmost same begins maximal greedy order copied high wide =
+    IsAnswerTo (asking task.Pivots a.modulus c) (a.matrix ∷ []) (answer.Pivots pairs)
+pivots_answer a c first all listed pairs rows leftmost same begins maximal greedy order copied high wide =
     let A : Matrix = a.matrix in
     let here : first.rows.matrix ≡ A = ap (λ (r : ResidueMatrix). r.matrix) rows in
     let there : all.rows.matrix ≡ A = ap (λ (r : ResidueMatrix). r.matrix) (same ∙ rows) in
     let at_rows : IsTriangularOrder A all.pairs listed = subst (λ (M : Matrix). IsTriangularOrder M all.pairs listed) there order in
     let ordered : IsTriangularOrder A all.pairs pairs.items = subst (λ (o : List Pair). IsTriangularOrder A all.pairs o) (sym copied) at_rows in
     let most : Maximal A all.pairs = subst (λ (M : Matrix). Maximal M all.pairs) here maximal in
-    let first_most : workers ≡ 1 → IsGreedy A first.pairs all.pairs = λ one. subst (λ (M : Matrix). IsGreedy M first.pairs all.pairs) here (greedy one) in record {
+    let first_most : c.workers ≡ 1 → IsGreedy A first.pairs all.pairs = λ one. subst (λ (M : Matrix). IsGreedy M first.pairs all.pairs) here (greedy one) in record {
       small = small_places A pairs.items ordered.triangular high wide;
       fits = refl;
-      answers = λ prime. (pairs.items, selected A workers first.pairs all.pairs pairs.items leftmost begins most ordered first_most, refl);
+      answers = λ prime. (pairs.items, selected A c.workers first.pairs all.pairs pairs.items leftmost begins most ordered first_most, refl);
     }

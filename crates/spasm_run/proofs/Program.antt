@@ -11,12 +11,24 @@ use Rattle.clap.specs.Faults.{bundle_fault, defaults_fault, entered_fault, fault
 use Rattle.clap.specs.declared.error.kind.ErrorKind.{ErrorKind}
 use Rattle.clap.specs.declared.error.kind.ErrorKind.TheVariants.{InvalidSubcommand, UnknownArgument}
 use Rattle.clap.proofs.OnLiterals.{clap_on_literals}
-use Rattle.spasm_run.specs.Words.{task_name}
-use Rattle.spasm_run.specs.Line.{command_line, option_names, tasks}
+use Rattle.spasm_run.specs.Words.{names_of, own_settings, task_name}
+use Rattle.spasm_run.specs.Line.{command_line, commands, option_names}
+use Rattle.spasm_run.specs.declared.generator.Generator.{Generator}
 use Rattle.spasm_run.specs.declared.words.Task.{Task}
-use Rattle.spasm_run.specs.declared.words.Task.TheVariants.{Rank, Rref, Kernel, Solve, LeftKernel, Inverse, Pivots}
+use Rattle.spasm_run.specs.declared.words.Task.TheVariants.{Rank, Rref, Kernel, Solve, LeftKernel, Inverse, Pivots, Drill}
 use Rattle.spasm_run.proofs.Spelled.{Spelled, Joined, Apart, Other, spelled_as}
 use Rattle.spasm_run.proofs.Walks.{Refused, AsPlain, command_of, flags_of, none_first, rules_of}
+
+-- the names of a task's options
+abbrev pub task_names : Task → List Text
+task_names t = option_names ++ names_of (own_settings t)
+
+-- a task of each name
+abbrev anything : Generator
+anything = record { seed = 0; rows = 0; cols = 0; per = 0 }
+
+abbrev pub tasks : List Task
+tasks = Rank ∷ Rref ∷ Kernel ∷ Solve ∷ LeftKernel ∷ Inverse ∷ Pivots ∷ Drill anything ∷ []
 
 -- the program as building leaves it
 abbrev top : Shape
@@ -31,7 +43,7 @@ top = record (new_shape (codes "spasm")) {
 }
 
 abbrev program : App
-program = record { top = top; subs = map (λ t. command_of (task_name t) option_names) tasks }
+program = record { top = top; subs = map (λ c. command_of c.0 (option_names ++ c.1)) commands }
 
 abbrev labels : Names
 labels = map (λ t. (task_name t, [])) tasks
@@ -66,6 +78,7 @@ met Solve = refl
 met LeftKernel = refl
 met Inverse = refl
 met Pivots = refl
+met (Drill g) = refl
 
 met_turn : (t : Task) → turn_fault top labels start (task_name t) ≡ []
 met_turn Rank = refl
@@ -75,8 +88,9 @@ met_turn Solve = refl
 met_turn LeftKernel = refl
 met_turn Inverse = refl
 met_turn Pivots = refl
+met_turn (Drill g) = refl
 
-entered_task : (t : Task) (rest : List Text) → entered program (Some (task_name t, rest)) ≡ Some (task_name t, rows_after (rules_of option_names) [] rest)
+entered_task : (t : Task) (rest : List Text) → entered program (Some (task_name t, rest)) ≡ Some (task_name t, rows_after (rules_of (task_names t)) [] rest)
 entered_task Rank rest = refl
 entered_task Rref rest = refl
 entered_task Kernel rest = refl
@@ -84,8 +98,9 @@ entered_task Solve rest = refl
 entered_task LeftKernel rest = refl
 entered_task Inverse rest = refl
 entered_task Pivots rest = refl
+entered_task (Drill g) rest = refl
 
-fault_below : (t : Task) (rest : List Text) → entered_fault program (Some (task_name t, rest)) ≡ level_fault (command_of (task_name t) option_names) [] nothing_held rest false []
+fault_below : (t : Task) (rest : List Text) → entered_fault program (Some (task_name t, rest)) ≡ level_fault (command_of (task_name t) (task_names t)) [] nothing_held rest false []
 fault_below Rank rest = refl
 fault_below Rref rest = refl
 fault_below Kernel rest = refl
@@ -93,6 +108,7 @@ fault_below Solve rest = refl
 fault_below LeftKernel rest = refl
 fault_below Inverse rest = refl
 fault_below Pivots rest = refl
+fault_below (Drill g) rest = refl
 
 walk_of : (t : Task) (rest : List Text) → walk [] labels nothing_held (task_name t ∷ rest) ≡ stopped_at (task_name t) rest
 walk_of t rest = ap (λ (w : Walk). fold (walked [] labels) w rest) (met t) ∙ walked_on (task_name t) [] rest
@@ -101,17 +117,17 @@ walk_fault_of : (t : Task) (rest : List Text) → walk_fault top labels start (t
 unfolding walk_fault
 walk_fault_of t rest = rw (met_turn t, met t) (no_fault_behind (task_name t) [] rest)
 
-pub subcommand_at : (t : Task) (rest : List Text) → subcommand_of command_line (task_name t ∷ rest) ≡ Some (task_name t, rows_after (rules_of option_names) [] rest)
+pub subcommand_at : (t : Task) (rest : List Text) → subcommand_of command_line (task_name t ∷ rest) ≡ Some (task_name t, rows_after (rules_of (task_names t)) [] rest)
 subcommand_at t rest = ap (λ (w : Walk). entered program w.stopped) (walk_of t rest) ∙ entered_task t rest
 
 or_none : (k : Kinds) → or_else k [] ≡ k
 or_none [] = refl
 or_none (x ∷ xs) = refl
 
-pub fault_at : (t : Task) (rest : List Text) → fault_of command_line (task_name t ∷ rest) ≡ level_fault (command_of (task_name t) option_names) [] nothing_held rest false []
+pub fault_at : (t : Task) (rest : List Text) → fault_of command_line (task_name t ∷ rest) ≡ level_fault (command_of (task_name t) (task_names t)) [] nothing_held rest false []
 unfolding defaults_fault
 fault_at t rest =
-    let below : Kinds = level_fault (command_of (task_name t) option_names) [] nothing_held rest false [] in
+    let below : Kinds = level_fault (command_of (task_name t) (task_names t)) [] nothing_held rest false [] in
     rw (walk_fault_of t rest, walk_of t rest, entered_task t rest, fault_below t rest) (or_none below)
 
 -- ---- a first word that is no command's name is refused

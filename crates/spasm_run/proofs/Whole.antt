@@ -16,19 +16,22 @@ use Rattle.spasm_run.specs.declared.answer.Answer.{Answer}
 use Rattle.spasm_run.specs.declared.status.Status.{Status}
 use Rattle.spasm_run.specs.declared.status.Status.TheVariants as status
 use Rattle.spasm_run.specs.declared.words.Command.{Command}
+use Rattle.spasm_run.specs.declared.generator.Generator.{Generator}
 use Rattle.spasm_run.specs.declared.words.Task.{Task}
+use Rattle.spasm_run.specs.declared.words.Task.TheVariants as task
 use Rattle.spasm_run.specs.Answers.{misfit, wanted}
-use Rattle.spasm_run.specs.Computed.{ComesOf, IsFoundIn, WasFound, answer_text, is_unread_in}
+use Rattle.spasm_run.specs.Computed.{ComesOf, IsFoundIn, WasFound, answer_text, asking, is_unread_in}
 use Rattle.spasm_run.specs.Input.{HasMatrices, Input, WasRead, supply_behind}
 use Rattle.spasm_run.specs.Ran.{AreTooFew, HasAnswer, Explains, HasNoAnswer, IsAnswered, IsMisfit, IsOffered, IsOrMemory, Ran, Run, request, whole_input}
 use Rattle.spasm_run.specs.Status.{is_unread, status_of}
 use Rattle.spasm_run.specs.Words.{Accepted, AreRefused}
 use Rattle.spasm_run.proofs.Exact.{one_command}
+use Rattle.spasm_run.proofs.Input.{all_read}
 use Rattle.spasm_run.proofs.Stays.{Keeps, told_of_all}
 
 -- what comes of the matrices that were read for a command is found for the words that ask for it
 module _ (words : List (List ℕ)) (c : Command) (limit : ℕ) (accepted : Accepted words c) (old new : SourceState) where
-  found_in : (values : List Matrix) (result : Result Answer Status) (input : Input) → ComesOf c.task c.modulus c.workers values result →
+  found_in : (values : List Matrix) (result : Result Answer Status) (input : Input) → ComesOf c values result →
       HasMatrices (request c limit) input values → IsFoundIn words limit input result
   found_in values (Ok a) input comes reads = (c, accepted, record { values = values; reads = reads; fits = comes.fits; answers = comes.answers })
   found_in values (Err status.Done) input comes reads = absurd comes
@@ -41,7 +44,7 @@ module _ (words : List (List ℕ)) (c : Command) (limit : ℕ) (accepted : Accep
   found_in values (Err status.Memory) input comes reads = tt
   found_in values (Err (status.Wide h w)) input comes reads = (c, accepted, record { values = values; reads = reads; refused = comes })
 
-  read_well : (values : List Matrix) (result : Result Answer Status) → ComesOf c.task c.modulus c.workers values result → false ≡ is_unread_in result
+  read_well : (values : List Matrix) (result : Result Answer Status) → ComesOf c values result → false ≡ is_unread_in result
   read_well values (Ok a) comes = refl
   read_well values (Err status.Done) comes = refl
   read_well values (Err status.No) comes = refl
@@ -57,7 +60,7 @@ module _ (words : List (List ℕ)) (c : Command) (limit : ℕ) (accepted : Accep
   few bytes short = (c, accepted, short)
 
   found_for : (values : List Matrix) (result : Result Answer Status) → WasRead (request c limit) (Ok values) old new →
-      ComesOf c.task c.modulus c.workers values result → WasFound words limit result old new
+      ComesOf c values result → WasFound words limit result old new
   found_for values result was comes =
       let moved = draws_with (IsShort (request c limit)) (AreTooFew words limit) false was.input.bytes (untouched old) (supply_behind was.input new) few was.draws in
       let Moves : Bool → Type 0 = λ x. Draws (AreTooFew words limit) x was.input.bytes (untouched old) (supply_behind was.input new) in record {
@@ -90,18 +93,24 @@ asked t p limit = record { modulus = p; limit = limit; due = wanted t }
 
 -- the matrices were read, and something came of them
 pub found_given : (words : List (List ℕ)) (c : Command) (t : Task) (p q limit : ℕ) (old new : SourceState) (values : List Matrix) (result : Result Answer Status) →
-    c.task ≡ t → p ≡ c.modulus → q ≡ p → Accepted words c → WasRead (asked t p limit) (Ok values) old new → ComesOf t q c.workers values result → WasFound words limit result old new
-found_given words c t p q limit old new values result task modulus same accepted was comes =
-    let at_task : WasRead (asked c.task p limit) (Ok values) old new = subst (λ t. WasRead (asked t p limit) (Ok values) old new) (sym task) was in
+    c.task ≡ t → p ≡ c.modulus → q ≡ p → Accepted words c → WasRead (asked t p limit) (Ok values) old new → ComesOf (asking t q c) values result → WasFound words limit result old new
+found_given words c t p q limit old new values result asks modulus same accepted was comes =
+    let at_task : WasRead (asked c.task p limit) (Ok values) old new = subst (λ t. WasRead (asked t p limit) (Ok values) old new) (sym asks) was in
     let read : WasRead (request c limit) (Ok values) old new = subst (λ p. WasRead (asked c.task p limit) (Ok values) old new) modulus at_task in
-    let of_task : ComesOf c.task q c.workers values result = subst (λ t. ComesOf t q c.workers values result) (sym task) comes in
-    found_for words c limit accepted old new values result read (subst (λ q. ComesOf c.task q c.workers values result) (same ∙ modulus) of_task)
+    let of_task : ComesOf (asking c.task q c) values result = subst (λ t. ComesOf (asking t q c) values result) (sym asks) comes in
+    found_for words c limit accepted old new values result read (subst (λ q. ComesOf (asking c.task q c) values result) (same ∙ modulus) of_task)
+
+-- nothing is read for what is generated
+pub found_generated : (words : List (List ℕ)) (c : Command) (g : Generator) (p limit : ℕ) (source : SourceState) (result : Result Answer Status) →
+    c.task ≡ task.Drill g → p ≡ c.modulus → Accepted words c → ComesOf (asking (task.Drill g) p c) [] result → WasFound words limit result source source
+found_generated words c g p limit source result asks modulus accepted comes =
+    found_given words c (task.Drill g) p p limit source source [] result asks modulus refl accepted (all_read p limit source) comes
 
 -- they weren't
 pub found_unread : (words : List (List ℕ)) (c : Command) (t : Task) (p limit : ℕ) (old new : SourceState) (e : TextError) (result : Result Answer Status) →
     c.task ≡ t → p ≡ c.modulus → IsErrAnd result (λ s. s ≡ status_of e) → Accepted words c → WasRead (asked t p limit) (Err e) old new → WasFound words limit result old new
-found_unread words c t p limit old new e result task modulus is accepted was =
-    let at_task : WasRead (asked c.task p limit) (Err e) old new = subst (λ t. WasRead (asked t p limit) (Err e) old new) (sym task) was in
+found_unread words c t p limit old new e result asks modulus is accepted was =
+    let at_task : WasRead (asked c.task p limit) (Err e) old new = subst (λ t. WasRead (asked t p limit) (Err e) old new) (sym asks) was in
     let read : WasRead (request c limit) (Err e) old new = subst (λ p. WasRead (asked c.task p limit) (Err e) old new) modulus at_task in
     let fault = err_from_is_err_and result is in
     let found : WasFound words limit (Err fault.0) old new = subst (λ s. WasFound words limit (Err s) old new) (sym fault.2) (unread_for words c limit accepted old new e read) in

@@ -16,12 +16,15 @@ use Rattle.sparse_rows.specs.Rows.{transposed}
 use Rattle.spasm_run.specs.declared.commands.TheConstants.{LARGEST_INVERTED}
 use Rattle.spasm_run.specs.declared.status.Status.{Status}
 use Rattle.spasm_run.specs.declared.status.Status.TheVariants.{Shape, Wide}
+use Rattle.spasm_run.specs.declared.words.Command.{Command}
 use Rattle.spasm_run.specs.declared.words.Task.{Task}
-use Rattle.spasm_run.specs.declared.words.Task.TheVariants.{Rank, Rref, Kernel, Solve, LeftKernel, Inverse, Pivots}
+use Rattle.spasm_run.specs.declared.words.Task.TheVariants.{Rank, Rref, Kernel, Solve, LeftKernel, Inverse, Pivots, Drill}
+use Rattle.spasm_run.specs.Generator.{generated, summary_of}
 
 -- the lines that are due at first: the headers of the matrices that are read
 abbrev pub wanted : Task → List Due
 wanted Solve = Header ∷ Header ∷ []
+wanted (Drill g) = []
 wanted task = Header ∷ []
 
 -- the status by which matrices of a wrong shape are refused: a right-hand side has to be a column as long as the matrix is high, and what is
@@ -62,18 +65,24 @@ pair_lines qs = flat_map (λ (q : Pair). pair_line (q.row + 1) (q.col + 1)) qs
 abbrev pub pivots_text : List Pair → List ℕ
 pivots_text qs = codes "pivots " ++ decimal (length qs) ++ 10 ∷ pair_lines qs
 
--- the text is the answer to the command by this number of workers, for these matrices modulo p
-abbrev pub AnswerOf : Task → ℕ → ℕ → List Matrix → List ℕ → Type 0
-AnswerOf Rank p workers (A ∷ []) text = (r : ℕ) × HasRank p A r × (text ≡ rank_text r)
-AnswerOf Rref p workers (A ∷ []) text = (E : Matrix) × IsRref p A E × (text ≡ text_of E)
-AnswerOf Kernel p workers (A ∷ []) text = (K : Matrix) × IsKernel p A K × (text ≡ text_of K)
-AnswerOf Solve p workers (A ∷ B ∷ []) text = SolvesTo p A (column B) text
-AnswerOf LeftKernel p workers (A ∷ []) text = (K : Matrix) × IsKernel p (transposed A) K × (text ≡ text_of K)
-AnswerOf Inverse p workers (A ∷ []) text = InvertsTo p A text
-AnswerOf Pivots p workers (A ∷ []) text = (qs : List Pair) × Selected A workers qs × (text ≡ pivots_text qs)
-AnswerOf task p workers values text = ⊥
+-- the text is the answer to the task of this command for these matrices
+abbrev pub AnswerTo : Task → Command → List Matrix → List ℕ → Type 0
+AnswerTo Rank c (A ∷ []) text = (r : ℕ) × HasRank c.modulus A r × (text ≡ rank_text r)
+AnswerTo Rref c (A ∷ []) text = (E : Matrix) × IsRref c.modulus A E × (text ≡ text_of E)
+AnswerTo Kernel c (A ∷ []) text = (K : Matrix) × IsKernel c.modulus A K × (text ≡ text_of K)
+AnswerTo Solve c (A ∷ B ∷ []) text = SolvesTo c.modulus A (column B) text
+AnswerTo LeftKernel c (A ∷ []) text = (K : Matrix) × IsKernel c.modulus (transposed A) K × (text ≡ text_of K)
+AnswerTo Inverse c (A ∷ []) text = InvertsTo c.modulus A text
+AnswerTo Pivots c (A ∷ []) text = (qs : List Pair) × Selected A c.workers qs × (text ≡ pivots_text qs)
+AnswerTo (Drill g) c [] text =
+    (E : Matrix) × IsRref c.modulus (generated c.modulus g) E × (text ≡ summary_of c.modulus E)
+AnswerTo task c values text = ⊥
+
+-- the text is the answer to the command for these matrices
+abbrev pub AnswerOf : Command → List Matrix → List ℕ → Type 0
+AnswerOf c values text = AnswerTo c.task c values text
 
 -- the answer to a command for matrices of the shapes that are wanted is one text; the pivots where one worker searches
 abbrev pub IsOneAnswer : Type 0
-IsOneAnswer = (task : Task) (p workers : ℕ) (values : List Matrix) (text other : List ℕ) → 2 ≤ p → misfit task values ≡ None →
-    (task ≡ Pivots → workers ≡ 1) → AnswerOf task p workers values text → AnswerOf task p workers values other → text ≡ other
+IsOneAnswer = (c : Command) (values : List Matrix) (text other : List ℕ) → 2 ≤ c.modulus → misfit c.task values ≡ None →
+    (c.task ≡ Pivots → c.workers ≡ 1) → AnswerOf c values text → AnswerOf c values other → text ≡ other

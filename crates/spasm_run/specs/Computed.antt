@@ -15,8 +15,11 @@ use Rattle.spasm_run.specs.declared.answer.Answer.{Answer}
 use Rattle.spasm_run.specs.declared.answer.Answer.TheVariants as answer
 use Rattle.spasm_run.specs.declared.status.Status.{Status}
 use Rattle.spasm_run.specs.declared.status.Status.TheVariants as status
+use Rattle.spasm_run.specs.declared.words.Command.{Command}
 use Rattle.spasm_run.specs.declared.words.Task.{Task}
 use Rattle.spasm_run.specs.Answers.{AnswerOf, misfit, pivots_text, rank_text}
+use Rattle.spasm_run.specs.declared.words.Task.TheVariants as task
+use Rattle.spasm_run.specs.Generator.{HasSizesInRange, summary_text}
 use Rattle.spasm_run.specs.Input.{Input, supply_behind}
 use Rattle.spasm_run.specs.Ran.{AreTooFew, HasNoAnswer, IsAnswered}
 use Rattle.spasm_run.specs.Status.{is_unread}
@@ -30,6 +33,7 @@ answer_text (answer.Refutation y) = codes "no solution\n" ++ text_of y.matrix
 answer_text (answer.Inverse B) = codes "inverse\n" ++ text_of B.matrix
 answer_text (answer.Singular v) = codes "singular\n" ++ text_of v.matrix
 answer_text (answer.Pivots pairs) = pivots_text pairs.items
+answer_text (answer.Summary s) = summary_text s.rank s.entries s.sum
 
 -- the sizes of its matrix can be written
 abbrev pub HasSmallSizes : Matrix → Type 0
@@ -47,12 +51,22 @@ IsSmall (answer.Refutation y) = HasSmallSizes y.matrix
 IsSmall (answer.Inverse B) = HasSmallSizes B.matrix
 IsSmall (answer.Singular v) = HasSmallSizes v.matrix
 IsSmall (answer.Pivots pairs) = All IsSmallPlace pairs.items
+IsSmall (answer.Summary s) = Unit {0}
 
--- the answer to a task for these matrices, which are of the shapes that are wanted
-pub record IsAnswerTo (t : Task) (p workers : ℕ) (values : List Matrix) (a : Answer) : Type 0 where
+-- the command, asking for this task modulo p
+abbrev pub asking : Task → ℕ → Command → Command
+asking t p c = record c { task = t; modulus = p }
+
+-- where a matrix is to be generated, its sizes lie in range
+abbrev pub IsOfSizes : Task → Type 0
+IsOfSizes (task.Drill g) = HasSizesInRange g
+IsOfSizes t = Unit {0}
+
+-- the answer to a command for these matrices, which are of the shapes that are wanted
+pub record IsAnswerTo (c : Command) (values : List Matrix) (a : Answer) : Type 0 where
   pub small : IsSmall a
-  pub fits : misfit t values ≡ None
-  pub answers : IsPrime p → AnswerOf t p workers values (answer_text a)
+  pub fits : misfit c.task values ≡ None
+  pub answers : IsPrime c.modulus → AnswerOf c values (answer_text a)
 
 -- what is found for the system S: for a prime modulus the solution of A x = b, or that there is none, where S is [A | B]
 -- and b the one column of B
@@ -61,13 +75,13 @@ AnswersSystem p S found =
     IsPrime p → (A B : Matrix) → IsMatrix p A → IsMatrix p B → A.height ≡ B.height → B.width ≡ 1 →
     S ≡ beside A B → Answers p A (column B) found
 
--- what comes of a task for these matrices: its answer; or they are refused for their shapes; or memory was wanted
-abbrev pub ComesOf : Task → ℕ → ℕ → List Matrix → Result Answer Status → Type 0
-ComesOf t p workers values (Ok a) = IsAnswerTo t p workers values a
-ComesOf t p workers values (Err (status.Shape h w)) = misfit t values ≡ Some (status.Shape h w)
-ComesOf t p workers values (Err (status.Wide h w)) = misfit t values ≡ Some (status.Wide h w)
-ComesOf t p workers values (Err status.Memory) = Unit {0}
-ComesOf t p workers values (Err _) = ⊥
+-- what comes of a command for these matrices: its answer; or they are refused for their shapes; or memory was wanted
+abbrev pub ComesOf : Command → List Matrix → Result Answer Status → Type 0
+ComesOf c values (Ok a) = IsAnswerTo c values a
+ComesOf c values (Err (status.Shape h w)) = misfit c.task values ≡ Some (status.Shape h w)
+ComesOf c values (Err (status.Wide h w)) = misfit c.task values ≡ Some (status.Wide h w)
+ComesOf c values (Err status.Memory) = Unit {0}
+ComesOf c values (Err _) = ⊥
 
 -- whether the source failed
 abbrev pub is_unread_in : Result Answer Status → Bool

@@ -1,5 +1,6 @@
 pub mod Answers
 pub mod Computed
+pub mod Generator
 pub mod Input
 pub mod Line
 pub mod Options

@@ -1,11 +1,12 @@
 -- The options of a command, as its words are read.
-use Rattle.std.specs.Prelude.{◌≡◌, ◌≢◌, ◌<◌, ℕ, List, [], ◌∷◌, Option, Some, None, MatchOption, codes, length, map, slice_index}
+use Rattle.std.specs.Prelude.{◌≡◌, ◌≢◌, ◌<◌, ℕ, All, List, [], ◌∷◌, Option, Some, MatchOption, codes, length, map, slice_index}
 use Rattle.std.specs.List.{Contains}
 use Rattle.std.specs.Borrow.{Bor}
 use Rattle.clap.specs.Words.{Row, fault_of, first_of, subcommand_of, subcommand_rows_of}
 use Rattle.clap.specs.declared.parser.matches.ArgMatches.{ArgMatches}
 use Rattle.spasm_run.specs.declared.words.Command.{Command}
-use Rattle.spasm_run.specs.Words.{Accepted, AreRefused, Given, IsInRange, Rule, modulus_rule, rounds_rule, task_name, workers_rule}
+use Rattle.spasm_run.specs.declared.words.Task.{Task}
+use Rattle.spasm_run.specs.Words.{Accepted, AreRefused, Given, IsNumber, Rule, Setting, own_settings, settings, task_name}
 use Rattle.spasm_run.specs.Line.{command_line}
 
 -- the bytes of the words
@@ -17,27 +18,27 @@ abbrev pub AreTaken : List (List ℕ) → Option ArgMatches → Type 0
 AreTaken words result = MatchOption result (fault_of command_line words ≢ [])
     (λ m. (fault_of command_line words ≡ []) × (subcommand_rows_of m ≡ subcommand_of command_line words))
 
--- n is the number that a text spells, in its range; or the one that stands where there is no text
-abbrev pub IsNumber : ℕ → ℕ → ℕ → Option (List ℕ) → ℕ → Type 0
-IsNumber low high absent None n = n ≡ absent
-IsNumber low high absent (Some w) n = IsInRange low high w n
+-- the number of an option, if its text sets one
+abbrev pub IsNumberOf : Rule → Option (List ℕ) → Option ℕ → Type 0
+IsNumberOf rule text result = MatchOption result ((n : ℕ) → ¬ IsNumber rule text n) (IsNumber rule text)
 
--- the number, if there is one
-abbrev pub IsNumberOf : ℕ → ℕ → ℕ → Option (List ℕ) → Option ℕ → Type 0
-IsNumberOf low high absent text result =
-    MatchOption result ((n : ℕ) → ¬ IsNumber low high absent text n) (IsNumber low high absent text)
+-- the rows set this number
+abbrev pub RowsSet : List Row → Setting → Type 0
+RowsSet rows s = IsNumber s.rule (first_of s.rule.name rows) s.number
 
--- the rows give this number for the option
-abbrev pub RowsGive : Rule → List Row → ℕ → Type 0
-RowsGive rule rows n = IsNumber rule.low rule.high rule.absent (first_of rule.name rows) n
+-- the task has this name, and the rows set what is its own
+abbrev pub IsTaskOf : List ℕ → List Row → Task → Type 0
+IsTaskOf name rows t = (name ≡ task_name t) × All (RowsSet rows) (own_settings t)
+
+-- the task has this name, and nothing of its own is set
+abbrev pub IsBareTask : List ℕ → Task → Type 0
+IsBareTask name t = (name ≡ task_name t) × (own_settings t ≡ [])
 
 -- the command that was entered and its rows ask for c
 pub record AsksFor (entered : Option (List ℕ × List Row)) (c : Command) : Type 0 where
   pub rows : List Row
   pub entered_as : entered ≡ Some (task_name c.task, rows)
-  pub modulus : RowsGive modulus_rule rows c.modulus
-  pub workers : RowsGive workers_rule rows c.workers
-  pub rounds : RowsGive rounds_rule rows c.rounds
+  pub set : All (RowsSet rows) (settings c)
 
 -- the command that these words ask for, if they are accepted
 abbrev pub IsCommandOf : List (List ℕ) → Option Command → Type 0

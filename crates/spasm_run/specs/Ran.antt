@@ -1,5 +1,5 @@
 -- What a run did: each status with its cause, and what a run comes to on a whole input.
-use Rattle.std.specs.Prelude.{◌≡◌, ◌⊎◌, true, ℕ, List, ◌++◌, Some, None}
+use Rattle.std.specs.Prelude.{◌≡◌, ◌⊎◌, true, ℕ, List, [], ◌++◌, Some, None}
 use Rattle.residue_words.specs.Matrix.{Matrix}
 use Rattle.residue_words.specs.Residues.{IsPrime}
 use Rattle.sms_text.specs.declared.kind.Kind.{Kind}
@@ -27,12 +27,16 @@ pub record Run : Type 0 where
 abbrev pub request : Command → ℕ → Request
 request c limit = record { modulus = c.modulus; limit = limit; due = wanted c.task }
 
+-- the words ask for no command that reads anything
+abbrev pub WantNothing : List (List ℕ) → Type 0
+WantNothing words = (c : Command) → Accepted words c → wanted c.task ≡ []
+
 -- the input is whole, its matrices are of the shapes that are wanted, and for a prime modulus this text is the answer
 pub record HasAnswer (c : Command) (limit : ℕ) (input : Input) (text : List ℕ) : Type 0 where
   pub values : List Matrix
   pub reads : HasMatrices (request c limit) input values
   pub fits : misfit c.task values ≡ None
-  pub answers : IsPrime c.modulus → AnswerOf c.task c.modulus c.workers values text
+  pub answers : IsPrime c.modulus → AnswerOf c values text
 
 -- the input is whole, and its matrices are refused for their shapes
 pub record IsMisfit (c : Command) (limit : ℕ) (input : Input) (s : Status) : Type 0 where

@@ -1,11 +1,12 @@
 -- The words of the command line that are accepted.
-use Rattle.std.specs.Prelude.{◌≡◌, ◌≢◌, ◌≤◌, ◌-◌, ℕ, Bool, true, false, List, [], ◌∷◌, ◌++◌, codes, IsTrue, map}
+use Rattle.std.specs.Prelude.{◌≡◌, ◌≢◌, ◌≤◌, ◌-◌, ◌^◌, ℕ, All, Bool, true, false, List, [], ◌∷◌, ◌++◌, Option, Some, None, codes, IsTrue, map}
 use Rattle.std.specs.List.{Contains, flat_map}
 use Rattle.residue_words.specs.declared.modulus.TheConstants.{MODULUS_BOUND}
 use Rattle.sms_text.specs.Numbers.{is_number, value}
+use Rattle.spasm_run.specs.declared.generator.TheConstants.{LARGEST_GENERATED, MOST_PER_ROW}
 use Rattle.spasm_run.specs.declared.words.Command.{Command}
 use Rattle.spasm_run.specs.declared.words.Task.{Task}
-use Rattle.spasm_run.specs.declared.words.Task.TheVariants.{Rank, Rref, Kernel, Solve, LeftKernel, Inverse, Pivots}
+use Rattle.spasm_run.specs.declared.words.Task.TheVariants.{Rank, Rref, Kernel, Solve, LeftKernel, Inverse, Pivots, Drill}
 
 -- the name of a command, its first word
 abbrev pub task_name : Task → List ℕ
@@ -16,26 +17,59 @@ task_name Solve = codes "solve"
 task_name LeftKernel = codes "leftkernel"
 task_name Inverse = codes "inverse"
 task_name Pivots = codes "pivots"
+task_name (Drill g) = codes "drill"
 
--- an option that commands have: its name, the least and the largest number that it takes, and the number that stands where it is absent
+-- an option that commands have: its name, the least and the largest number that it takes, and the number that stands where it is absent;
+-- where there is none, the option is required
 pub record Rule : Type 0 where
   pub name : List ℕ
   pub low : ℕ
   pub high : ℕ
-  pub absent : ℕ
+  pub absent : Option ℕ
 
 abbrev pub modulus_rule : Rule
-modulus_rule = record { name = codes "modulus"; low = 2; high = MODULUS_BOUND - 1; absent = 42013 }
+modulus_rule = record { name = codes "modulus"; low = 2; high = MODULUS_BOUND - 1; absent = Some 42013 }
 
 abbrev pub workers_rule : Rule
-workers_rule = record { name = codes "workers"; low = 1; high = 64; absent = 1 }
+workers_rule = record { name = codes "workers"; low = 1; high = 64; absent = Some 1 }
 
 abbrev pub rounds_rule : Rule
-rounds_rule = record { name = codes "rounds"; low = 0; high = 16; absent = 3 }
+rounds_rule = record { name = codes "rounds"; low = 0; high = 16; absent = Some 3 }
 
--- the options of each command
-abbrev pub rules : List Rule
-rules = modulus_rule ∷ workers_rule ∷ rounds_rule ∷ []
+abbrev pub seed_rule : Rule
+seed_rule = record { name = codes "seed"; low = 0; high = 2 ^ 64 - 1; absent = None }
+
+abbrev pub rows_rule : Rule
+rows_rule = record { name = codes "rows"; low = 1; high = LARGEST_GENERATED; absent = None }
+
+abbrev pub cols_rule : Rule
+cols_rule = record { name = codes "cols"; low = 1; high = LARGEST_GENERATED; absent = None }
+
+abbrev pub per_rule : Rule
+per_rule = record { name = codes "per"; low = 0; high = MOST_PER_ROW; absent = None }
+
+-- an option, and the number that a command carries for it
+pub record Setting : Type 0 where
+  pub rule : Rule
+  pub number : ℕ
+
+abbrev pub setting : Rule → ℕ → Setting
+setting rule n = record { rule = rule; number = n }
+
+-- what is set for a task alone
+abbrev pub own_settings : Task → List Setting
+own_settings (Drill g) =
+    setting seed_rule g.seed ∷ setting rows_rule g.rows ∷ setting cols_rule g.cols ∷ setting per_rule g.per ∷ []
+own_settings task = []
+
+-- what is set for a command: the options of all commands, and those of its task
+abbrev pub settings : Command → List Setting
+settings c =
+    setting modulus_rule c.modulus ∷ setting workers_rule c.workers ∷ setting rounds_rule c.rounds ∷ own_settings c.task
+
+-- the names of the options
+abbrev pub names_of : List Setting → List (List ℕ)
+names_of ss = map (λ s. s.rule.name) ss
 
 -- an option as it is given: its name and its value, joined to it by = or standing as a word of its own
 pub record Given : Type 0 where
@@ -55,13 +89,21 @@ spelling g = spelling_of g.joined g.name g.value
 abbrev pub IsInRange : ℕ → ℕ → List ℕ → ℕ → Type 0
 IsInRange low high w n = IsTrue (is_number w) × (n ≡ value w) × (low ≤ n) × (n ≤ high)
 
--- n is the value of the option among those given, and lies in its range; or it is the number that stands where it is absent
-pub data IsValueOf (options : List Given) (rule : Rule) (n : ℕ) : Type 0 where
-  GivenOnce : (before : List Given) (joined : Bool) (w : List ℕ) (after : List Given) →
-      options ≡ before ++ (record { name = rule.name; value = w; joined = joined }) ∷ after →
-      IsInRange rule.low rule.high w n → IsValueOf options rule n
-  Absent : ((g : Given) → Contains options g → g.name ≢ rule.name) → n ≡ rule.absent →
-      IsValueOf options rule n
+-- the option of this name is given with this text; or it is absent
+abbrev pub IsGivenAs : List Given → List ℕ → Option (List ℕ) → Type 0
+IsGivenAs options name (Some w) =
+    (joined : Bool) × Contains options (record { name = name; value = w; joined = joined })
+IsGivenAs options name None = (g : Given) → Contains options g → g.name ≢ name
+
+-- n is the number that the option's text spells, in its range; or the one that stands where there is no text
+abbrev pub IsNumber : Rule → Option (List ℕ) → ℕ → Type 0
+IsNumber rule (Some w) n = IsInRange rule.low rule.high w n
+IsNumber rule None n = rule.absent ≡ Some n
+
+-- the options set this number
+abbrev pub IsSetBy : List Given → Setting → Type 0
+IsSetBy options s =
+    (text : Option (List ℕ)) × IsGivenAs options s.rule.name text × IsNumber s.rule text s.number
 
 -- each option has one of these names, and no name comes twice
 pub record AreKnown (options : List Given) (names : List (List ℕ)) : Type 0 where
@@ -69,14 +111,13 @@ pub record AreKnown (options : List Given) (names : List (List ℕ)) : Type 0 wh
   pub once : (before : List Given) (g : Given) (between : List Given) (h : Given) (after : List Given) →
       options ≡ before ++ g ∷ between ++ h ∷ after → g.name ≢ h.name
 
--- the words are the command's name and its options, each known, given at most once and in range; so no value begins with a dash, and no word is --
+-- The words are the command's name and its options, each known and given at most once, and each number is set by them: those that are
+-- required are given, and each is in range. So no value begins with a dash, and no word is --.
 pub record Accepted (words : List (List ℕ)) (c : Command) : Type 0 where
   pub options : List Given
   pub spelled : words ≡ task_name c.task ∷ flat_map spelling options
-  pub known : AreKnown options (map (λ rule. rule.name) rules)
-  pub modulus : IsValueOf options modulus_rule c.modulus
-  pub workers : IsValueOf options workers_rule c.workers
-  pub rounds : IsValueOf options rounds_rule c.rounds
+  pub known : AreKnown options (names_of (settings c))
+  pub set : All (IsSetBy options) (settings c)
 
 -- no command is accepted for these words
 abbrev pub AreRefused : List (List ℕ) → Type 0

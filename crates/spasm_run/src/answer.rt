@@ -1,11 +1,11 @@
 // What is answered to a command.
 ghost use Rattle.sms_text.specs.Writing.{Writes};
-ghost use Rattle.spasm_run.specs.Answers.{rank_text};
 
-use crate::numbered_text::write_with_number;
+use crate::numbered_text::write_line;
+use crate::summary::Summary;
 use crate::written_pivots::write_pivots;
 use pivot_table::Pair;
-use sms_text::{Sink, WriteFault, write_rows, write_text, write_titled};
+use sms_text::{Sink, WriteFault, write_rows, write_titled};
 use sparse_rows::Rows;
 
 // What is answered to a command.
@@ -25,6 +25,8 @@ pub(crate) enum Answer {
     Singular(Rows),
     // Structural pivots of a matrix, in triangular order.
     Pivots(Vec<Pair>),
+    // What is told of the echelon form of a matrix that was generated.
+    Summary(Summary),
 }
 
 impl Answer {
@@ -36,21 +38,14 @@ impl Answer {
         ensures { Writes result (answer_text self.now) (K.state out.old) (K.state out.new) }
     {
         match self {
-            Answer::Rank(rank) => write_rank(out, *rank),
+            Answer::Rank(rank) => write_line(out, "rank ", *rank),
             Answer::Matrix(rows) => write_rows(out, rows),
             Answer::Solution(x) => write_titled(out, "solution\n", x),
             Answer::Refutation(y) => write_titled(out, "no solution\n", y),
             Answer::Inverse(b) => write_titled(out, "inverse\n", b),
             Answer::Singular(v) => write_titled(out, "singular\n", v),
             Answer::Pivots(pairs) => write_pivots(out, pairs),
+            Answer::Summary(summary) => summary.write(out),
         }
     }
-}
-
-// Writes the answer to the rank of a matrix.
-fn write_rank<K: Sink>(out: &mut K, rank: u64) -> Result<(), WriteFault>
-    ensures { Writes result (rank_text rank) (K.state out.old) (K.state out.new) }
-{
-    write_with_number(out, "rank ", rank)?;
-    write_text(out, "\n")
 }

@@ -7,19 +7,24 @@ ghost use Rattle.kernel_solve.specs.Column.{column};
 ghost use Rattle.kernel_solve.specs.Found.{HasShape};
 ghost use Rattle.sparse_rows.specs.declared.rows.TheConstants.{LARGEST_SIZE};
 ghost use Rattle.spasm_run.specs.Answers.{IsOneAnswer, as_row};
-ghost use Rattle.spasm_run.specs.Computed.{AnswersSystem, ComesOf};
+ghost use Rattle.spasm_run.specs.Computed.{AnswersSystem, ComesOf, asking};
+ghost use Rattle.spasm_run.specs.Generator.{HasSizesInRange};
 ghost use Rattle.spasm_run.specs.declared.words.Task.TheVariants as task;
 
 #[cfg(test)]
 mod tests;
 
 use crate::answer::Answer;
+use crate::generator::Generator;
 use crate::status::Status;
+use crate::summary::Summary;
+use crate::words::Command;
 use dense_finish::finish;
 use echelon_form::Echelon;
 use fl_pivots::leftmost;
 use kernel_solve::{Found, Inverse, refuting_system, solution};
 use optimistic_search::{Gate, search};
+use residue_words::Modulus;
 use sparse_rows::{Rows, Sparse};
 use std::alloc::{AllocError, Global};
 use std::thread::Threads;
@@ -38,15 +43,14 @@ pub(crate) fn find_rank<R: Threads + Sync>(
     rt: &R,
     alloc: Global,
     a: &Rows,
-    workers: u32,
-    rounds: u32,
+    command: Command,
 ) -> Result<Answer, Status>
-    requires some { 1 ≤ workers }
-    requires few { workers ≤ 64 }
-    ensures { ComesOf task.Rank a.now.modulus workers (a.now.matrix ∷ []) result }
+    requires some { 1 ≤ command.workers }
+    requires few { command.workers ≤ 64 }
+    ensures { ComesOf (asking task.Rank a.now.modulus command) (a.now.matrix ∷ []) result }
 {
-    if rounds == 0 {
-        return count_pivots(rt, alloc, a, workers);
+    if command.rounds == 0 {
+        return count_pivots(rt, alloc, a, command);
     }
     let rank = echelon_form::rank(alloc, a)?;
     Ok(Answer::Rank(u64::from(rank)))
@@ -57,15 +61,15 @@ fn count_pivots<R: Threads + Sync>(
     rt: &R,
     alloc: Global,
     a: &Rows,
-    workers: u32,
+    command: Command,
 ) -> Result<Answer, Status>
-    requires some { 1 ≤ workers }
-    requires few { workers ≤ 64 }
-    ensures { ComesOf task.Rank a.now.modulus workers (a.now.matrix ∷ []) result }
+    requires some { 1 ≤ command.workers }
+    requires few { command.workers ≤ 64 }
+    ensures { ComesOf (asking task.Rank a.now.modulus command) (a.now.matrix ∷ []) result }
 {
     row_space::factors_give_rank();
     let _ = a.height();
-    let factors = finish(rt, alloc, a, workers)?;
+    let factors = finish(rt, alloc, a, command.workers)?;
     Ok(Answer::Rank(factors.pivots.items().len() as u64))
 }
 
@@ -74,18 +78,18 @@ pub(crate) fn find_pivots<R: Threads + Sync, G: Gate>(
     rt: &R,
     alloc: Global,
     a: &Rows,
-    workers: u32,
+    command: Command,
     gate: &G,
 ) -> Result<Answer, Status>
-    requires some { 1 ≤ workers }
-    requires few { workers ≤ 64 }
-    ensures { ComesOf task.Pivots a.now.modulus workers (a.now.matrix ∷ []) result }
+    requires some { 1 ≤ command.workers }
+    requires few { command.workers ≤ 64 }
+    ensures { ComesOf (asking task.Pivots a.now.modulus command) (a.now.matrix ∷ []) result }
 {
     // The call tells that no row is beyond what can be written.
     let _ = a.height();
     let _ = a.width();
     let book = leftmost(alloc, a)?;
-    let book = search(rt, alloc, book, workers, gate)?;
+    let book = search(rt, alloc, book, command.workers, gate)?;
     let triangle = Triangle::of(alloc, &book)?;
     let pairs = Vec::from_slice(alloc, triangle.pairs())?;
     Ok(Answer::Pivots(pairs))
@@ -96,15 +100,33 @@ pub(crate) fn find_form<R: Threads + Sync>(
     rt: &R,
     alloc: Global,
     a: &Rows,
-    workers: u32,
+    command: Command,
 ) -> Result<Answer, Status>
-    requires some { 1 ≤ workers }
-    requires few { workers ≤ 64 }
+    requires some { 1 ≤ command.workers }
+    requires few { command.workers ≤ 64 }
     requires width { a.now.matrix.width < LARGEST_SIZE }
-    ensures { ComesOf task.Rref a.now.modulus workers (a.now.matrix ∷ []) result }
+    ensures { ComesOf (asking task.Rref a.now.modulus command) (a.now.matrix ∷ []) result }
 {
-    let form = Echelon::of(rt, alloc, a, workers)?;
+    let form = Echelon::of(rt, alloc, a, command.workers)?;
     Ok(Answer::Matrix(form.into_rows()))
+}
+
+// A summary of the echelon form of a matrix that is generated modulo p.
+pub(crate) fn find_summary<R: Threads + Sync>(
+    rt: &R,
+    alloc: Global,
+    p: &Modulus,
+    generator: &Generator,
+    command: Command,
+) -> Result<Answer, Status>
+    requires some { 1 ≤ command.workers }
+    requires few { command.workers ≤ 64 }
+    requires sizes { HasSizesInRange generator.now }
+    ensures { ComesOf (asking (task.Drill generator.now) p.now command) [] result }
+{
+    let a = generator.matrix(alloc, p)?;
+    let form = Echelon::of(rt, alloc, &a, command.workers)?;
+    Ok(Answer::Summary(Summary::of(form.rows())))
 }
 
 // The kernel basis of a matrix.
@@ -112,14 +134,14 @@ pub(crate) fn find_kernel<R: Threads + Sync>(
     rt: &R,
     alloc: Global,
     a: &Rows,
-    workers: u32,
+    command: Command,
 ) -> Result<Answer, Status>
-    requires some { 1 ≤ workers }
-    requires few { workers ≤ 64 }
+    requires some { 1 ≤ command.workers }
+    requires few { command.workers ≤ 64 }
     requires width { a.now.matrix.width < LARGEST_SIZE }
-    ensures { ComesOf task.Kernel a.now.modulus workers (a.now.matrix ∷ []) result }
+    ensures { ComesOf (asking task.Kernel a.now.modulus command) (a.now.matrix ∷ []) result }
 {
-    let form = Echelon::of(rt, alloc, a, workers)?;
+    let form = Echelon::of(rt, alloc, a, command.workers)?;
     let basis = kernel_solve::kernel(alloc, &form)?;
     Ok(Answer::Matrix(basis))
 }
@@ -129,14 +151,14 @@ pub(crate) fn find_left_kernel<R: Threads + Sync>(
     rt: &R,
     alloc: Global,
     a: &Rows,
-    workers: u32,
+    command: Command,
 ) -> Result<Answer, Status>
-    requires some { 1 ≤ workers }
-    requires few { workers ≤ 64 }
+    requires some { 1 ≤ command.workers }
+    requires few { command.workers ≤ 64 }
     requires height { a.now.matrix.height < LARGEST_SIZE }
-    ensures { ComesOf task.LeftKernel a.now.modulus workers (a.now.matrix ∷ []) result }
+    ensures { ComesOf (asking task.LeftKernel a.now.modulus command) (a.now.matrix ∷ []) result }
 {
-    let basis = kernel_solve::left_kernel(rt, alloc, a, workers)?;
+    let basis = kernel_solve::left_kernel(rt, alloc, a, command.workers)?;
     Ok(Answer::Matrix(basis))
 }
 
@@ -145,11 +167,11 @@ pub(crate) fn find_inverse<R: Threads + Sync>(
     rt: &R,
     alloc: Global,
     a: &Rows,
-    workers: u32,
+    command: Command,
 ) -> Result<Answer, Status>
-    requires some { 1 ≤ workers }
-    requires few { workers ≤ 64 }
-    ensures { ComesOf task.Inverse a.now.modulus workers (a.now.matrix ∷ []) result }
+    requires some { 1 ≤ command.workers }
+    requires few { command.workers ≤ 64 }
+    ensures { ComesOf (asking task.Inverse a.now.modulus command) (a.now.matrix ∷ []) result }
 {
     row_space::inverse_excludes_null();
     let height = a.height();
@@ -160,7 +182,7 @@ pub(crate) fn find_inverse<R: Threads + Sync>(
     if LARGEST_INVERTED < height {
         return Err(Status::Wide { height, width });
     }
-    match kernel_solve::inverse(rt, alloc, a, workers)? {
+    match kernel_solve::inverse(rt, alloc, a, command.workers)? {
         Inverse::Of(b) => Ok(Answer::Inverse(b)),
         Inverse::Singular(v) => Ok(Answer::Singular(v)),
     }
@@ -172,24 +194,24 @@ pub(crate) fn find_solution<R: Threads + Sync>(
     alloc: Global,
     a: &Rows,
     b: &Rows,
-    workers: u32,
+    command: Command,
 ) -> Result<Answer, Status>
-    requires some { 1 ≤ workers }
-    requires few { workers ≤ 64 }
+    requires some { 1 ≤ command.workers }
+    requires few { command.workers ≤ 64 }
     requires moduli { a.now.modulus ≡ b.now.modulus }
     requires height { a.now.matrix.height < LARGEST_SIZE }
     requires width { a.now.matrix.width < LARGEST_SIZE }
-    ensures { ComesOf task.Solve a.now.modulus workers (a.now.matrix ∷ b.now.matrix ∷ []) result }
+    ensures { ComesOf (asking task.Solve a.now.modulus command) (a.now.matrix ∷ b.now.matrix ∷ []) result }
 {
     let height = b.height();
     let width = b.width();
     if height != a.height() || width != 1 {
         return Err(Status::Shape { height, width });
     }
-    match solve(rt, alloc, a.beside(alloc, b)?, workers)? {
+    match solve(rt, alloc, a.beside(alloc, b)?, command.workers)? {
         Found::Solution(x) => Ok(Answer::Solution(x)),
         Found::Inconsistent => {
-            let y = refutation(rt, alloc, a, b, workers)?;
+            let y = refutation(rt, alloc, a, b, command.workers)?;
             Ok(Answer::Refutation(y))
         }
     }

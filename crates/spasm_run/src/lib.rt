@@ -3,15 +3,19 @@
 
 mod answer;
 mod commands;
+mod generator;
 mod numbered_text;
 mod plain_elimination;
+mod random_numbers;
 mod read_matrices;
 mod running;
 mod status;
+mod summary;
 pub mod words;
 mod written_pivots;
 
 pub use commands::{LARGEST_INVERTED, at_most_one_answer};
+pub use generator::{Generator, LARGEST_GENERATED, MOST_PER_ROW, generated_example};
 pub use optimistic_search::{Gate, Open, Point};
 pub use plain_elimination::{plain_rows, rank_of};
 pub use running::{run, run_within};

@@ -1,12 +1,13 @@
 // A run, from words and bytes to an answer.
-ghost use Rattle.std.specs.Prelude.{◌≡◌, ◌<◌, ◌≤◌, ℕ, List, true, false, IfOk};
+ghost use Rattle.std.specs.Prelude.{◌≡◌, ◌<◌, ◌≤◌, ℕ, List, [], true, false, IfOk};
 ghost use Rattle.residue_words.specs.declared.modulus.TheConstants.{MODULUS_BOUND};
 ghost use Rattle.sms_text.specs.declared.reader.TheConstants.{LARGEST_INPUT};
-ghost use Rattle.spasm_run.specs.Computed.{IsSmall, WasFound};
+ghost use Rattle.spasm_run.specs.Computed.{IsOfSizes, IsSmall, WasFound};
 ghost use Rattle.spasm_run.specs.Options.{bytes_of};
-ghost use Rattle.spasm_run.specs.Ran.{Ran};
+ghost use Rattle.spasm_run.specs.Answers.{wanted};
+ghost use Rattle.spasm_run.specs.Ran.{Ran, WantNothing};
 ghost use Rattle.spasm_run.specs.Status.{SaysWhy, is_answered, is_written};
-ghost use Rattle.spasm_run.specs.Words.{Accepted, AreRefused};
+ghost use Rattle.spasm_run.specs.Words.{Accepted};
 
 #[cfg(test)]
 pub(crate) mod tests;
@@ -14,6 +15,7 @@ pub(crate) mod tests;
 use crate::answer::Answer;
 use crate::commands::{
     find_form, find_inverse, find_kernel, find_left_kernel, find_pivots, find_rank, find_solution,
+    find_summary,
 };
 use crate::read_matrices::{read_one, read_two};
 use crate::status::Status;
@@ -27,9 +29,9 @@ use std::thread::Threads;
 /// Runs the command that the words ask for: reads its matrices from the source, and writes its answer to `out`, all at once and only if all
 /// went well. Where it did not, one line that says why goes to `err`.
 ///
-/// Words that aren't accepted are refused before anything is read. A source is read up to the last line that is wanted and no further, in at
-/// most `LARGEST_INPUT` bytes, and the first faulty line is named. Memory is wanted for the entries, at most 40 bytes each while they are
-/// read, for the rows, and for the echelon forms and what is made of them; none for writing.
+/// Words that aren't accepted are refused before anything is read, and nothing is read for a matrix that is generated. A source is read up
+/// to the last line that is wanted and no further, in at most `LARGEST_INPUT` bytes, and the first faulty line is named. Memory is wanted for
+/// the entries, at most 40 bytes each while they are read, for the rows, and for the echelon forms and what is made of them; none for writing.
 /// `rt` starts the threads of a command's workers, and `gate` serves commands that search.
 pub fn run<'a, R: Threads + Sync, S: Source, K: Sink, E: Sink, G: Gate>(
     rt: &R,
@@ -49,7 +51,7 @@ pub fn run<'a, R: Threads + Sync, S: Source, K: Sink, E: Sink, G: Gate>(
       out_after = K.state out.new;
     }) result }
     ensures err { SaysWhy result (E.state err.old) (E.state err.new) }
-    ensures unread { AreRefused (bytes_of words.now) → source.new ≡ source.old }
+    ensures unread { WantNothing (bytes_of words.now) → source.new ≡ source.old }
     ensures unwritten { is_written result ≡ false → out.new ≡ out.old }
     ensures silent { is_answered result ≡ true → err.new ≡ err.old }
 {
@@ -77,7 +79,7 @@ pub fn run_within<'a, R: Threads + Sync, S: Source, K: Sink, E: Sink, G: Gate>(
       out_after = K.state out.new;
     }) result }
     ensures err { SaysWhy result (E.state err.old) (E.state err.new) }
-    ensures unread { AreRefused (bytes_of words.now) → source.new ≡ source.old }
+    ensures unread { WantNothing (bytes_of words.now) → source.new ≡ source.old }
     ensures unwritten { is_written result ≡ false → out.new ≡ out.old }
     ensures silent { is_answered result ≡ true → err.new ≡ err.old }
 {
@@ -105,7 +107,7 @@ fn answer<'a, R: Threads + Sync, S: Source, K: Sink, G: Gate>(
       out = K.state out.old;
       out_after = K.state out.new;
     }) result }
-    ensures unread { AreRefused (bytes_of words.now) → source.new ≡ source.old }
+    ensures unread { WantNothing (bytes_of words.now) → source.new ≡ source.old }
     ensures unwritten { is_written result ≡ false → out.new ≡ out.old }
 {
     match find(rt, alloc, words, source, gate, limit) {
@@ -128,7 +130,7 @@ fn find<'a, R: Threads + Sync, S: Source, G: Gate>(
 ) -> Result<Answer, Status>
     requires { limit ≤ LARGEST_INPUT }
     ensures found { WasFound (bytes_of words.now) limit result (S.state source.old) (S.state source.new) }
-    ensures unread { AreRefused (bytes_of words.now) → source.new ≡ source.old }
+    ensures unread { WantNothing (bytes_of words.now) → source.new ≡ source.old }
     ensures small { IfOk result IsSmall }
 {
     match read_words(alloc, words) {
@@ -152,35 +154,29 @@ fn find_for<R: Threads + Sync, S: Source, G: Gate>(
     requires in_range { command.modulus < MODULUS_BOUND }
     requires some { 1 ≤ command.workers }
     requires few { command.workers ≤ 64 }
+    requires generator { IsOfSizes command.task }
     ensures found { (words : List (List ℕ)) → Accepted words command
         → WasFound words limit result (S.state source.old) (S.state source.new) }
+    ensures unread { wanted command.task ≡ [] → source.new ≡ source.old }
     ensures small { IfOk result IsSmall }
 {
     let p = Modulus::new(command.modulus);
-    let workers = command.workers;
     match command.task {
-        Task::Rank => {
-            let a = read_one(alloc, &p, source, limit)?;
-            find_rank(rt, alloc, &a, workers, command.rounds)
-        }
-        Task::Rref => find_form(rt, alloc, &read_one(alloc, &p, source, limit)?, workers),
-        Task::Kernel => find_kernel(rt, alloc, &read_one(alloc, &p, source, limit)?, workers),
+        Task::Rank => find_rank(rt, alloc, &read_one(alloc, &p, source, limit)?, command),
+        Task::Rref => find_form(rt, alloc, &read_one(alloc, &p, source, limit)?, command),
+        Task::Kernel => find_kernel(rt, alloc, &read_one(alloc, &p, source, limit)?, command),
         Task::Solve => {
             let (a, b) = read_two(alloc, &p, source, limit)?;
-            find_solution(rt, alloc, &a, &b, workers)
+            find_solution(rt, alloc, &a, &b, command)
         }
         Task::LeftKernel => {
-            find_left_kernel(rt, alloc, &read_one(alloc, &p, source, limit)?, workers)
+            find_left_kernel(rt, alloc, &read_one(alloc, &p, source, limit)?, command)
         }
-        Task::Inverse => find_inverse(rt, alloc, &read_one(alloc, &p, source, limit)?, workers),
+        Task::Inverse => find_inverse(rt, alloc, &read_one(alloc, &p, source, limit)?, command),
         Task::Pivots => {
-            find_pivots(
-                rt,
-                alloc,
-                &read_one(alloc, &p, source, limit)?,
-                workers,
-                gate,
-            )
+            let a = read_one(alloc, &p, source, limit)?;
+            find_pivots(rt, alloc, &a, command, gate)
         }
+        Task::Drill(generator) => find_summary(rt, alloc, &p, &generator, command),
     }
 }

@@ -1,24 +1,22 @@
 // The words of the command line.
-ghost use Rattle.std.specs.Prelude.{◌≡◌, ◌≤◌, ℕ, true, false, codes, min, IfOk, MatchOption};
+ghost use Rattle.std.specs.Prelude.{◌≡◌, ℕ, All, true, false, codes, IfOk, MatchOption};
 ghost use Rattle.std.specs.List.{list_any};
 ghost use Rattle.std.specs.Str.{bytes_eq};
-ghost use Rattle.clap.specs.Words.{first_value, found_of, subcommand_rows_of};
-ghost use Rattle.sms_text.specs.Numbers.{is_number, value};
-ghost use Rattle.spasm_run.specs.Words.{IsInRange};
-ghost use Rattle.spasm_run.specs.Options.{AcceptedIsPlain, IsCommandOf, IsNumberOf, IsOneCommand, AreTaken, AsksFor, bytes_of};
+ghost use Rattle.clap.specs.Words.{first_value, found_of, rows_of, subcommand_rows_of};
+ghost use Rattle.spasm_run.specs.Words.{IsInRange, own_settings};
+ghost use Rattle.spasm_run.specs.Options.{AcceptedIsPlain, IsCommandOf, IsNumberOf, IsOneCommand, IsTaskOf};
+ghost use Rattle.spasm_run.specs.Options.{AreTaken, AsksFor, RowsSet, bytes_of};
+ghost use Rattle.spasm_run.specs.declared.words.Task.TheVariants as task;
 
 pub mod command_line;
 #[cfg(test)]
 mod tests;
 
+use crate::generator::{Generator, LARGEST_GENERATED, MOST_PER_ROW};
 use clap::ArgMatches;
 use clap::error::ErrorKind;
 use residue_words::MODULUS_BOUND;
-use sms_text::capped;
 use std::alloc::{AllocError, Global};
-
-// The largest number of an option, a modulus. The bound above it is as good as any larger number.
-const LARGEST: u64 = MODULUS_BOUND - 1;
 
 /// What is asked for.
 #[derive(Clone, Copy, Debug, PartialEq, Eq)]
@@ -37,6 +35,8 @@ pub enum Task {
     Inverse,
     /// The structural pivots of a matrix.
     Pivots,
+    /// A summary of the echelon form of a matrix that is generated.
+    Drill(Generator),
 }
 
 /// What is asked for, modulo what, and how it is to be worked out.
@@ -107,10 +107,10 @@ fn command_of(matches: &ArgMatches<'_>) -> Option<Command>
         (AsksFor (subcommand_rows_of matches.now)) }
 {
     let (name, options) = matches.subcommand()?;
-    let task = command_line::task_of(name)?;
-    let modulus = number_of(options, "modulus", 2, LARGEST, 42_013)?;
-    let workers = number_of(options, "workers", 1, 64, 1)?;
-    let rounds = number_of(options, "rounds", 0, 16, 3)?;
+    let modulus = number_of(options, "modulus", 2, MODULUS_BOUND - 1, Some(42_013))?;
+    let workers = number_of(options, "workers", 1, 64, Some(1))?;
+    let rounds = number_of(options, "rounds", 0, 16, Some(3))?;
+    let task = task_of(name, options)?;
     Some(Command {
         task,
         modulus,
@@ -119,23 +119,68 @@ fn command_of(matches: &ArgMatches<'_>) -> Option<Command>
     })
 }
 
+// The task of this name, with what its own options give.
+fn task_of(name: &str, options: &ArgMatches<'_>) -> Option<Task>
+    ensures { MatchOption result
+        ((t : Task) → ¬ IsTaskOf name.now (rows_of (found_of options.now)) t)
+        (IsTaskOf name.now (rows_of (found_of options.now))) }
+{
+    if name == "drill" {
+        let generator = generator_of(options)?;
+        return Some(Task::Drill(generator));
+    }
+    command_line::bare_task(name)
+}
+
+// What a matrix is to be generated from.
+fn generator_of(options: &ArgMatches<'_>) -> Option<Generator>
+    ensures { MatchOption result
+        ((g : Generator) → ¬ All (RowsSet (rows_of (found_of options.now))) (own_settings (task.Drill g)))
+        (λ g. All (RowsSet (rows_of (found_of options.now))) (own_settings (task.Drill g))) }
+{
+    let seed = number_of(options, "seed", 0, u64::MAX, None)?;
+    let rows = number_of(options, "rows", 1, LARGEST_GENERATED, None)?;
+    let cols = number_of(options, "cols", 1, LARGEST_GENERATED, None)?;
+    let per = number_of(options, "per", 0, MOST_PER_ROW, None)?;
+    Some(Generator {
+        seed,
+        rows: rows as u32,
+        cols: cols as u32,
+        per: per as u32,
+    })
+}
+
 // The number that the option of this name gives, or the one that stands where it is absent.
-fn number_of(options: &ArgMatches<'_>, name: &str, low: u64, high: u64, absent: u64) -> Option<u64>
-    requires { high ≤ LARGEST }
-    ensures { IsNumberOf low high absent (first_value (found_of options.now) name.now) result }
+fn number_of(
+    options: &ArgMatches<'_>,
+    name: &str,
+    low: u64,
+    high: u64,
+    absent: Option<u64>,
+) -> Option<u64>
+    ensures { IsNumberOf (record { name = name.now; low = low; high = high; absent = absent })
+        (first_value (found_of options.now) name.now) result }
 {
     match options.get_str(name) {
         Some(text) => number_in(text.as_bytes(), low, high),
-        None => Some(absent),
+        None => absent,
     }
 }
 
 // The number that digits spell, if it lies from low to high.
 fn number_in(word: &[u8], low: u64, high: u64) -> Option<u64>
-    requires { high ≤ LARGEST }
     ensures { MatchOption result ((n : ℕ) → ¬ IsInRange low high word.now n) (IsInRange low high word.now) }
 {
-    let number = capped(word, MODULUS_BOUND)?;
+    if word.is_empty() {
+        return None;
+    }
+    let mut number = 0u64;
+    for b in word {
+        if !b.is_ascii_digit() {
+            return None;
+        }
+        number = number.checked_mul(10)?.checked_add(u64::from(*b - b'0'))?;
+    }
     if number < low || high < number {
         return None;
     }

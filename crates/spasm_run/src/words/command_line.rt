@@ -1,15 +1,15 @@
 // The command line as `clap` takes it: the names of the commands, and of their options.
-ghost use Rattle.std.specs.Prelude.{◌≡◌, ◌≢◌, IfOk, MatchOption, false};
+ghost use Rattle.std.specs.Prelude.{◌≡◌, IfOk, MatchOption, false, map};
 ghost use Rattle.clap.specs.Words.{app_of, rule_of};
 ghost use Rattle.clap.specs.declared.builder.command.Command.TheViews.{out-Command as fields_of};
-ghost use Rattle.spasm_run.specs.Words.{task_name};
-ghost use Rattle.spasm_run.specs.Line.{command_line, command_named, option_rule};
+ghost use Rattle.spasm_run.specs.Line.{command_line, command_named, option_rule, with_options};
+ghost use Rattle.spasm_run.specs.Options.{IsBareTask};
 
 use crate::words::Task;
 use clap::{Arg, ArgAction};
 use std::alloc::{AllocError, Global};
 
-// Each command's name, with what it asks for.
+// The commands without options of their own: each one's name, with what it asks for.
 static TASKS: [(&str, Task); 7] = [
     ("rank", Task::Rank),
     ("rref", Task::Rref),
@@ -20,8 +20,11 @@ static TASKS: [(&str, Task); 7] = [
     ("pivots", Task::Pivots),
 ];
 
-// The options' names. Each command has each option.
+// The names of the options that each command has.
 static OPTIONS: [&str; 3] = ["modulus", "workers", "rounds"];
+
+// The names of the options of `drill` alone.
+static DRILL_OPTIONS: [&str; 4] = ["seed", "rows", "cols", "per"];
 
 /// The command line: one level of commands, each with options that take one value each and come once at most. There is no help
 /// and no version, and the words begin behind the program's name.
@@ -35,22 +38,44 @@ pub fn command<'a>(alloc: Global) -> Result<clap::Command<'a>, AllocError>
         .disable_help_subcommand(true)
         .disable_version_flag(true);
     for (name, _) in &TASKS {
-        let named = with_options(alloc, name)?;
+        let named = named_command(alloc, name, &[])?;
         line = line.subcommand(named)?;
     }
-    Ok(line)
+    let drill = named_command(alloc, "drill", &DRILL_OPTIONS)?;
+    line.subcommand(drill)
 }
 
-// The command of this name, with its options.
-fn with_options<'a>(alloc: Global, name: &'a str) -> Result<clap::Command<'a>, AllocError>
+// The command of this name, with the options of all commands and its own.
+fn named_command<'a>(
+    alloc: Global,
+    name: &'a str,
+    own: &'a [&'a str],
+) -> Result<clap::Command<'a>, AllocError>
     ensures { IfOk result (λ c.
-        (app_of c ≡ command_named name.entry.now) × ((fields_of c).has_globals ≡ false)) }
+        (app_of c ≡ command_named name.entry.now (map (λ o. o.now) own.entry.now))
+        × ((fields_of c).has_globals ≡ false)) }
 {
-    let mut named = clap::Command::new(alloc, name);
-    for option in &OPTIONS {
-        named = named.arg(one_option(alloc, option))?;
+    let named = clap::Command::new(alloc, name);
+    let named = with_options(alloc, named, &OPTIONS)?;
+    with_options(alloc, named, own)
+}
+
+// The command with more options.
+fn with_options<'a>(
+    alloc: Global,
+    command: clap::Command<'a>,
+    names: &'a [&'a str],
+) -> Result<clap::Command<'a>, AllocError>
+    requires { (fields_of command).has_globals ≡ false }
+    ensures { IfOk result (λ c.
+        (app_of c ≡ with_options (app_of command.entry) (map (λ o. o.now) names.entry.now))
+        × ((fields_of c).has_globals ≡ false)) }
+{
+    let mut command = command;
+    for name in names {
+        command = command.arg(one_option(alloc, name))?;
     }
-    Ok(named)
+    Ok(command)
 }
 
 // The option of this name, which takes one value and comes once at most.
@@ -60,9 +85,9 @@ fn one_option<'a>(alloc: Global, name: &'a str) -> Arg<'a>
     Arg::new(alloc, name).long(name).action(ArgAction::Set)
 }
 
-// The task of this name.
-pub(super) fn task_of(name: &str) -> Option<Task>
-    ensures { MatchOption result ((t : Task) → name.now ≢ task_name t) (λ t. name.now ≡ task_name t) }
+// The task of this name, if it has no options of its own.
+pub(super) fn bare_task(name: &str) -> Option<Task>
+    ensures { MatchOption result ((t : Task) → ¬ IsBareTask name.now t) (IsBareTask name.now) }
 {
     for (known, task) in &TASKS {
         if name == *known {

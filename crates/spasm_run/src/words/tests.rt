@@ -1,4 +1,5 @@
 //! The words that are accepted, with the command that they ask for, and words that are refused.
+use crate::generator::Generator;
 use crate::words::{Command, Task, command_line, read_words};
 
 const ACCEPTED: &[(&[&str], Task, u64, u32, u32)] = &[
@@ -56,6 +57,42 @@ const ACCEPTED: &[(&[&str], Task, u64, u32, u32)] = &[
         65_537,
         1,
         16,
+    ),
+    (
+        &[
+            "drill", "--seed", "0", "--rows", "1", "--cols", "1", "--per", "0",
+        ],
+        Task::Drill(Generator {
+            seed: 0,
+            rows: 1,
+            cols: 1,
+            per: 0,
+        }),
+        42_013,
+        1,
+        3,
+    ),
+    (
+        &[
+            "drill",
+            "--per=1000",
+            "--modulus=7",
+            "--cols",
+            "1000000",
+            "--workers",
+            "2",
+            "--rows=01000000",
+            "--seed=0018446744073709551615",
+        ],
+        Task::Drill(Generator {
+            seed: u64::MAX,
+            rows: 1_000_000,
+            cols: 1_000_000,
+            per: 1_000,
+        }),
+        7,
+        2,
+        3,
     ),
 ];
 
@@ -124,6 +161,53 @@ const REFUSED: &[&[&str]] = &[
     &["rank", "--modulus", "99999999999999999999"],
     &["rank", "--modulus", "18446744073709551623"],
     &["rank", "--workers", "4294967297"],
+    &["rank", "--seed", "1"],
+    &["pivots", "--rows=1"],
+    &["drill"],
+    &["drill", "--rows=1", "--cols=1", "--per=1"],
+    &["drill", "--seed=1", "--cols=1", "--per=1"],
+    &["drill", "--seed=1", "--rows=1", "--per=1"],
+    &["drill", "--seed=1", "--rows=1", "--cols=1"],
+    &[
+        "drill", "--seed=1", "--rows=1", "--cols=1", "--per=1", "--seed=1",
+    ],
+    &[
+        "drill",
+        "--seed=18446744073709551616",
+        "--rows=1",
+        "--cols=1",
+        "--per=1",
+    ],
+    &[
+        "drill",
+        "--seed=99999999999999999999",
+        "--rows=1",
+        "--cols=1",
+        "--per=1",
+    ],
+    &["drill", "--seed=-1", "--rows=1", "--cols=1", "--per=1"],
+    &["drill", "--seed=", "--rows=1", "--cols=1", "--per=1"],
+    &["drill", "--seed=1", "--rows=0", "--cols=1", "--per=1"],
+    &["drill", "--seed=1", "--rows=1000001", "--cols=1", "--per=1"],
+    &["drill", "--seed=1", "--rows=1", "--cols=0", "--per=1"],
+    &["drill", "--seed=1", "--rows=1", "--cols=1000001", "--per=1"],
+    &["drill", "--seed=1", "--rows=1", "--cols=1", "--per=1001"],
+    &[
+        "drill",
+        "--seed=1",
+        "--rows=1",
+        "--cols=1",
+        "--per=1",
+        "--workers=0",
+    ],
+    &[
+        "drill",
+        "--seed=1",
+        "--rows=1",
+        "--cols=1",
+        "--per=1",
+        "--kind=rank",
+    ],
 ];
 
 #[test]

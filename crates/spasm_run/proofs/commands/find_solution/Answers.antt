@@ -14,7 +14,7 @@ returns-in-Solution g c =
     let narrow : B.width ≡ 1 = omega (arith, c.width-width.ensures.value) in
     let system = c.in_ok-beside in
     let found = c.in_ok-x in
-    solution_answers p A B c.height.ensures.sound side heights narrow _ _ found.field-0 c.in-Solution.x c.requires.width
+    solution_answers p A B c.height.ensures.sound side heights narrow c.args.command _ _ found.field-0 c.in-Solution.x c.requires.width
     system.ensures.modulus system.ensures.matrix found.ensures.shape found.ensures.tells c.in-Solution.is
 
 pub returns-in_ok-y-in-Inconsistent : goal.returns-in_ok-y-in-Inconsistent
@@ -28,5 +28,5 @@ returns-in_ok-y-in-Inconsistent g c =
     let system = c.in_ok-beside in
     let found = c.in_ok-x in
     let y = c.in_ok-y-in-Inconsistent in
-    refutation_answers p A B c.height.ensures.sound side heights narrow _ _ found.field-0 y.y c.requires.height
+    refutation_answers p A B c.height.ensures.sound side heights narrow c.args.command _ _ found.field-0 y.y c.requires.height
     system.ensures.modulus system.ensures.matrix found.ensures.tells c.in-Inconsistent.is y.ensures.row y.ensures.width y.ensures.refutes

@@ -1,68 +1,72 @@
 -- What is found for the matrices of a command is found for its words.
 use Rattle.std.proofs.Common.{[], ◌∷◌}
 use Rattle.spasm_run.specs.declared.words.Task.TheVariants as task
-use Rattle.spasm_run.proofs.Whole.{found_given, found_unread}
+use Rattle.spasm_run.proofs.Whole.{found_generated, found_given, found_unread}
 use Rattle.spasm_run.proofs.running.find_for.Goals as goal
 
-pub returns-in_ok-a-in-Rank-clause-found : goal.returns-in_ok-a-in-Rank-clause-found
-returns-in_ok-a-in-Rank-clause-found g c = λ words accepted.
-    let a = c.in_ok-a-in-Rank in
-    found_given words c.args.command task.Rank c.new-p.result a.a.modulus c.args.limit _ _ (a.a.matrix ∷ []) _ c.in-Rank.is c.new-p.ensures a.ensures.matrix.modulus accepted a.ensures.did c.find_rank.ensures
+pub returns-in_ok-read_one-in-Rank-clause-found : goal.returns-in_ok-read_one-in-Rank-clause-found
+returns-in_ok-read_one-in-Rank-clause-found g c = λ words accepted.
+    let a = c.in_ok-read_one-in-Rank in
+    found_given words c.args.command task.Rank c.new-p.result a.field-0.modulus c.args.limit _ _ (a.field-0.matrix ∷ []) _ c.in-Rank.is c.new-p.ensures a.ensures.matrix.modulus accepted a.ensures.did c.find_rank-in-Rank.ensures
+
+pub returns-in_err-read_one-in-Rank-clause-found : goal.returns-in_err-read_one-in-Rank-clause-found
+returns-in_err-read_one-in-Rank-clause-found g c = λ words accepted.
+    found_unread words c.args.command task.Rank c.new-p.result c.args.limit _ _ c.in_err-read_one-in-Rank.field-0.0 _ c.in-Rank.is c.new-p.ensures c.from_residual.ensures.1 accepted c.in_err-read_one-in-Rank.ensures.did
 
 pub returns-in_ok-read_one-in-Rref-clause-found : goal.returns-in_ok-read_one-in-Rref-clause-found
 returns-in_ok-read_one-in-Rref-clause-found g c = λ words accepted.
     let a = c.in_ok-read_one-in-Rref in
     found_given words c.args.command task.Rref c.new-p.result a.field-0.modulus c.args.limit _ _ (a.field-0.matrix ∷ []) _ c.in-Rref.is c.new-p.ensures a.ensures.matrix.modulus accepted a.ensures.did c.find_form-in-Rref.ensures
 
+pub returns-in_err-read_one-in-Rref-clause-found : goal.returns-in_err-read_one-in-Rref-clause-found
+returns-in_err-read_one-in-Rref-clause-found g c = λ words accepted.
+    found_unread words c.args.command task.Rref c.new-p.result c.args.limit _ _ c.in_err-read_one-in-Rref.field-0.0 _ c.in-Rref.is c.new-p.ensures c.from_residual-in_err-read_one-in-Rref.ensures.1 accepted c.in_err-read_one-in-Rref.ensures.did
+
 pub returns-in_ok-read_one-in-Kernel-clause-found : goal.returns-in_ok-read_one-in-Kernel-clause-found
 returns-in_ok-read_one-in-Kernel-clause-found g c = λ words accepted.
     let a = c.in_ok-read_one-in-Kernel in
     found_given words c.args.command task.Kernel c.new-p.result a.field-0.modulus c.args.limit _ _ (a.field-0.matrix ∷ []) _ c.in-Kernel.is c.new-p.ensures a.ensures.matrix.modulus accepted a.ensures.did c.find_kernel-in-Kernel.ensures
+
+pub returns-in_err-read_one-in-Kernel-clause-found : goal.returns-in_err-read_one-in-Kernel-clause-found
+returns-in_err-read_one-in-Kernel-clause-found g c = λ words accepted.
+    found_unread words c.args.command task.Kernel c.new-p.result c.args.limit _ _ c.in_err-read_one-in-Kernel.field-0.0 _ c.in-Kernel.is c.new-p.ensures c.from_residual-in_err-read_one-in-Kernel.ensures.1 accepted c.in_err-read_one-in-Kernel.ensures.did
 
 pub returns-in_ok-read_one-in-LeftKernel-clause-found : goal.returns-in_ok-read_one-in-LeftKernel-clause-found
 returns-in_ok-read_one-in-LeftKernel-clause-found g c = λ words accepted.
     let a = c.in_ok-read_one-in-LeftKernel in
     found_given words c.args.command task.LeftKernel c.new-p.result a.field-0.modulus c.args.limit _ _ (a.field-0.matrix ∷ []) _ c.in-LeftKernel.is c.new-p.ensures a.ensures.matrix.modulus accepted a.ensures.did c.find_left_kernel-in-LeftKernel.ensures
 
+pub returns-in_err-read_one-in-LeftKernel-clause-found : goal.returns-in_err-read_one-in-LeftKernel-clause-found
+returns-in_err-read_one-in-LeftKernel-clause-found g c = λ words accepted.
+    found_unread words c.args.command task.LeftKernel c.new-p.result c.args.limit _ _ c.in_err-read_one-in-LeftKernel.field-0.0 _ c.in-LeftKernel.is c.new-p.ensures c.from_residual-in_err-read_one-in-LeftKernel.ensures.1 accepted c.in_err-read_one-in-LeftKernel.ensures.did
+
 pub returns-in_ok-read_one-in-Inverse-clause-found : goal.returns-in_ok-read_one-in-Inverse-clause-found
 returns-in_ok-read_one-in-Inverse-clause-found g c = λ words accepted.
     let a = c.in_ok-read_one-in-Inverse in
     found_given words c.args.command task.Inverse c.new-p.result a.field-0.modulus c.args.limit _ _ (a.field-0.matrix ∷ []) _ c.in-Inverse.is c.new-p.ensures a.ensures.matrix.modulus accepted a.ensures.did c.find_inverse-in-Inverse.ensures
 
-pub returns-in_ok-read_one-in-Pivots-clause-found : goal.returns-in_ok-read_one-in-Pivots-clause-found
-returns-in_ok-read_one-in-Pivots-clause-found g c = λ words accepted.
-    let a = c.in_ok-read_one-in-Pivots in
-    found_given words c.args.command task.Pivots c.new-p.result a.field-0.modulus c.args.limit _ _ (a.field-0.matrix ∷ []) _ c.in-Pivots.is c.new-p.ensures a.ensures.matrix.modulus accepted a.ensures.did c.find_pivots-in-Pivots.ensures
+pub returns-in_err-read_one-in-Inverse-clause-found : goal.returns-in_err-read_one-in-Inverse-clause-found
+returns-in_err-read_one-in-Inverse-clause-found g c = λ words accepted.
+    found_unread words c.args.command task.Inverse c.new-p.result c.args.limit _ _ c.in_err-read_one-in-Inverse.field-0.0 _ c.in-Inverse.is c.new-p.ensures c.from_residual-in_err-read_one-in-Inverse.ensures.1 accepted c.in_err-read_one-in-Inverse.ensures.did
+
+pub returns-in_ok-a-in-Pivots-clause-found : goal.returns-in_ok-a-in-Pivots-clause-found
+returns-in_ok-a-in-Pivots-clause-found g c = λ words accepted.
+    let a = c.in_ok-a-in-Pivots in
+    found_given words c.args.command task.Pivots c.new-p.result a.a.modulus c.args.limit _ _ (a.a.matrix ∷ []) _ c.in-Pivots.is c.new-p.ensures a.ensures.matrix.modulus accepted a.ensures.did c.find_pivots.ensures
+
+pub returns-in_err-a-in-Pivots-clause-found : goal.returns-in_err-a-in-Pivots-clause-found
+returns-in_err-a-in-Pivots-clause-found g c = λ words accepted.
+    found_unread words c.args.command task.Pivots c.new-p.result c.args.limit _ _ c.in_err-a-in-Pivots.field-0.0 _ c.in-Pivots.is c.new-p.ensures c.from_residual-in_err-a-in-Pivots.ensures.1 accepted c.in_err-a-in-Pivots.ensures.did
 
 pub returns-in_ok-a-in-Solve-clause-found : goal.returns-in_ok-a-in-Solve-clause-found
 returns-in_ok-a-in-Solve-clause-found g c = λ words accepted.
     let both = c.in_ok-a-in-Solve in
     found_given words c.args.command task.Solve c.new-p.result both.a.modulus c.args.limit _ _ (both.a.matrix ∷ both.b.matrix ∷ []) _ c.in-Solve.is c.new-p.ensures both.ensures.first.modulus accepted both.ensures.did c.find_solution.ensures
 
-pub returns-in_err-a-in-Rank-clause-found : goal.returns-in_err-a-in-Rank-clause-found
-returns-in_err-a-in-Rank-clause-found g c = λ words accepted.
-    found_unread words c.args.command task.Rank c.new-p.result c.args.limit _ _ c.in_err-a-in-Rank.field-0.0 _ c.in-Rank.is c.new-p.ensures c.from_residual.ensures.1 accepted c.in_err-a-in-Rank.ensures.did
-
-pub returns-in_err-read_one-in-Rref-clause-found : goal.returns-in_err-read_one-in-Rref-clause-found
-returns-in_err-read_one-in-Rref-clause-found g c = λ words accepted.
-    found_unread words c.args.command task.Rref c.new-p.result c.args.limit _ _ c.in_err-read_one-in-Rref.field-0.0 _ c.in-Rref.is c.new-p.ensures c.from_residual-in_err-read_one-in-Rref.ensures.1 accepted c.in_err-read_one-in-Rref.ensures.did
-
-pub returns-in_err-read_one-in-Kernel-clause-found : goal.returns-in_err-read_one-in-Kernel-clause-found
-returns-in_err-read_one-in-Kernel-clause-found g c = λ words accepted.
-    found_unread words c.args.command task.Kernel c.new-p.result c.args.limit _ _ c.in_err-read_one-in-Kernel.field-0.0 _ c.in-Kernel.is c.new-p.ensures c.from_residual-in_err-read_one-in-Kernel.ensures.1 accepted c.in_err-read_one-in-Kernel.ensures.did
-
 pub returns-in_err-a-in-Solve-clause-found : goal.returns-in_err-a-in-Solve-clause-found
 returns-in_err-a-in-Solve-clause-found g c = λ words accepted.
     found_unread words c.args.command task.Solve c.new-p.result c.args.limit _ _ c.in_err-a-in-Solve.field-0.0 _ c.in-Solve.is c.new-p.ensures c.from_residual-in_err-a-in-Solve.ensures.1 accepted c.in_err-a-in-Solve.ensures.did
 
-pub returns-in_err-read_one-in-LeftKernel-clause-found : goal.returns-in_err-read_one-in-LeftKernel-clause-found
-returns-in_err-read_one-in-LeftKernel-clause-found g c = λ words accepted.
-    found_unread words c.args.command task.LeftKernel c.new-p.result c.args.limit _ _ c.in_err-read_one-in-LeftKernel.field-0.0 _ c.in-LeftKernel.is c.new-p.ensures c.from_residual-in_err-read_one-in-LeftKernel.ensures.1 accepted c.in_err-read_one-in-LeftKernel.ensures.did
-
-pub returns-in_err-read_one-in-Inverse-clause-found : goal.returns-in_err-read_one-in-Inverse-clause-found
-returns-in_err-read_one-in-Inverse-clause-found g c = λ words accepted.
-    found_unread words c.args.command task.Inverse c.new-p.result c.args.limit _ _ c.in_err-read_one-in-Inverse.field-0.0 _ c.in-Inverse.is c.new-p.ensures c.from_residual-in_err-read_one-in-Inverse.ensures.1 accepted c.in_err-read_one-in-Inverse.ensures.did
-
-pub returns-in_err-read_one-in-Pivots-clause-found : goal.returns-in_err-read_one-in-Pivots-clause-found
-returns-in_err-read_one-in-Pivots-clause-found g c = λ words accepted.
-    found_unread words c.args.command task.Pivots c.new-p.result c.args.limit _ _ c.in_err-read_one-in-Pivots.field-0.0 _ c.in-Pivots.is c.new-p.ensures c.from_residual-in_err-read_one-in-Pivots.ensures.1 accepted c.in_err-read_one-in-Pivots.ensures.did
+pub returns-in-Drill-clause-found : goal.returns-in-Drill-clause-found
+returns-in-Drill-clause-found g c = λ words accepted.
+    found_generated words c.args.command c.in-Drill.generator c.new-p.result c.args.limit _ _ c.in-Drill.is c.new-p.ensures accepted c.find_summary.ensures

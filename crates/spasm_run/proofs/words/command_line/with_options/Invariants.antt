@@ -4,5 +4,5 @@ use Rattle.clap.specs.declared.builder.command.Command.TheViews.{out-Command as 
 use Rattle.spasm_run.proofs.Building.{options_so_far}
 use Rattle.spasm_run.proofs.words.command_line.with_options.Given as goal
 
-abbrev pub invariant-loop-option : goal.invariant-loop-option
-invariant-loop-option l = (app_of l.named ≡ options_so_far l.name (take l.option-index l.option-items)) × ((fields_of l.named).has_globals ≡ false)
+abbrev pub invariant-loop-name : goal.invariant-loop-name
+invariant-loop-name l = (app_of l.command ≡ options_so_far (app_of l.initial.command) (take l.name-index l.names)) × ((fields_of l.command).has_globals ≡ false)

@@ -1,5 +1,5 @@
 use Rattle.spasm_run.proofs.Written.{writes_then, writes_stops}
-use Rattle.spasm_run.proofs.answer.write_rank.Goals as goal
+use Rattle.spasm_run.proofs.numbered_text.write_line.Goals as goal
 
 pub returns-in_err-write_with_number : goal.returns-in_err-write_with_number
 returns-in_err-write_with_number g c =

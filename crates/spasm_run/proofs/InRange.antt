@@ -1,0 +1,50 @@
+-- The numbers of an accepted command lie in their ranges.
+use Rattle.std.proofs.Common.{ℕ, suc, ◌≡◌, ◌-◌, ◌<◌, ◌≤◌, All, List, Option, Some, None, ap, arith}
+use Rattle.std.specs.Prelude.{unwrap_or}
+use Rattle.residue_words.specs.declared.modulus.TheConstants.{MODULUS_BOUND}
+use Rattle.spasm_run.specs.declared.words.Command.{Command}
+use Rattle.spasm_run.specs.declared.words.Task.{Task}
+use Rattle.spasm_run.specs.declared.words.Task.TheVariants.{Rank, Rref, Kernel, Solve, LeftKernel, Inverse, Pivots, Drill}
+use Rattle.spasm_run.specs.Computed.{IsOfSizes}
+use Rattle.spasm_run.specs.Words.{Accepted, Given, IsNumber, IsSetBy, Rule, cols_rule, modulus_rule, own_settings, rows_rule, setting, workers_rule}
+
+-- a number of an option, where the one that stands for nothing lies in the range too
+number_in_range : (rule : Rule) (text : Option (List ℕ)) (n : ℕ) → ((m : ℕ) → rule.absent ≡ Some m → (rule.low ≤ m) × (m ≤ rule.high)) → IsNumber rule text n → (rule.low ≤ n) × (n ≤ rule.high)
+number_in_range rule None n absent is = absent n is
+number_in_range rule (Some w) n absent is = (is.2, is.3)
+
+by_default : (low high d m : ℕ) → Some d ≡ Some m → low ≤ d → d ≤ high → (low ≤ m) × (m ≤ high)
+by_default low high d m e l h = let same : d ≡ m = ap (λ (o : Option ℕ). unwrap_or o 0) e in (omega (arith, same, l), omega (arith, same, h))
+
+no_default : (low high m : ℕ) → None ≡ Some m → (low ≤ m) × (m ≤ high)
+no_default low high m e = absurd cc
+
+pub modulus_in_range : (words : List (List ℕ)) (c : Command) → Accepted words c → (2 ≤ c.modulus) × (c.modulus < MODULUS_BOUND)
+modulus_in_range words c a =
+    let is = a.set 0 (setting modulus_rule 0) (omega arith) in
+    let range = number_in_range modulus_rule is.0 c.modulus (λ m e. by_default 2 (MODULUS_BOUND - 1) 42013 m e (omega arith) (omega arith)) is.2 in
+    (range.0, omega (arith, range.1))
+
+pub workers_in_range : (words : List (List ℕ)) (c : Command) → Accepted words c → (1 ≤ c.workers) × (c.workers ≤ 64)
+workers_in_range words c a =
+    let is = a.set 1 (setting workers_rule 0) (omega arith) in
+    number_in_range workers_rule is.0 c.workers (λ m e. by_default 1 64 1 m e (omega arith) (omega arith)) is.2
+
+-- what a task's own options set
+own_sizes : (options : List Given) (t : Task) → All (IsSetBy options) (own_settings t) → IsOfSizes t
+own_sizes options Rank set = tt
+own_sizes options Rref set = tt
+own_sizes options Kernel set = tt
+own_sizes options Solve set = tt
+own_sizes options LeftKernel set = tt
+own_sizes options Inverse set = tt
+own_sizes options Pivots set = tt
+own_sizes options (Drill g) set =
+    let rows = set 1 (setting rows_rule 0) (omega arith) in
+    let cols = set 2 (setting cols_rule 0) (omega arith) in
+    let height = number_in_range rows_rule rows.0 g.rows (λ m e. no_default rows_rule.low rows_rule.high m e) rows.2 in
+    let width = number_in_range cols_rule cols.0 g.cols (λ m e. no_default cols_rule.low cols_rule.high m e) cols.2 in
+    record { rows = height.1; some = width.0; cols = width.1 }
+
+pub sizes_in_range : (words : List (List ℕ)) (c : Command) → Accepted words c → IsOfSizes c.task
+sizes_in_range words c a = own_sizes a.options c.task (λ k d lt. a.set (suc (suc (suc k))) d (omega arith))

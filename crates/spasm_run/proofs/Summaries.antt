@@ -1,0 +1,29 @@
+-- From the echelon form of what is generated to the answer.
+use Rattle.std.proofs.Common.{ℕ, ◌≡◌, [], refl, sym, ap, subst, ◌∙◌}
+use Rattle.residue_words.specs.Residues.{IsPrime}
+use Rattle.row_space.specs.Echelon.{IsRref}
+use Rattle.echelon_form.specs.Form.{Form, IsFormOf}
+use Rattle.sparse_rows.specs.Rows.{ResidueMatrix, entry_count}
+use Rattle.spasm_run.specs.declared.answer.Answer.TheVariants as answer
+use Rattle.spasm_run.specs.declared.generator.Generator.{Generator}
+use Rattle.spasm_run.specs.declared.summary.Summary.{Summary}
+use Rattle.spasm_run.specs.declared.words.Command.{Command}
+use Rattle.spasm_run.specs.declared.words.Task.TheVariants.{Drill}
+use Rattle.spasm_run.specs.Computed.{IsAnswerTo, asking}
+use Rattle.spasm_run.specs.Generator.{generated, place_sum, summary_of, summary_text}
+
+pub summary_answers : (c : Command) (g : Generator) (p : ℕ) (a form : ResidueMatrix) (f : Form) (s : Summary) → a.modulus ≡ p → a.matrix ≡ generated p g →
+    IsFormOf a.modulus a.matrix f → form.modulus ≡ f.modulus → form.matrix ≡ f.matrix → s.rank ≡ form.matrix.height → s.entries ≡ entry_count form.matrix →
+    s.sum ≡ place_sum form.modulus form.matrix → IsAnswerTo (asking (Drill g) p c) [] (answer.Summary s)
+summary_answers c g p a form f s modulus matrix is same_modulus same rank entries sum =
+    let of_modulus : form.modulus ≡ p = same_modulus ∙ is.modulus ∙ modulus in
+    let text : summary_text s.rank s.entries s.sum ≡ summary_of p f.matrix =
+    ap (λ n. summary_text n s.entries s.sum) rank ∙ ap (λ n. summary_text form.matrix.height n s.sum) entries ∙ ap (summary_text form.matrix.height (entry_count form.matrix)) sum
+    ∙ ap (λ q. summary_text form.matrix.height (entry_count form.matrix) (place_sum q form.matrix)) of_modulus ∙ ap (summary_of p) same in
+    record {
+      small = tt;
+      fits = refl;
+      answers = λ prime.
+          let rref : IsRref a.modulus a.matrix f.matrix = is.rref (subst IsPrime (sym modulus) prime) in
+          (f.matrix, subst (λ A. IsRref p A f.matrix) matrix (subst (λ q. IsRref q a.matrix f.matrix) modulus rref), text);
+    }

@@ -1,0 +1,10 @@
+-- The form of what was generated.
+use Rattle.spasm_run.proofs.Summaries.{summary_answers}
+use Rattle.spasm_run.proofs.commands.find_summary.Goals as goal
+
+pub returns : goal.returns
+returns g c =
+    let a = c.in_ok-a in
+    let form = c.in_ok-form in
+    summary_answers c.args.command c.args.generator.now c.args.p.now a.a c.rows.result.now form.form c.of-2.result a.ensures.modulus a.ensures.matrix
+    form.ensures c.rows.ensures.modulus c.rows.ensures.matrix c.of-2.ensures.rank c.of-2.ensures.entries c.of-2.ensures.sum
