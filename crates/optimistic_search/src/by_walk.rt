@@ -49,12 +49,7 @@ pub(crate) fn try_row<L: Ledger>(book: &mut Book, walk: &mut Walk, row: u32, ste
 }
 
 // Appends these pairs to a walk with the first of them.
-pub(crate) fn follow<L: Ledger>(
-    walk: &mut Walk,
-    pairs: &[Pair],
-    first: usize,
-    steps: &mut Steps<L>,
-)
+pub(crate) fn follow<L: Ledger>(walk: &mut Walk, pairs: &[Pair], first: usize, steps: &mut Steps<L>)
     requires first { first ≤ length pairs.now }
     requires pairs { walk.old.pairs ≡ take first pairs.now }
     requires closed { walk.old.current ≡ None }

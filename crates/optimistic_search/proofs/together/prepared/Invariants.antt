@@ -1,4 +1,4 @@
-use Rattle.std.proofs.Common.{◌≡◌, ◌≤◌, ◌+◌, vec_len, vec_capacity}
+use Rattle.std.proofs.Common.{◌≡◌, ◌≤◌, vec_len, vec_capacity}
 use Rattle.std.specs.Prelude.{All}
 use Rattle.optimistic_search.specs.Workers.{IsWorkerOf}
 use Rattle.optimistic_search.proofs.together.prepared.Given as goal

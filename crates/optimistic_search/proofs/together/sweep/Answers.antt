@@ -1,6 +1,5 @@
-use Rattle.std.proofs.Common.{◌≡◌, ◌<◌, ℕ, List, arith, ap, subst, sym, ◌∙◌}
+use Rattle.std.proofs.Common.{◌≡◌, arith, ap, subst, sym, ◌∙◌}
 use Rattle.residue_words.specs.Matrix.{Matrix}
-use Rattle.residue_words.specs.declared.plain.Pair.{Pair}
 use Rattle.sparse_rows.specs.Rows.{ResidueMatrix}
 use Rattle.pivot_table.specs.Book.{HasRoom}
 use Rattle.pivot_table.specs.History.{StandsOrIsDead}
