@@ -123,11 +123,11 @@ impl<'a> Board<'a> {
         ensures chair { MatchBool result (Claims seat.old.chair row seat.new.chair) (seat.new.chair ≡ meeting seat.old.chair row) }
     {
         let word = self.word_of(row);
-        let found = self
+        let was = self
             .table
             .shared
             .compare_exchange::<Claim>(&mut seat.token, word, 0, 2 * seat.seen + 1);
-        if found == 0 {
+        if was == 0 {
             seat.row = Some(row);
             seat.start = seat.seen;
             true
