@@ -320,5 +320,6 @@ fn the_largest_matrix_costs_by_its_entries(rt: HostRuntime) -> Result<(), Fail> 
         })?;
     }
     assert_eq!(rt; book.pairs(), wanted.as_slice());
+    assert!(rt; leaves_nothing(&rt, alloc, &rows, 64)?);
     Ok(())
 }

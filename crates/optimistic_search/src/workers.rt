@@ -25,10 +25,10 @@ use std::thread::Threads;
 /// One worker keeps a level for each column, the longest path of steps that leads to it. A walk leaves out the columns whose level is
 /// above that of every candidate, and a candidate of level 0 is alive without a walk. It takes 13 bytes a column and 16 bytes a pair
 /// that there can be. Where the matrix is much wider than it has entries, columns without an entry cost nothing, and a copy of the
-/// matrix without them is searched; rows without an entry never cost memory. More workers take 17 bytes a row and 24 bytes a pair
-/// that there can be, and 9 bytes a column and 8 bytes a pair for each worker and once besides; a matrix that is four times as wide
-/// or as high as it has entries is left to one worker. All memory is taken before the first row. The book is gone where memory was
-/// refused.
+/// matrix without them is searched; rows without an entry never cost memory. More workers take 9 bytes a row and 24 bytes a pair
+/// that there can be, 8 more for each of these while the board is made, and 9 bytes a column and 8 bytes a pair for each worker and
+/// once besides; a matrix that is four times as wide or as high as it has entries is left to one worker. All memory is taken before
+/// the first row. The book is gone where memory was refused.
 pub fn search<'a, R: Threads + Sync, G: Gate>(
     rt: &R,
     alloc: Global,
