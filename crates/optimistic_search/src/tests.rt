@@ -5,7 +5,9 @@ ghost use Rattle.pivot_table.specs.Example.{pivot_example};
 ghost use Rattle.pivot_table.specs.History.{pair};
 ghost use Rattle.optimistic_search.specs.Taking.{IsIdle};
 
-use crate::{Gate, Open, Point, Steps, Taken, Walk, search, search_by_walk, search_traced, take_row};
+use crate::{
+    Gate, Open, Point, Steps, Taken, Walk, search, search_by_walk, search_traced, take_row,
+};
 use pivot_table::{Board, Book};
 use residue_words::Modulus;
 use residue_words::plain::Pair;
@@ -145,9 +147,11 @@ fn is_overtaken<R: Threads + Sync>(rt: &R, alloc: Global) -> Result<bool, AllocE
     let rows = example_rows(alloc)?;
     let found = search_traced(rt, alloc, first_pair(alloc, &rows)?, 2, &gate)?;
     let wanted = [Pair { row: 0, col: 0 }, Pair { row: 2, col: 1 }];
-    Ok(found.book.pairs() == wanted.as_slice()
-        && found.versions.items() == [0u64, 1].as_slice()
-        && gate.published.load(Ordering::SeqCst) == 1)
+    Ok(
+        found.book.pairs() == wanted.as_slice()
+            && found.versions.items() == [0u64, 1].as_slice()
+            && gate.published.load(Ordering::SeqCst) == 1,
+    )
 }
 
 #[test]
