@@ -6,5 +6,8 @@
 #![tactic(auto)]
 
 mod certificate;
+mod reading;
+mod title;
 
 pub use certificate::{CertKind, Certificate};
+pub use reading::read;

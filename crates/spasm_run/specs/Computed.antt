@@ -35,10 +35,6 @@ answer_text (answer.Pivots pairs) = pivots_text pairs.items
 abbrev pub HasSmallSizes : Matrix → Type 0
 HasSmallSizes A = (A.height < LARGEST_SIZE) × (A.width < LARGEST_SIZE)
 
--- its row and its column can be written
-abbrev pub IsSmallPlace : Pair → Type 0
-IsSmallPlace q = (q.row < LARGEST_SIZE) × (q.col < LARGEST_SIZE)
-
 abbrev pub IsSmall : Answer → Type 0
 IsSmall (answer.Rank r) = Unit {0}
 IsSmall (answer.Matrix A) = HasSmallSizes A.matrix

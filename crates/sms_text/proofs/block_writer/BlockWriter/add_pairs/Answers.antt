@@ -1,9 +1,8 @@
 -- Line by line.
 use Rattle.std.proofs.Common.{refl}
 use Rattle.std.proofs.lemmas.Result.{err_from_is_err_and}
-use Rattle.sms_text.proofs.WrittenRows.{added_nothing, added_more, added_fault, added_all}
-use Rattle.spasm_run.proofs.Written.{pair_lines_end, pair_lines_from}
-use Rattle.spasm_run.proofs.written_pivots.add_pairs.Goals as goal
+use Rattle.sms_text.proofs.WrittenRows.{added_nothing, added_more, added_fault, added_all, pair_lines_end, pair_lines_from}
+use Rattle.sms_text.proofs.block_writer.BlockWriter.add_pairs.Goals as goal
 
 pub loop-k-init : goal.loop-k-init
 loop-k-init g c = added_nothing _ _ _ _ refl

@@ -1,0 +1,3 @@
+pub mod CertificateLines
+pub mod CertificateRead
+pub mod PivotsRead
