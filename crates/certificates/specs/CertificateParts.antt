@@ -6,11 +6,12 @@ use Rattle.sparse_rows.specs.Rows.{ResidueMatrix}
 use Rattle.sms_text.specs.OuterLines as form
 use Rattle.sms_text.specs.OuterLines.{is_certificate}
 use Rattle.sms_text.specs.Text.{Due, Header, Item, Words, due_behind, matrices, number_at, outer_lines}
+use Rattle.sms_text.specs.Written.{text_of}
 use Rattle.certificates.specs.declared.certificate.CertKind.{CertKind}
 use Rattle.certificates.specs.declared.certificate.CertKind.TheVariants.{Rank, Rref, Kernel}
 use Rattle.certificates.specs.declared.title.Title.{Title}
 use Rattle.certificates.specs.Certificate.{HasExtra}
-use Rattle.certificates.specs.CertificateText.{HasLines, kind_word, pivot_of}
+use Rattle.certificates.specs.CertificateText.{FitsText, HasLines, kind_word, pivot_of}
 
 -- these words are a first line that says this
 pub record IsTitle (ws : List (List ℕ)) (t : Title) : Type 0 where
@@ -48,3 +49,12 @@ pub record SaysExtra (p : ℕ) (kind : CertKind) (extra : Option ResidueMatrix) 
   pub whole : due ≡ []
   pub has : HasLines p items [] (extra_values extra)
   pub formed : HasExtra p kind extra
+
+-- the text of the matrix behind the factors, which has sizes that a text can give
+abbrev pub extra_text : Option ResidueMatrix → List ℕ
+extra_text None = []
+extra_text (Some E) = text_of E.matrix
+
+abbrev pub ExtraFitsText : Option ResidueMatrix → Type 0
+ExtraFitsText None = Unit {0}
+ExtraFitsText (Some E) = FitsText E.matrix

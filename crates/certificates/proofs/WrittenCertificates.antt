@@ -1,0 +1,1 @@
+-- The written text of a certificate reads as this certificate.
