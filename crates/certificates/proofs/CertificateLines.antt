@@ -10,8 +10,8 @@ use Rattle.sms_text.specs.OuterLines.{Pivot}
 use Rattle.certificates.specs.declared.certificate.CertKind.{CertKind}
 use Rattle.certificates.specs.declared.certificate.CertKind.TheVariants.{Rank, Rref, Kernel}
 use Rattle.certificates.specs.Certificate.{HasExtra, claim_of}
-use Rattle.certificates.specs.CertificateText.{HasLines, claim_said, kind_word}
-use Rattle.certificates.specs.CertificateParts.{extra_due, extra_values}
+use Rattle.certificates.specs.CertificateText.{ClaimFitsText, HasLines, claim_said, kind_word}
+use Rattle.certificates.specs.CertificateParts.{ExtraFitsText, extra_due, extra_values}
 
 -- lines of words alone
 pub words_have : (p : ℕ) (lines : List (List (List ℕ))) → HasLines p (map Words lines) lines []
@@ -58,3 +58,11 @@ claim_is p Kernel (Some K) h = refl
 claim_is p Rank (Some E) h = absurd h
 claim_is p Rref None h = absurd h
 claim_is p Kernel None h = absurd h
+
+-- what is claimed fits a text where its matrix does
+pub claim_fits : (kind : CertKind) (extra : Option ResidueMatrix) → ExtraFitsText extra → ClaimFitsText (claim_of kind extra)
+claim_fits Rank extra fits = tt
+claim_fits Rref None fits = tt
+claim_fits Rref (Some E) fits = fits
+claim_fits Kernel None fits = tt
+claim_fits Kernel (Some K) fits = fits

@@ -75,8 +75,11 @@ title_spaced word p r = simp append_assoc
 
 title_fits : (c : plain.Certificate) → HasText c → is_certificate (title_words c) ≡ true
 title_fits c has =
-    rw (kind_word_is c.claim, up_to (MODULUS_BOUND - 1) c.modulus _ (decimal_spells c.modulus (omega (arith, has.modulus))) (omega (arith, has.modulus)),
-    up_to LARGEST_TEXT_SIZE (length c.pivots) _ (decimal_spells (length c.pivots) (omega (arith, has.count))) has.count) refl
+    rw (
+      kind_word_is c.claim,
+      up_to (MODULUS_BOUND - 1) c.modulus _ (decimal_spells c.modulus (omega (arith, has.modulus))) (omega (arith, has.modulus)),
+      up_to LARGEST_TEXT_SIZE (length c.pivots) _ (decimal_spells (length c.pivots) (omega (arith, has.count))) has.count,
+    ) refl
 
 title_carries : (p : ℕ) (c : plain.Certificate) → HasText c → (ended : Bool) (dues : List Due) →
     Carries p ended (Outer form.Certificate ∷ dues) (pivot_lines (length c.pivots) ++ (Header ∷ Header ∷ (claim_due c.claim ++ dues))) (title_line (claim_word c.claim) c.modulus (length c.pivots)) (Words (title_words c) ∷ [])
@@ -187,8 +190,7 @@ pub reads_back : WrittenCertificateReadsBack
 reads_back p c small is has =
     let h = certificate_has p c is in
     let lines_are : outer_lines (certificate_items c) ≡ all_lines c = ap outer_lines (sym (append-nil (certificate_items c))) ∙ h.words [] ∙ append-nil (all_lines c) in
-    let values_are : matrices p (certificate_items c) ≡ all_values c = ap (matrices p) (sym (append-nil (certificate_items c))) ∙ h.matrices [] ∙ append-nil (all_values c) in
-    (
+    let values_are : matrices p (certificate_items c) ≡ all_values c = ap (matrices p) (sym (append-nil (certificate_items c))) ∙ h.matrices [] ∙ append-nil (all_values c) in (
       ap (λ l. certificate_said l (matrices p (certificate_items c))) lines_are ∙ ap (certificate_said (all_lines c)) values_are ∙ said_again c has,
       λ ended room number dues rest fits. (certificate_carries p c small is has ended dues).step room number rest fits,
     )

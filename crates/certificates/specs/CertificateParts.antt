@@ -1,8 +1,10 @@
 -- The parts of a certificate's text that are read one after another.
-use Rattle.std.specs.Prelude.{◌≡◌, true, ℕ, List, [], ◌∷◌, ◌++◌, Option, None, Some, map, slice_index_or}
+use Rattle.std.specs.Prelude.{◌≡◌, ◌<◌, ◌≤◌, true, ℕ, List, [], ◌∷◌, ◌++◌, Option, None, Some, map, slice_index_or}
+use Rattle.residue_words.specs.declared.modulus.TheConstants.{MODULUS_BOUND}
 use Rattle.residue_words.specs.declared.plain.Pair.{Pair}
 use Rattle.residue_words.specs.Matrix.{Matrix}
 use Rattle.sparse_rows.specs.Rows.{ResidueMatrix}
+use Rattle.sms_text.specs.declared.reader.TheConstants.{LARGEST_TEXT_SIZE}
 use Rattle.sms_text.specs.OuterLines as form
 use Rattle.sms_text.specs.OuterLines.{is_certificate}
 use Rattle.sms_text.specs.Text.{Due, Header, Item, Words, due_behind, matrices, number_at, outer_lines}
@@ -19,6 +21,8 @@ pub record IsTitle (ws : List (List ℕ)) (t : Title) : Type 0 where
   pub kind : slice_index_or ws 1 [] ≡ kind_word t.kind
   pub modulus : number_at ws 2 ≡ t.p
   pub rank : number_at ws 3 ≡ t.rank
+  pub modulus_below : t.p < MODULUS_BOUND
+  pub rank_small : t.rank ≤ LARGEST_TEXT_SIZE
 
 -- the first line was read, and what it makes due is due
 pub record SaysTitle (t : Title) (items : List Item) (due : List Due) : Type 0 where

@@ -8,6 +8,8 @@
 mod certificate;
 mod laws;
 mod reading;
+#[cfg(test)]
+mod tests;
 mod title;
 mod writing;
 

@@ -1,16 +1,15 @@
 // Certificates read from texts.
-ghost use Rattle.std.specs.Prelude.{◌≡◌, ℕ, [], ◌∷◌, false, true, None, IfOk, MatchOption, length};
+ghost use Rattle.std.specs.Prelude.{◌≡◌, ◌<◌, ◌≤◌, ℕ, [], ◌∷◌, false, true, None, All, IfOk, MatchOption, length};
+ghost use Rattle.residue_words.specs.declared.modulus.TheConstants.{MODULUS_BOUND};
+ghost use Rattle.sms_text.specs.declared.reader.TheConstants.{LARGEST_TEXT_SIZE};
 ghost use Rattle.sms_text.specs.OuterLines.{is_pivot};
 ghost use Rattle.sms_text.specs.OuterLines as form;
 ghost use Rattle.sms_text.specs.Parts.{PartDid, wants};
 ghost use Rattle.sms_text.specs.Reading.{input};
 ghost use Rattle.sms_text.specs.Text.{Outer, pivot_lines};
-ghost use Rattle.certificates.specs.Certificate.{IsFormed};
-ghost use Rattle.certificates.specs.CertificateParts.{SaysTitle, SaysPivots, SaysExtra, extra_due};
-ghost use Rattle.certificates.specs.CertificateText.{SaysCertificate, pivot_of};
-
-#[cfg(test)]
-mod tests;
+ghost use Rattle.certificates.specs.Certificate.{IsFormed, certificate_of};
+ghost use Rattle.certificates.specs.CertificateParts.{ExtraFitsText, SaysTitle, SaysPivots, SaysExtra, extra_due};
+ghost use Rattle.certificates.specs.CertificateText.{HasText, IsTextPlace, SaysCertificate, pivot_of};
 
 use crate::certificate::{CertKind, Certificate};
 use crate::title::Title;
@@ -37,6 +36,7 @@ pub fn read<S: Source>(
     ensures did { PartDid (wants p.now (Outer form.Certificate ∷ [])) (SaysCertificate p.now)
         (input reader.old (S.state source.old)) (input reader.new (S.state source.new)) result }
     ensures formed { IfOk result (IsFormed p.now) }
+    ensures fits { IfOk result (λ c. HasText (certificate_of c)) }
     ensures closed { IfOk result (λ c. reader.new.open_text ≡ None) }
 {
     let title = read_title(reader, source)?;
@@ -60,6 +60,7 @@ fn read_title<S: Source>(reader: &mut Reader, source: &mut S) -> Result<Title, T
     requires { reader.old.open_text ≡ None }
     ensures did { (p : ℕ) → PartDid (wants p (Outer form.Certificate ∷ [])) SaysTitle
         (input reader.old (S.state source.old)) (input reader.new (S.state source.new)) result }
+    ensures sizes { IfOk result (λ t. (t.p < MODULUS_BOUND) × (t.rank ≤ LARGEST_TEXT_SIZE)) }
     ensures closed { reader.new.open_text ≡ None }
 {
     let line = reader.words(source)?;
@@ -81,6 +82,7 @@ fn read_pivots<S: Source>(
     ensures did { (p : ℕ) → PartDid (wants p (pivot_lines rank)) SaysPivots
         (input reader.old (S.state source.old)) (input reader.new (S.state source.new)) result }
     ensures count { IfOk result (λ pivots. length pivots ≡ rank) }
+    ensures places { IfOk result (All IsTextPlace) }
     ensures closed { reader.new.open_text ≡ None }
 {
     let mut pivots = List::new(alloc);
@@ -99,7 +101,7 @@ fn read_pivots<S: Source>(
 // The pivot that the words of a line give, if they are of its form.
 fn pivot_at(line: &Line) -> Option<Pair>
     ensures { MatchOption result (is_pivot line.now.words ≡ false)
-        (λ q. (is_pivot line.now.words ≡ true) × (q ≡ pivot_of line.now.words)) }
+        (λ q. (is_pivot line.now.words ≡ true) × (q ≡ pivot_of line.now.words) × IsTextPlace q) }
 {
     if line.count() != 2 {
         return None;
@@ -127,6 +129,7 @@ fn read_extra<S: Source>(
     requires closed { reader.old.open_text ≡ None }
     ensures did { PartDid (wants p.now (extra_due kind)) (SaysExtra p.now kind)
         (input reader.old (S.state source.old)) (input reader.new (S.state source.new)) result }
+    ensures fits { IfOk result ExtraFitsText }
     ensures closed { IfOk result (λ extra. reader.new.open_text ≡ None) }
 {
     match kind {

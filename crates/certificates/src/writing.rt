@@ -20,7 +20,13 @@ pub fn write<K: Sink>(out: &mut K, certificate: &Certificate) -> Result<(), Writ
         (K.state out.old) (K.state out.new) }
 {
     let mut blocks = BlockWriter::new();
-    add_title(out, &mut blocks, certificate.kind, certificate.p, certificate.rank)?;
+    add_title(
+        out,
+        &mut blocks,
+        certificate.kind,
+        certificate.p,
+        certificate.rank,
+    )?;
     blocks.add_pairs(out, certificate.pivots.items())?;
     add_rows(out, &mut blocks, &certificate.l)?;
     add_rows(out, &mut blocks, &certificate.u)?;

@@ -1,5 +1,5 @@
 -- Part by part.
-use Rattle.std.proofs.Common.{◌∷◌, [], Ok, Err, refl, sym}
+use Rattle.std.proofs.Common.{arith, ◌∷◌, [], Ok, Err, refl, sym}
 use Rattle.sms_text.specs.OuterLines as form
 use Rattle.sms_text.specs.Parts.{wants}
 use Rattle.sms_text.specs.Reading.{input}
@@ -7,7 +7,7 @@ use Rattle.sms_text.specs.Text.{Header, Outer}
 use Rattle.sms_text.proofs.Parts.{first_missed, part_handed}
 use Rattle.certificates.specs.CertificateParts.{SaysTitle, extra_due}
 use Rattle.certificates.specs.CertificateText.{SaysCertificate}
-use Rattle.certificates.proofs.CertificateLines.{extra_closed}
+use Rattle.certificates.proofs.CertificateLines.{claim_fits, extra_closed}
 use Rattle.certificates.proofs.CertificateRead.{a_certificate, title_read, pivots_read, pivots_unread, matrix_read, matrix_unread, extra_missed, extra_formed, certificate_read, matrix_modulus}
 use Rattle.certificates.proofs.reading.read.Goals as goal
 
@@ -133,3 +133,16 @@ returns-clause-formed g c =
       extra = extra_formed p t.kind c.in_ok-extra.extra s4 s5 right.so_far.stands.sound c.in_ok-extra.ensures.did;
     }
 
+pub returns-clause-fits : goal.returns-clause-fits
+returns-clause-fits g c =
+    let size = c.in_ok-title.ensures.sizes in
+    let l = c.in_ok-l.ensures in
+    let u = c.in_ok-u.ensures in
+    record {
+      modulus = size.0;
+      count = omega (arith, size.1, c.in_ok-pivots.ensures.count);
+      pivots = c.in_ok-pivots.ensures.places;
+      left = (l.height, l.width);
+      right = (u.height, u.width);
+      claim = claim_fits c.in_ok-title.title.kind c.in_ok-extra.extra c.in_ok-extra.ensures.fits;
+    }

@@ -34,13 +34,13 @@ returns-in_default-clause-did g c = λ p.
 pub returns-then-is_err-clause-did : goal.returns-then-is_err-clause-did
 returns-then-is_err-clause-did g c = λ p.
     let s = c.in-Some.ensures in
-    pivots_pause p c.args.rank c.loop.counter c.loop.pivots _ (input c.loop.reader (g.S.Source.state c.loop.source)) _ (c.loop.invariant p) c.loop-test.true c.in-Some.pivot c.in_ok-line.line c.in_ok-line.ensures.did s.0 s.1 c.in_ok-line.ensures.open
+    pivots_pause p c.args.rank c.loop.counter c.loop.pivots _ (input c.loop.reader (g.S.Source.state c.loop.source)) _ (c.loop.invariant p) c.loop-test.true c.in-Some.pivot c.in_ok-line.line c.in_ok-line.ensures.did s.0 s.1 s.2 c.in_ok-line.ensures.open
 
 pub loop-preserved : goal.loop-preserved
 loop-preserved g c = λ p.
     let s = c.in-Some.ensures in
     let more : c.push.new.self ≡ c.loop.pivots ++ c.in-Some.pivot ∷ [] = search rules in
-    pivots_go p c.args.rank c.loop.counter c.loop.pivots _ (input c.loop.reader (g.S.Source.state c.loop.source)) _ (c.loop.invariant p) c.loop-test.true c.push.new.self c.in-Some.pivot c.in_ok-line.line c.in_ok-line.ensures.did s.0 s.1 c.in_ok-line.ensures.open more
+    pivots_go p c.args.rank c.loop.counter c.loop.pivots _ (input c.loop.reader (g.S.Source.state c.loop.source)) _ (c.loop.invariant p) c.loop-test.true c.push.new.self c.in-Some.pivot c.in_ok-line.line c.in_ok-line.ensures.did s.0 s.1 s.2 c.in_ok-line.ensures.open more
 
 pub returns-clause-did : goal.returns-clause-did
 returns-clause-did g c = λ p. pivots_end p c.args.rank c.loop.counter c.loop.pivots _ _ (c.loop.invariant p) (search rules)
@@ -50,3 +50,6 @@ returns-clause-count g c = pivots_count 0 c.args.rank c.loop.counter c.loop.pivo
 
 pub returns-clause-closed : goal.returns-clause-closed
 returns-clause-closed g c = pivots_shut 0 _ _ _ _ _ (c.loop.invariant 0)
+
+pub returns-clause-places : goal.returns-clause-places
+returns-clause-places g c = (c.loop.invariant 0).small
