@@ -1,5 +1,5 @@
 -- A certificate read part by part.
-use Rattle.std.proofs.Common.{ℕ, ◌≡◌, List, [], ◌∷◌, ◌++◌, length, map, Option, None, Some, Result, Ok, Err, refl, sym, ap, ◌∙◌, subst, append-nil}
+use Rattle.std.proofs.Common.{ℕ, ◌≡◌, List, [], ◌∷◌, ◌++◌, map, Option, None, Some, Ok, Err, refl, sym, ap, ◌∙◌, subst, append-nil}
 use Rattle.std.specs.Prelude.{slice_index_or}
 use Rattle.residue_words.specs.declared.plain.Pair.{Pair}
 use Rattle.residue_words.specs.Matrix.{Matrix}
@@ -14,13 +14,13 @@ use Rattle.sms_text.specs.Text.{Due, Header, Outer, Item, Words, due_behind, num
 use Rattle.sms_text.proofs.Parts.{ReadSoFar, part_missed, part_reads, part_sound, part_taken, so_far_begins, so_far_ends}
 use Rattle.sms_text.proofs.ReadingMatrices.{rows_missed, rows_taken}
 use Rattle.certificates.specs.declared.certificate.CertKind.{CertKind}
-use Rattle.certificates.specs.declared.certificate.CertKind.TheVariants.{Rank, Rref, Kernel}
+use Rattle.certificates.specs.declared.certificate.CertKind.TheVariants.{Rank}
 use Rattle.certificates.specs.declared.certificate.Certificate.{Certificate}
 use Rattle.certificates.specs.declared.title.Title.{Title}
-use Rattle.certificates.specs.Certificate.{HasExtra, IsFormed, certificate_of, claim_of}
-use Rattle.certificates.specs.CertificateText.{HasLines, SaysCertificate, certificate_said, claim_said, kind_word, pivot_of}
+use Rattle.certificates.specs.Certificate.{HasExtra, claim_of}
+use Rattle.certificates.specs.CertificateText.{HasLines, SaysCertificate, claim_said, pivot_of}
 use Rattle.certificates.specs.CertificateParts.{IsTitle, SaysExtra, SaysPivots, SaysTitle, extra_due, extra_values}
-use Rattle.certificates.proofs.CertificateLines.{claim_is, extra_closed, have_more, pivots_closed, rows_have, texts_due, words_have}
+use Rattle.certificates.proofs.CertificateLines.{claim_is, have_more, pivots_closed, rows_have, texts_due, words_have}
 
 -- what is wanted is a certificate
 abbrev pub a_certificate : ℕ → Wanted
@@ -108,20 +108,6 @@ matrix_unread p t pivots values due old mid new e closed s did = rows_missed (a_
 -- the modulus of a matrix that was read
 pub matrix_modulus : (p : ℕ) (old new : InputState) (A : ResidueMatrix) → old.reader.error ≡ None → RowsDid p old new (Ok A) → A.modulus ≡ p
 matrix_modulus p old new A sound did = (part_reads (wants p (Header ∷ [])) (SaysRows p) old new (Ok A) sound did).reads.means.modulus
-
--- the matrix behind the factors was read, or not
-pub extra_read : (p : ℕ) (kind : CertKind) (E : ResidueMatrix) (old new : InputState) → extra_due kind ≡ Header ∷ [] → HasExtra p kind (Some E) → RowsDid p old new (Ok E) → old.reader.error ≡ None → old.reader.open_text ≡ None →
-    PartDid (wants p (extra_due kind)) (SaysExtra p kind) old new (Ok (Some E))
-extra_read p kind E old new due formed did sound closed =
-    let w = wants p (extra_due kind) in
-    let r = rows_taken w [] old old new [] E (subst (λ d. ReadSoFar w old old [] d) due (so_far_begins w old sound (closed ∙ ap open_at (sym due)))) refl did in
-    so_far_ends w (SaysExtra p kind) old new r.0 [] (Some E) r.2 (record { whole = refl; has = rows_have p E r.0 r.1; formed = formed })
-
-pub extra_unread : (p : ℕ) (kind : CertKind) (e : TextError) (old new : InputState) → extra_due kind ≡ Header ∷ [] → RowsDid p old new (Err e) → old.reader.error ≡ None → old.reader.open_text ≡ None →
-    PartDid (wants p (extra_due kind)) (SaysExtra p kind) old new (Err e)
-extra_unread p kind e old new due did sound closed =
-    let w = wants p (extra_due kind) in
-    rows_missed w [] (SaysExtra p kind) old old new [] e (subst (λ d. ReadSoFar w old old [] d) due (so_far_begins w old sound (closed ∙ ap open_at (sym due)))) refl did
 
 -- there is none
 pub extra_none : (p : ℕ) (kind : CertKind) (s : InputState) → kind ≡ Rank → s.reader.error ≡ None → s.reader.open_text ≡ None → PartDid (wants p (extra_due kind)) (SaysExtra p kind) s s (Ok None)

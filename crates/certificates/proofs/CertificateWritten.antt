@@ -1,5 +1,5 @@
 -- The text of a certificate, piece by piece.
-use Rattle.std.proofs.Common.{ℕ, ◌≡◌, ◌<◌, List, [], ◌∷◌, ◌++◌, length, Option, None, Some, refl, sym, ap, ◌∙◌, arith, append_assoc, append-nil}
+use Rattle.std.proofs.Common.{ℕ, ◌≡◌, List, [], ◌∷◌, ◌++◌, length, Option, None, Some, refl, sym, ap, ◌∙◌, arith, append_assoc}
 use Rattle.std.specs.Prelude.{codes, All}
 use Rattle.std.specs.Fmt.{decimal}
 use Rattle.std.proofs.lemmas.List.Elements.{All-weaker}
@@ -10,7 +10,7 @@ use Rattle.certificates.specs.declared.certificate.CertKind.{CertKind}
 use Rattle.certificates.specs.declared.certificate.CertKind.TheVariants.{Rank, Rref, Kernel}
 use Rattle.certificates.specs.declared.certificate.Certificate.{Certificate}
 use Rattle.certificates.specs.Certificate.{HasExtra, IsFormed, certificate_of, claim_of}
-use Rattle.certificates.specs.CertificateText.{ClaimFitsText, HasText, IsTextPlace, certificate_text, claim_text, claim_word, kind_word, title_line}
+use Rattle.certificates.specs.CertificateText.{ClaimFitsText, IsTextPlace, certificate_text, claim_text, claim_word, kind_word, title_line}
 use Rattle.certificates.specs.CertificateParts.{ExtraFitsText, extra_text}
 
 -- behind the first words

@@ -1,6 +1,6 @@
 -- The written text of a certificate reads as this certificate.
-use Rattle.std.proofs.Common.{ℕ, zero, suc, ◌≡◌, ◌+◌, ◌-◌, ◌^◌, ◌<◌, ◌≤◌, Bool, true, false, List, [], ◌∷◌, ◌++◌, length, map, Some, refl, sym, ap, ◌∙◌, subst, arith, append_assoc, append-nil}
-use Rattle.std.specs.Prelude.{◌==◌, ◌&&◌, nat_le, All, codes}
+use Rattle.std.proofs.Common.{ℕ, suc, ◌≡◌, ◌+◌, ◌-◌, ◌^◌, ◌<◌, ◌≤◌, Bool, true, false, List, [], ◌∷◌, ◌++◌, length, map, Some, refl, sym, ap, ◌∙◌, subst, arith, append_assoc, append-nil}
+use Rattle.std.specs.Prelude.{◌==◌, All, codes}
 use Rattle.std.specs.Fmt.{decimal}
 use Rattle.std.proofs.lemmas.Bool.Decides.{nat_tests}
 use Rattle.std.proofs.lemmas.List.Elements.{All-head, All-tail}
@@ -13,13 +13,13 @@ use Rattle.sms_text.specs.Laws.{items_of}
 use Rattle.sms_text.specs.OuterLines.{Pivot, is_certificate, is_from_one_up_to, is_kind_word, is_pivot, is_up_to}
 use Rattle.sms_text.specs.OuterLines as form
 use Rattle.sms_text.specs.Text.{Due, Header, Outer, Item, Words, due_behind, matrices, number_at, outer_lines, pivot_lines, texts_of_kind}
-use Rattle.sms_text.specs.Written.{pair_line, pair_lines, text_of}
+use Rattle.sms_text.specs.Written.{pair_line, pair_lines}
 use Rattle.sms_text.proofs.Parts.{outer_says}
 use Rattle.sms_text.proofs.RoundTrip.{text_carries}
 use Rattle.sms_text.proofs.WrittenLines.{Carries, IsWord, carries_append, carries_nothing, carries_words, spaced}
 use Rattle.sms_text.proofs.WrittenNumbers.{Spells, above_zero, decimal_spells}
 use Rattle.sms_text.proofs.WrittenValues.{items_matrix_then, items_no_words}
-use Rattle.certificates.specs.CertificateText.{ClaimFitsText, FitsText, HasLines, HasText, IsTextPlace, certificate_said, certificate_text, claim_said, claim_text, claim_word, pivot_of, title_line}
+use Rattle.certificates.specs.CertificateText.{ClaimFitsText, HasLines, HasText, IsTextPlace, certificate_said, certificate_text, claim_said, claim_text, claim_word, pivot_of, title_line}
 use Rattle.certificates.specs.Laws.{ClaimIsModulo, IsModulo, WrittenCertificateReadsBack, certificate_items, claim_items, pivot_words, title_words}
 use Rattle.certificates.proofs.CertificateLines.{have_more, words_have}
 

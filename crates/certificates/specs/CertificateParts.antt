@@ -1,5 +1,5 @@
 -- The parts of a certificate's text that are read one after another.
-use Rattle.std.specs.Prelude.{◌≡◌, ◌<◌, ◌≤◌, true, ℕ, List, [], ◌∷◌, ◌++◌, Option, None, Some, map, slice_index_or}
+use Rattle.std.specs.Prelude.{◌≡◌, ◌<◌, ◌≤◌, true, ℕ, List, [], ◌∷◌, Option, None, Some, map, slice_index_or}
 use Rattle.residue_words.specs.declared.modulus.TheConstants.{MODULUS_BOUND}
 use Rattle.residue_words.specs.declared.plain.Pair.{Pair}
 use Rattle.residue_words.specs.Matrix.{Matrix}
@@ -7,7 +7,7 @@ use Rattle.sparse_rows.specs.Rows.{ResidueMatrix}
 use Rattle.sms_text.specs.declared.reader.TheConstants.{LARGEST_TEXT_SIZE}
 use Rattle.sms_text.specs.OuterLines as form
 use Rattle.sms_text.specs.OuterLines.{is_certificate}
-use Rattle.sms_text.specs.Text.{Due, Header, Item, Words, due_behind, matrices, number_at, outer_lines}
+use Rattle.sms_text.specs.Text.{Due, Header, Item, Words, due_behind, number_at}
 use Rattle.sms_text.specs.Written.{text_of}
 use Rattle.certificates.specs.declared.certificate.CertKind.{CertKind}
 use Rattle.certificates.specs.declared.certificate.CertKind.TheVariants.{Rank, Rref, Kernel}

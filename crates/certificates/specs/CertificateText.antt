@@ -1,22 +1,18 @@
 -- Certificates as texts: what their lines say, and the one text that is written (this project's format).
-use Rattle.std.specs.Prelude.{◌≡◌, ◌<◌, ◌≤◌, ◌+◌, ◌-◌, Bool, true, false, if◌then◌else◌, ℕ, List, [], ◌∷◌, ◌++◌, Option, None, Some, All, length, map, slice_index_or, codes}
+use Rattle.std.specs.Prelude.{◌≡◌, ◌<◌, ◌≤◌, ◌-◌, if◌then◌else◌, ℕ, List, [], ◌∷◌, ◌++◌, Option, None, Some, All, length, map, slice_index_or, codes}
 use Rattle.std.specs.Fmt.{decimal}
 use Rattle.std.specs.Str.{bytes_eq}
 use Rattle.residue_words.specs.declared.modulus.TheConstants.{MODULUS_BOUND}
 use Rattle.residue_words.specs.declared.plain.Pair.{Pair}
 use Rattle.residue_words.specs.Matrix.{Matrix}
 use Rattle.row_space.specs.Factors as plain
-use Rattle.sparse_rows.specs.Rows.{ResidueMatrix}
 use Rattle.sms_text.specs.declared.reader.TheConstants.{LARGEST_TEXT_SIZE}
-use Rattle.sms_text.specs.OuterLines.{is_certificate, is_pivot}
-use Rattle.sms_text.specs.Text.{Due, Header, Item, Words, due_behind, matrices, number_at, outer_lines}
-use Rattle.sms_text.specs.OuterLines as form
+use Rattle.sms_text.specs.Text.{Due, Item, matrices, number_at, outer_lines}
 use Rattle.sms_text.specs.Written.{pair_lines, text_of}
 use Rattle.certificates.specs.declared.certificate.CertKind.{CertKind}
 use Rattle.certificates.specs.declared.certificate.CertKind.TheVariants.{Rank, Rref, Kernel}
 use Rattle.certificates.specs.declared.certificate.Certificate.{Certificate}
-use Rattle.certificates.specs.declared.title.Title.{Title}
-use Rattle.certificates.specs.Certificate.{HasExtra, certificate_of}
+use Rattle.certificates.specs.Certificate.{certificate_of}
 
 -- the word of a kind, and that of a claim
 abbrev pub kind_word : CertKind → List ℕ

@@ -1,7 +1,6 @@
 -- Part by part.
-use Rattle.std.proofs.Common.{arith, ◌∷◌, [], Ok, Err, refl, sym}
+use Rattle.std.proofs.Common.{arith, ◌∷◌, [], refl, sym}
 use Rattle.sms_text.specs.OuterLines as form
-use Rattle.sms_text.specs.Parts.{wants}
 use Rattle.sms_text.specs.Reading.{input}
 use Rattle.sms_text.specs.Text.{Header, Outer}
 use Rattle.sms_text.proofs.Parts.{first_missed, part_handed}

@@ -1,5 +1,5 @@
 -- Pivot by pivot.
-use Rattle.std.proofs.Common.{◌≡◌, ◌+◌, ◌++◌, ◌∷◌, [], None, Some, sym, ap, ◌∙◌, rules}
+use Rattle.std.proofs.Common.{◌≡◌, ◌++◌, ◌∷◌, [], None, Some, sym, ap, ◌∙◌, rules}
 use Rattle.sms_text.specs.declared.kind.Kind.TheVariants as kind
 use Rattle.sms_text.specs.declared.kind.TextError.TheVariants as error
 use Rattle.sms_text.specs.Parts.{wants}

@@ -1,5 +1,5 @@
 -- The first line, the pivots, and then matrix by matrix.
-use Rattle.std.proofs.Common.{ℕ, List, [], ◌∷◌, ◌++◌, ap, append-nil, refl, subst, sym}
+use Rattle.std.proofs.Common.{ℕ, List, [], ◌++◌, ap, append-nil, refl, subst, sym}
 use Rattle.std.specs.Prelude.{All}
 use Rattle.std.proofs.lemmas.Result.{err_from_is_err_and}
 use Rattle.sms_text.specs.Written.{IsSmallPlace, pair_lines, text_of}
