@@ -154,13 +154,14 @@ fn read_behind(
     Ok(outcome)
 }
 
-// How many bytes are written of a certificate, if they are a first part of these pieces, by a sink that fails in these calls.
+// How many bytes are written of a certificate by a sink that fails in these calls, and whether all are: a first part of these pieces, or
+// all of them.
 fn written(
     alloc: Global,
     certificate: &Certificate,
     pieces: [&[u8]; 3],
     fails: &[u64],
-) -> Result<Option<usize>, Fail>
+) -> Result<(usize, bool), Fail>
     requires formed { IsFormed 7 certificate.now }
     requires fits { HasText (certificate_of certificate.now) }
 {
@@ -171,10 +172,10 @@ fn written(
     let mut sink = MemorySink::new(alloc, 400, 16, fails)?;
     let outcome = write(&mut sink, certificate);
     let held = sink.content();
-    if outcome.is_ok() != (held.len() == want.len()) || !want.as_slice().starts_with(held) {
-        return Ok(None);
+    if !want.as_slice().starts_with(held) || outcome.is_ok() != (held.len() == want.len()) {
+        return Err(Fail::new("another text is written"));
     }
-    Ok(Some(held.len()))
+    Ok((held.len(), outcome.is_ok()))
 }
 
 #[test]
@@ -187,8 +188,8 @@ fn certificates_are_read_and_written_or_their_first_fault_is_named(
             match read_behind(rt.alloc(), pieces, at_once)? {
                 Ok(certificate) => {
                     assert_eq!(rt; line, 0);
-                    let length = written(rt.alloc(), &certificate, pieces, &[])?;
-                    assert_eq!(rt; length, Some(head.len() + factors.len() + extra.len()));
+                    let (_, whole) = written(rt.alloc(), &certificate, pieces, &[])?;
+                    assert!(rt; whole);
                 }
                 Err(error) => assert_eq!(rt; error, TextError::Bad { line, kind }),
             }
@@ -208,8 +209,8 @@ fn other_spellings_are_one_certificate_and_a_failing_sink_holds_a_part(
     // The puts that fail, each of at most 16 bytes, and how many bytes the sink holds in the end.
     let cases: [(&[u64], usize); 4] = [(&[], 101), (&[1], 0), (&[3], 32), (&[9], 101)];
     for (fails, held) in cases {
-        let length = written(rt.alloc(), &certificate, [HEAD, FACTORS, b""], fails)?;
-        assert_eq!(rt; length, Some(held));
+        let outcome = written(rt.alloc(), &certificate, [HEAD, FACTORS, b""], fails)?;
+        assert_eq!(rt; outcome, (held, held == 101));
     }
     Ok(())
 }

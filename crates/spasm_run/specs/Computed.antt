@@ -2,7 +2,6 @@
 use Rattle.std.specs.Prelude.{◌≡◌, ◌<◌, ℕ, List, ◌++◌, Bool, false, Some, None, Result, Ok, Err, All, codes}
 use Rattle.residue_words.specs.Residues.{IsPrime}
 use Rattle.residue_words.specs.Matrix.{Matrix, IsMatrix}
-use Rattle.residue_words.specs.declared.plain.Pair.{Pair}
 use Rattle.sparse_rows.specs.Rows.{beside}
 use Rattle.sparse_rows.specs.declared.rows.TheConstants.{LARGEST_SIZE}
 use Rattle.kernel_solve.specs.Column.{column}
@@ -10,7 +9,7 @@ use Rattle.kernel_solve.specs.declared.systems.Found.{Found}
 use Rattle.kernel_solve.specs.Found.{Answers}
 use Rattle.sms_text.specs.Reading.{Draws, untouched}
 use Rattle.sms_text.specs.Stream.{SourceState}
-use Rattle.sms_text.specs.Written.{text_of}
+use Rattle.sms_text.specs.Written.{IsSmallPlace, text_of}
 use Rattle.spasm_run.specs.declared.answer.Answer.{Answer}
 use Rattle.spasm_run.specs.declared.answer.Answer.TheVariants as answer
 use Rattle.spasm_run.specs.declared.status.Status.{Status}
