@@ -82,5 +82,5 @@ column_again x =
     at_list_of (length x) _ i l ∙ entry_matrix_of (length x) 1 (λ i j. slice_index x i) i 0 l (omega arith))
 
 -- of residues it is a matrix of residues
-pub column_matrix : {p : ℕ} {x : List ℕ} → IsVector p (length x) x → IsMatrix p (column_matrix x)
-column_matrix {p} {x} v = is_matrix_of p (length x) 1 (λ i j. slice_index x i) (λ i j a b. v.residues i a)
+pub column_is_matrix : {p : ℕ} {x : List ℕ} → IsVector p (length x) x → IsMatrix p (column_matrix x)
+column_is_matrix {p} {x} v = is_matrix_of p (length x) 1 (λ i j. slice_index x i) (λ i j a b. v.residues i a)
