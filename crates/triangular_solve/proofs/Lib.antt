@@ -12,4 +12,5 @@ pub mod Listing
 pub mod Placing
 pub mod Queueing
 pub mod Reducing
+pub mod SchurRows
 pub mod Touched

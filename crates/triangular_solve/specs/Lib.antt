@@ -4,4 +4,5 @@ pub mod Led
 pub mod Listing
 pub mod PivotalColumns
 pub mod Queue
+pub mod Reduced
 pub mod Triangle

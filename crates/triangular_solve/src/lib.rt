@@ -10,10 +10,14 @@ mod leads;
 mod led;
 mod pivotal_columns;
 mod queue;
+mod reduced;
 #[cfg(test)]
 mod tests;
 mod triangle;
+mod work;
 
 pub use accumulator::Accumulator;
 pub use leads::Leads;
+pub use reduced::{Reduced, schur_row_is_one};
 pub use triangle::{Triangle, triangular_order_is_one};
+pub use work::Work;

@@ -2,10 +2,13 @@
 ghost use Rattle.std.specs.Prelude.{◌≡◌, ◌≢◌, ◌<◌, ◌≤◌, ◌+◌, ◌-◌, ◌⊎◌, ℕ, length, map, slice_index, slice_set, IfOk, IfSome, IfNone, OnOk};
 ghost use Rattle.std.specs.List.{Contains};
 ghost use Rattle.std.specs.List.Sorted.{IsPermutation};
+ghost use Rattle.residue_words.specs.Residues.{IsPrime};
 ghost use Rattle.sparse_rows.specs.Rows.{AreRising};
+ghost use Rattle.sparse_rows.specs.Stored.{IsSparse, spread};
 ghost use Rattle.sparse_rows.specs.declared.rows.TheConstants.{LARGEST_SIZE};
 ghost use Rattle.pivot_table.specs.Order.{IsTriangularOrder, Triangular};
 ghost use Rattle.triangular_solve.specs.Listing.{AreSortedPivots, AreWaits, EachOtherPlace, EachPlaceOf, HasReady, TakesReady};
+ghost use Rattle.triangular_solve.specs.Reduced.{FitsReduced, FitsRest, IsReduced, IsSchurRow, reduction_of, workspace_of};
 ghost use Rattle.triangular_solve.specs.Triangle.{TriangularOrderIsOne};
 
 #[cfg(test)]
@@ -13,8 +16,10 @@ mod tests;
 
 use crate::pivotal_columns::PivotalColumns;
 use crate::queue::Queue;
+use crate::reduced::Reduced;
+use crate::work::Work;
 use pivot_table::{Book, Pair};
-use sparse_rows::Rows;
+use sparse_rows::{Rows, Sparse};
 use std::alloc::{AllocError, Global};
 use std::marker::Model;
 
@@ -70,6 +75,46 @@ impl<'a> Triangle<'a> {
         ensures { result.now ≡ self.now.rows }
     {
         self.rows
+    }
+
+    /// Reduces the row that stands in these columns and values by the pivots: it is the coefficients times the pivot rows and a
+    /// rest, which is 0 in all pivotal columns. For a prime modulus the rest is the Schur row.
+    ///
+    /// The time is that of the entries of the pivot rows that are used, and a step for each 4096 columns in which some pivot
+    /// row has an entry.
+    pub fn reduce(
+        &self,
+        alloc: Global,
+        cols: &[u32],
+        vals: &[u64],
+        work: &mut Work,
+    ) -> Result<Reduced, AllocError>
+        requires row { IsSparse self.now.rows.modulus self.now.rows.matrix.width cols.now vals.now }
+        requires work { work.old ≡ workspace_of self.now }
+        ensures work { work.new ≡ work.old }
+        ensures fits { IfOk result (FitsReduced self.now) }
+        ensures reduced { IfOk result (λ r. IsPrime self.now.rows.modulus → IsReduced self.now.rows.modulus
+            self.now.rows.matrix self.now.pairs (spread self.now.rows.matrix.width cols.now vals.now) (reduction_of r)) }
+    {
+        Err(AllocError)
+    }
+
+    /// What is left of the row that stands in these columns and values by the pivots, without the coefficients.
+    pub fn rest(
+        &self,
+        alloc: Global,
+        cols: &[u32],
+        vals: &[u64],
+        work: &mut Work,
+    ) -> Result<Sparse, AllocError>
+        requires row { IsSparse self.now.rows.modulus self.now.rows.matrix.width cols.now vals.now }
+        requires work { work.old ≡ workspace_of self.now }
+        ensures work { work.new ≡ work.old }
+        ensures fits { IfOk result (FitsRest self.now) }
+        ensures rest { IfOk result (λ s. IsPrime self.now.rows.modulus → IsSchurRow self.now.rows.modulus
+            self.now.rows.matrix self.now.pairs (spread self.now.rows.matrix.width cols.now vals.now) s.row) }
+    {
+        Err(AllocError)
     }
 }
 
