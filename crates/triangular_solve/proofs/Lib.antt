@@ -7,10 +7,13 @@ pub mod Dividing
 pub mod Draining
 pub mod Examples
 pub mod Extent
+pub mod JoinedRows
 pub mod LedRows
 pub mod Listing
+pub mod OrderingColumns
 pub mod Placing
 pub mod Queueing
 pub mod Reducing
 pub mod SchurRows
+pub mod SplitRows
 pub mod Touched

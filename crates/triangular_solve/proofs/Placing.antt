@@ -5,7 +5,7 @@ use Rattle.std.proofs.lemmas.Bool.{cases_eq, cases_lt}
 use Rattle.std.proofs.lemmas.List.{length-set, length-replicate, get_or-replicate, get_or-set_same, get_or-set_other}
 use Rattle.residue_words.proofs.Lists.{place_in}
 use Rattle.sparse_rows.specs.Rows.{AreRising}
-use Rattle.triangular_solve.specs.PivotalColumns.{IsPlaceOf, IsTable}
+use Rattle.triangular_solve.specs.AscendingColumns.{IsPlaceOf, IsTable}
 
 -- a table of n columns that has the places of the first k
 pub record IsTableSoFar (n : ℕ) (columns : List ℕ) (k : ℕ) (table : List ℕ) : Type 0 where

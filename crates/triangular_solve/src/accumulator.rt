@@ -57,7 +57,7 @@ impl Accumulator {
     }
 
     // Adds v at column j.
-    fn add(&mut self, j: u32, v: u64)
+    pub(crate) fn add(&mut self, j: u32, v: u64)
         requires column { j < length self.old.row }
         requires below { v < limit_of self.old.modulus }
         ensures { AddsAt j v self.old self.new }

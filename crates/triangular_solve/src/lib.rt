@@ -6,9 +6,10 @@
 #![tactic(auto)]
 
 mod accumulator;
+mod ascending_columns;
+mod column_order;
 mod leads;
 mod led;
-mod pivotal_columns;
 mod queue;
 mod reduced;
 #[cfg(test)]

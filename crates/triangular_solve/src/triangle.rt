@@ -14,7 +14,7 @@ ghost use Rattle.triangular_solve.specs.Triangle.{TriangularOrderIsOne};
 #[cfg(test)]
 mod tests;
 
-use crate::pivotal_columns::PivotalColumns;
+use crate::ascending_columns::AscendingColumns;
 use crate::queue::Queue;
 use crate::reduced::Reduced;
 use crate::work::Work;
@@ -53,7 +53,7 @@ impl<'a> Triangle<'a> {
     {
         let rows = book.rows();
         let pairs = by_columns(alloc, book)?;
-        let columns = PivotalColumns::of(alloc, rows.width(), &pairs)?;
+        let columns = AscendingColumns::of(alloc, rows.width(), columns_of(alloc, &pairs)?)?;
         let mut waits = count_waits(alloc, rows, &pairs, &columns)?;
         let mut queue = queue_ready(alloc, &waits)?;
         Ok(Triangle {
@@ -133,12 +133,23 @@ fn by_columns(alloc: Global, book: &Book) -> Result<Vec<Pair>, AllocError>
     Ok(sorted)
 }
 
+// The columns of these pairs.
+fn columns_of(alloc: Global, pairs: &[Pair]) -> Result<Vec<u32>, AllocError>
+    ensures { IfOk result (λ columns. columns.items ≡ map (λ p. p.col) pairs.now) }
+{
+    let mut columns = Vec::with_capacity(alloc, pairs.len())?;
+    for pair in pairs {
+        columns.push(pair.col)?;
+    }
+    Ok(columns)
+}
+
 // For each pair how many of the pairs have an entry in its column, itself among them.
 fn count_waits(
     alloc: Global,
     rows: &Rows,
     pairs: &[Pair],
-    columns: &PivotalColumns,
+    columns: &AscendingColumns,
 ) -> Result<Vec<u32>, AllocError>
     requires pivots { AreSortedPivots rows.now.matrix pairs.now }
     requires few { length pairs.now ≤ LARGEST_SIZE }
@@ -155,7 +166,7 @@ fn count_waits(
 }
 
 // One more at the place of each of these columns that is pivotal.
-fn raise(waits: &mut [u32], columns: &PivotalColumns, cols: &[u32])
+fn raise(waits: &mut [u32], columns: &AscendingColumns, cols: &[u32])
     requires many { length waits.old ≡ length columns.now }
     requires pivotal { AreRising columns.now }
     requires rising { AreRising cols.now }
@@ -204,7 +215,7 @@ fn next_ready(waits: &[u32], queue: &mut Queue) -> Option<u32>
 // One less at the place of each of these columns that is pivotal, and the places at which one is left onto the queue.
 fn lower(
     waits: &mut [u32],
-    columns: &PivotalColumns,
+    columns: &AscendingColumns,
     cols: &[u32],
     queue: &mut Queue,
 ) -> Result<(), AllocError>
@@ -252,7 +263,7 @@ fn list_all(
     alloc: Global,
     rows: &Rows,
     pairs: &[Pair],
-    columns: &PivotalColumns,
+    columns: &AscendingColumns,
     waits: &mut [u32],
     queue: &mut Queue,
 ) -> Result<Vec<Pair>, AllocError>

@@ -1,32 +1,31 @@
-// Where the columns of pivots stand.
-ghost use Rattle.std.specs.Prelude.{◌≡◌, ◌≢◌, ◌<◌, ◌≤◌, ℕ, length, map, slice_index, IfNone, IfOk, IfSome, MatchOption};
+// Where ascending columns stand.
+ghost use Rattle.std.specs.Prelude.{◌≡◌, ◌≢◌, ◌<◌, ◌≤◌, length, slice_index, IfNone, IfOk, IfSome, MatchOption};
 ghost use Rattle.std.specs.List.{Contains};
-ghost use Rattle.sparse_rows.specs.Rows.{AreRising};
+ghost use Rattle.sparse_rows.specs.Rows.{AreBelow, AreRising};
 ghost use Rattle.sparse_rows.specs.declared.rows.TheConstants.{LARGEST_SIZE};
-ghost use Rattle.triangular_solve.specs.PivotalColumns.{IsPlaceOf, IsTable};
-ghost use Rattle.triangular_solve.specs.declared.pivotal_columns.TheConstants.{NONE};
+ghost use Rattle.triangular_solve.specs.AscendingColumns.{IsPlaceOf, IsTable};
+ghost use Rattle.triangular_solve.specs.declared.ascending_columns.TheConstants.{NONE};
 
-use pivot_table::Pair;
 use std::alloc::{AllocError, Global};
 use std::marker::Model;
 
-// Stands at each column that isn't pivotal.
+// Stands at each column that isn't in the list.
 const NONE: u32 = u32::MAX;
 
-// How many columns a pivot a table may have.
-const COLUMNS_A_PIVOT: usize = 64;
+// How many columns a place a table may have.
+const COLUMNS_A_PLACE: usize = 64;
 
-// The columns of pivots, ascending, with a way from a column to its place: a table by column, or where the matrix is far wider
-// than it has pivots, a search by halves. Contracts see the columns.
+// Ascending columns with a way from a column to its place: a table by column, or where the matrix is far wider than they are many,
+// a search by halves. Contracts see the columns.
 #[derive(Debug, Drop)]
-pub(crate) struct PivotalColumns {
+pub(crate) struct AscendingColumns {
     columns: Vec<u32>,
     table: Option<Vec<u32>>,
 }
 
-impl Model for PivotalColumns {
+impl Model for AscendingColumns {
     ghost use Rattle.std.specs.Prelude.{List, ℕ};
-    ghost use Rattle.triangular_solve.specs.PivotalColumns.{HasTable};
+    ghost use Rattle.triangular_solve.specs.AscendingColumns.{HasTable};
 
     ghost Value = { List ℕ };
 
@@ -35,24 +34,31 @@ impl Model for PivotalColumns {
     ghost invariant = { λ c. HasTable c.columns.items c.table };
 }
 
-impl PivotalColumns {
-    // The columns of these pairs, which ascend.
-    pub(crate) fn of(alloc: Global, width: u32, pairs: &[Pair]) -> Result<Self, AllocError>
+impl AscendingColumns {
+    pub(crate) fn of(alloc: Global, width: u32, columns: Vec<u32>) -> Result<Self, AllocError>
         requires width { width ≤ LARGEST_SIZE }
-        requires rising { AreRising (map (λ p. p.col) pairs.now) }
-        requires below { (k : ℕ) → k < length pairs.now → slice_index (map (λ p. p.col) pairs.now) k < width }
-        ensures { IfOk result (λ columns. columns ≡ map (λ p. p.col) pairs.now) }
+        requires rising { AreRising columns.items }
+        requires below { AreBelow width columns.items }
+        ensures { IfOk result (λ made. made ≡ columns.items) }
     {
-        let columns = columns_of(alloc, pairs)?;
-        let table = if width as usize / COLUMNS_A_PIVOT <= columns.len() {
+        let table = if width as usize / COLUMNS_A_PLACE <= columns.len() {
             Some(table_of(alloc, width, &columns)?)
         } else {
             None
         };
-        Ok(PivotalColumns { columns, table })
+        Ok(AscendingColumns { columns, table })
     }
 
-    // The place of a column, if it is pivotal: in constant time by the table, else in time logarithmic in the pivots.
+    // The columns.
+    pub(crate) fn columns(&self) -> &[u32]
+        ensures columns { result.now ≡ self.now }
+        ensures rising { AreRising self.now }
+        ensures few { length self.now ≤ LARGEST_SIZE }
+    {
+        self.columns.as_slice()
+    }
+
+    // The place of a column, if it has one: in constant time by the table, else in time logarithmic in the columns.
     pub(crate) fn find(&self, column: u32) -> Option<u32>
         ensures { MatchOption result (¬ Contains self.now column) (IsPlaceOf self.now column) }
     {
@@ -63,22 +69,11 @@ impl PivotalColumns {
     }
 }
 
-// The columns of these pairs.
-fn columns_of(alloc: Global, pairs: &[Pair]) -> Result<Vec<u32>, AllocError>
-    ensures { IfOk result (λ columns. columns.items ≡ map (λ p. p.col) pairs.now) }
-{
-    let mut columns = Vec::with_capacity(alloc, pairs.len())?;
-    for pair in pairs {
-        columns.push(pair.col)?;
-    }
-    Ok(columns)
-}
-
-// The place of each pivotal column.
+// The place of each column.
 fn table_of(alloc: Global, width: u32, columns: &[u32]) -> Result<Vec<u32>, AllocError>
     requires width { width ≤ LARGEST_SIZE }
     requires rising { AreRising columns.now }
-    requires below { (k : ℕ) → k < length columns.now → slice_index columns.now k < width }
+    requires below { AreBelow width columns.now }
     ensures { IfOk result (λ table. IsTable columns.now table.items) }
 {
     let mut table = vec![in alloc; NONE; width as usize]?;
