@@ -8,8 +8,8 @@ use Rattle.residue_words.proofs.Lists.{contains_at, place_in}
 use Rattle.sparse_rows.specs.ColumnSet.{AllZero, TakesFirst}
 use Rattle.sparse_rows.specs.Rows.{AreBelow, AreRising, nonzeros, support}
 use Rattle.sparse_rows.proofs.Spread.{entry_cover, entry_here, entry_support, support_sparse}
-use Rattle.triangular_solve.specs.PivotRows.{AppendsBefore, AscendWhereNonzero, IsSplit}
-use Rattle.triangular_solve.proofs.SplitRows.{AreDistinct, distinct_same, placed_or_none}
+use Rattle.triangular_solve.specs.PivotRows.{AppendsBefore, AreDistinct, AscendWhereNonzero, IsSplit}
+use Rattle.triangular_solve.proofs.SplitRows.{distinct_same, placed_or_none}
 
 -- the entry in the support's place t is not 0
 pub support_nonzero : {p n : ℕ} {w : List ℕ} → IsVector p n w → (t : ℕ) → t < length (support w) → slice_index w (slice_index (support w) t) ≢ 0

@@ -5,13 +5,16 @@ pub mod Combining
 pub mod Counting
 pub mod Dividing
 pub mod Draining
+pub mod Eliminating
 pub mod Examples
 pub mod Extent
 pub mod JoinedRows
 pub mod LedRows
+pub mod Listed
 pub mod Listing
 pub mod OrderingColumns
 pub mod Placing
+pub mod PlacingRows
 pub mod Queueing
 pub mod Reducing
 pub mod SchurRows

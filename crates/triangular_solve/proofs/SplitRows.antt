@@ -13,11 +13,8 @@ use Rattle.sparse_rows.proofs.Expanding.{among_or_not}
 use Rattle.sparse_rows.proofs.Loops.{length_zeros}
 use Rattle.sparse_rows.proofs.Spread.{at_spread, entry_beyond, length_spread, spread_none, spread_push}
 use Rattle.triangular_solve.specs.AscendingColumns.{IsPlaceOf}
-use Rattle.triangular_solve.specs.PivotRows.{IsSplit}
+use Rattle.triangular_solve.specs.PivotRows.{AreDistinct, IsSplit}
 use Rattle.triangular_solve.proofs.Draining.{set_vector}
-
-abbrev pub AreDistinct : List ℕ → Type 0
-AreDistinct xs = (k t : ℕ) → k < t → t < length xs → slice_index xs k ≢ slice_index xs t
 
 pub distinct_same : (xs : List ℕ) → AreDistinct xs → (k t : ℕ) → k < length xs → t < length xs → slice_index xs k ≡ slice_index xs t → k ≡ t
 distinct_same xs distinct k t lk lt e = elim (cases_eq k t) [

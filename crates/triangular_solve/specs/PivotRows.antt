@@ -2,11 +2,12 @@
 use Rattle.std.specs.Prelude.{◌≡◌, ◌≢◌, ◌<◌, ◌≤◌, ◌+◌, ◌*◌, ◌%◌, ℕ, List, length, map, slice_index}
 use Rattle.std.specs.List.{Contains}
 use Rattle.residue_words.specs.Residues.{IsPrime, sum_below}
-use Rattle.residue_words.specs.Matrix.{Matrix, IsVector, entry, list_of}
+use Rattle.residue_words.specs.Matrix.{Matrix, IsVector, entry, list_of, zeros}
 use Rattle.residue_words.specs.declared.plain.Pair.{Pair}
 use Rattle.row_space.specs.Factors.{row_at, col_at}
 use Rattle.sparse_rows.specs.Rows.{AreBelow, ResidueMatrix, ResidueRow, support}
 use Rattle.sparse_rows.specs.declared.rows.TheConstants.{LARGEST_SIZE}
+use Rattle.triangular_solve.specs.Accumulator.{IsClear}
 use Rattle.triangular_solve.specs.AscendingColumns.{IsPlaceOf}
 
 -- `places` has the place in the order of each of the sorted columns, as far as they are in it
@@ -21,23 +22,37 @@ pub record IsOrderOf (sorted places columns : List ℕ) : Type 0 where
   pub so_far : IsOrdering sorted places columns
   pub all : (t : ℕ) → t < length sorted → slice_index places t ≢ 4294967295
 
+-- no column stands twice
+abbrev pub AreDistinct : List ℕ → Type 0
+AreDistinct columns = (k t : ℕ) → k < t → t < length columns → slice_index columns k ≢ slice_index columns t
+
 -- the columns of the pairs, in order, and then others, ascending
 pub record HasPivotsFirst (qs : List Pair) (columns : List ℕ) : Type 0 where
   pub pivotal : (k : ℕ) → k < length qs → IsPlaceOf columns (col_at qs k) k
   pub ascending : (k t : ℕ) → length qs ≤ k → k < t → t < length columns → slice_index columns k < slice_index columns t
-  pub distinct : (k t : ℕ) → k < t → t < length columns → slice_index columns k ≢ slice_index columns t
+  pub distinct : AreDistinct columns
 
 -- what is seen of pivot rows: their matrix, and the columns of the whole matrix for which its columns stand
 pub record PlacedRows : Type 0 where
   pub rows : ResidueMatrix
   pub columns : List ℕ
 
--- upper triangular rows with nonzero pivots, whose columns stand for distinct ones
+abbrev pub placed_rows : ResidueMatrix → List ℕ → PlacedRows
+placed_rows rows columns = record { rows = rows; columns = columns }
+
+-- no more rows than columns, each of which begins on the diagonal
+pub record AreUpper (A : Matrix) : Type 0 where
+  pub short : A.height ≤ A.width
+  pub diagonal : (k : ℕ) → k < A.height → entry A k k ≢ 0
+  pub upper : (k i : ℕ) → k < A.height → i < k → entry A k i ≡ 0
+
+-- upper triangular rows, whose columns stand for distinct others: those behind the pivots for ascending ones
 pub record ArePlaced (placed : PlacedRows) : Type 0 where
+  pub upper : AreUpper placed.rows.matrix
   pub width : placed.rows.matrix.width ≡ length placed.columns
-  pub short : placed.rows.matrix.height ≤ length placed.columns
-  pub diagonal : (k : ℕ) → k < placed.rows.matrix.height → entry placed.rows.matrix k k ≢ 0
-  pub upper : (k i : ℕ) → k < placed.rows.matrix.height → i < k → entry placed.rows.matrix k i ≡ 0
+  pub distinct : AreDistinct placed.columns
+  pub ascending : (k t : ℕ) → placed.rows.matrix.height ≤ k → k < t → t < length placed.columns →
+      slice_index placed.columns k < slice_index placed.columns t
 
 -- the inverses of the pivots
 pub record AreInverses (A : ResidueMatrix) (inverses : List ℕ) : Type 0 where
@@ -106,6 +121,28 @@ pub record AppendsBefore (w : List ℕ) (from end : ℕ) (old new : List ℕ) (t
   pub after : (t : ℕ) → to ≤ t → t < length (support w) → end ≤ slice_index (support w) t
   pub there : (t : ℕ) → from ≤ t → t < to → slice_index new (slice_index (support w) t) ≡ slice_index w (slice_index (support w) t)
   pub others : (j : ℕ) → ((t : ℕ) → from ≤ t → t < to → slice_index (support w) t ≢ j) → slice_index new j ≡ slice_index old j
+
+-- a row of sums and a row of entries, both zero, of one modulus
+pub record IsRoom (sums passed : ResidueRow) : Type 0 where
+  pub few : length sums.row ≤ LARGEST_SIZE
+  pub clear : IsClear passed.modulus (length sums.row) sums
+  pub zero : passed.row ≡ zeros (length passed.row)
+
+-- the same, with as many sums as the pivot rows have columns
+pub record IsRoomFor (placed : PlacedRows) (sums passed : ResidueRow) : Type 0 where
+  pub modulus : passed.modulus ≡ placed.rows.modulus
+  pub clear : IsClear placed.rows.modulus (length placed.columns) sums
+  pub zero : passed.row ≡ zeros (length passed.row)
+
+-- v is the rest and the coefficients times the rows, and the rest is 0 in the columns of pivots; sizes hold for any modulus
+pub record AreReduced (placed : PlacedRows) (v rest coefficients : List ℕ) : Type 0 where
+  pub vector : IsVector placed.rows.modulus (length v) rest
+  pub residues : IsVector placed.rows.modulus placed.rows.matrix.height coefficients
+  pub zero : (k : ℕ) → k < placed.rows.matrix.height → slice_index rest (slice_index placed.columns k) ≡ 0
+  pub inside : IsPrime placed.rows.modulus → (i : ℕ) → i < length placed.columns → slice_index v (slice_index placed.columns i)
+      ≡ (slice_index rest (slice_index placed.columns i)
+          + sum_below placed.rows.matrix.height (λ k. slice_index coefficients k * entry placed.rows.matrix k i)) % placed.rows.modulus
+  pub outside : (j : ℕ) → j < length v → ¬ Contains placed.columns j → slice_index rest j ≡ slice_index v j
 
 -- row i of A on these columns
 abbrev pub row_on : Matrix → List ℕ → ℕ → List ℕ

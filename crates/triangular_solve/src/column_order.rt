@@ -9,7 +9,7 @@ ghost use Rattle.sparse_rows.specs.Stored.{IsSparse, spread};
 ghost use Rattle.sparse_rows.specs.declared.rows.TheConstants.{LARGEST_SIZE};
 ghost use Rattle.triangular_solve.specs.AscendingColumns.{IsPlaceOf};
 ghost use Rattle.triangular_solve.specs.Accumulator.{IsClear};
-ghost use Rattle.triangular_solve.specs.PivotRows.{AppendsBefore, AscendWhereNonzero, HasPivotsFirst, IsAlike, IsOrdering, IsOrderOf, IsSplit};
+ghost use Rattle.triangular_solve.specs.PivotRows.{AppendsBefore, AreDistinct, AscendWhereNonzero, HasPivotsFirst, IsAlike, IsOrdering, IsOrderOf, IsSplit};
 
 use crate::accumulator::Accumulator;
 use crate::ascending_columns::AscendingColumns;
@@ -100,7 +100,7 @@ impl ColumnOrder {
         requires modulus { passed.old.modulus ≡ sums.old.modulus }
         requires clear { IsClear sums.old.modulus (length self.now) sums.old }
         requires none { passed.old.row ≡ zeros (length passed.old.row) }
-        requires distinct { (k t : ℕ) → k < t → t < length self.now → slice_index self.now k ≢ slice_index self.now t }
+        requires distinct { AreDistinct self.now }
         requires below { AreBelow (length passed.old.row) self.now }
         ensures sums { IsAlike sums.old sums.new }
         ensures passed { IsAlike passed.old passed.new }
@@ -130,7 +130,7 @@ impl ColumnOrder {
         requires alike { IsAlike passed.now rest.old }
         requires modulus { sums.old.modulus ≡ rest.old.modulus }
         requires none { rest.old.row ≡ zeros (length rest.old.row) }
-        requires distinct { (k t : ℕ) → k < t → t < length self.now → slice_index self.now k ≢ slice_index self.now t }
+        requires distinct { AreDistinct self.now }
         requires below { AreBelow (length rest.old.row) self.now }
         requires ascending { AscendWhereNonzero self.now sums.old.row }
         requires apart { (i : ℕ) → i < length self.now → slice_index passed.now.row (slice_index self.now i) ≡ 0 }

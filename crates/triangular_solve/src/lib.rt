@@ -10,6 +10,7 @@ mod ascending_columns;
 mod column_order;
 mod leads;
 mod led;
+mod pivot_rows;
 mod queue;
 mod reduced;
 #[cfg(test)]

@@ -6,7 +6,7 @@ use Rattle.sparse_rows.specs.Rows.{AreRising, ResidueMatrix}
 use Rattle.triangular_solve.specs.Listing.{AreSortedPivots}
 use Rattle.pivot_table.specs.Order.{IsTriangularOrder}
 use Rattle.triangular_solve.proofs.Listing.{col_is, no_pair, order_of_sorted}
-use Rattle.triangular_solve.proofs.triangle.Triangle.of.Goals as goal
+use Rattle.triangular_solve.proofs.triangle.in_order.Goals as goal
 
 pub of-requires-clause-rising : goal.of-requires-clause-rising
 of-requires-clause-rising c = subst (λ (qs : List Pair). AreRising (map (λ (p : Pair). p.col) qs)) (sym c.deref.ensures.value) c.in_ok-pairs.ensures.pivots.rising
