@@ -29,8 +29,7 @@ pub first_place : {p n : ℕ} {w : List ℕ} → IsVector p n w → (k : ℕ) �
 first_place {p} {n} {w} vector k ne zero_before =
     let f = support_place w k ne in
     let s = support_sparse vector in
-    let some : 0 < length (support w) = omega (arith, f.1) in
-    (
+    let some : 0 < length (support w) = omega (arith, f.1) in (
       some,
       elim (cases_eq f.0 0) [
         | inl e ↦ ap (slice_index (support w)) (sym e) ∙ f.2
@@ -89,11 +88,11 @@ over p x i u f two small e inv =
     let one : x * 1 ≡ x = omega arith in
     let plain : 0 + f * u ≡ f * u = omega arith in
     sym (
-      ap (λ y. y % p) plain
-      ∙ mul_same p f (x * i) u u (ap (λ y. y % p) e ∙ mod-mod (x * i) p) refl
-      ∙ ap (λ y. y % p) turn
-      ∙ mul_same p x x (u * i) 1 refl (inv ∙ sym (mod-eq_of_lt (omega arith)))
-      ∙ ap (λ y. y % p) one ∙ mod-eq_of_lt small
+    ap (λ y. y % p) plain
+    ∙ mul_same p f (x * i) u u (ap (λ y. y % p) e ∙ mod-mod (x * i) p) refl
+    ∙ ap (λ y. y % p) turn
+    ∙ mul_same p x x (u * i) 1 refl (inv ∙ sym (mod-eq_of_lt (omega arith)))
+    ∙ ap (λ y. y % p) one ∙ mod-eq_of_lt small
     )
 
 -- the first sum, which stands at a pivot, is taken away by the pivot's row
@@ -177,9 +176,9 @@ module _ (placed : PlacedRows) {s s1 inverses cs vs : List ℕ} {k v : ℕ} (two
             let now : slice_index b.row i ≡ (slice_index s i + g * entry placed.rows.matrix k i) % placed.rows.modulus =
             sums i l ∙ ap (λ y. (y + g * entry_at (behind_first cs) (behind_first vs) i) % placed.rows.modulus) (was_other i d) ∙ ap (λ y. (slice_index s i + g * y) % placed.rows.modulus) (tail_other i d) in
             sym (
-              ap (λ y. (y + f * entry placed.rows.matrix k i) % placed.rows.modulus) now
-              ∙ back placed.rows.modulus (slice_index s i) (entry placed.rows.matrix k i) f g low is_g
-              ∙ mod-eq_of_lt (vector.residues i l)
+            ap (λ y. (y + f * entry placed.rows.matrix k i) % placed.rows.modulus) now
+            ∙ back placed.rows.modulus (slice_index s i) (entry placed.rows.matrix k i) f g low is_g
+            ∙ mod-eq_of_lt (vector.residues i l)
             )
       ];
     }

@@ -13,6 +13,7 @@ pub mod LedRows
 pub mod Listed
 pub mod Listing
 pub mod OrderingColumns
+pub mod PivotReduction
 pub mod Placing
 pub mod PlacingRows
 pub mod Queueing

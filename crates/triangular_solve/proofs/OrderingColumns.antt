@@ -68,26 +68,26 @@ ordering_more {sorted} {places} {columns} few o t l none =
       long = length-set places t (length columns) ∙ o.long;
       placed = λ s ls ne. elim (cases_eq s t) [
         | inl e ↦ (
-          let v : slice_index (slice_set places t (length columns)) s ≡ length columns = ap (slice_index (slice_set places t (length columns))) e ∙ here in
-          (omega arith, ap (slice_index (columns ++ c ∷ [])) v ∙ get_or_push columns c 0 (length columns) refl ∙ ap (slice_index sorted) (sym e))
-        )
+            let v : slice_index (slice_set places t (length columns)) s ≡ length columns = ap (slice_index (slice_set places t (length columns))) e ∙ here in
+            (omega arith, ap (slice_index (columns ++ c ∷ [])) v ∙ get_or_push columns c 0 (length columns) refl ∙ ap (slice_index sorted) (sym e))
+            )
         | inr d ↦ (
-          let v = get_or-set_other places t s (length columns) 0 d in
-          let was = o.placed s ls (λ z. ne (v ∙ z)) in
-          (omega (arith, v, was.0), ap (slice_index (columns ++ c ∷ [])) v ∙ get_or_append_left columns (c ∷ []) 0 (slice_index places s) was.0 ∙ was.1)
-        )
+            let v = get_or-set_other places t s (length columns) 0 d in
+            let was = o.placed s ls (λ z. ne (v ∙ z)) in
+            (omega (arith, v, was.0), ap (slice_index (columns ++ c ∷ [])) v ∙ get_or_append_left columns (c ∷ []) 0 (slice_index places s) was.0 ∙ was.1)
+            )
       ];
       every = λ k lk. elim (cases_lt k (length columns)) [
         | inl less ↦ (
-          let was = o.every k less in
-          let short = ordering_short o in
-          let apart : was.0 ≢ t = λ e. absurd (omega (arith, was.1.1, ap (slice_index places) e)) in
-          (was.0, (omega (arith, length-set places t (length columns), was.1.0), get_or-set_other places t was.0 (length columns) 0 apart ∙ was.1.1), was.2)
-        )
+            let was = o.every k less in
+            let short = ordering_short o in
+            let apart : was.0 ≢ t = λ e. absurd (omega (arith, was.1.1, ap (slice_index places) e)) in
+            (was.0, (omega (arith, length-set places t (length columns), was.1.0), get_or-set_other places t was.0 (length columns) 0 apart ∙ was.1.1), was.2)
+            )
         | inr ge ↦ (
-          let e : length columns ≡ k = omega arith in
-          (t, (omega (arith, length-set places t (length columns), o.long), here ∙ e), l)
-        )
+            let e : length columns ≡ k = omega arith in
+            (t, (omega (arith, length-set places t (length columns), o.long), here ∙ e), l)
+            )
       ];
     }
 

@@ -141,7 +141,7 @@ pub record AreReduced (placed : PlacedRows) (v rest coefficients : List ℕ) : T
   pub zero : (k : ℕ) → k < placed.rows.matrix.height → slice_index rest (slice_index placed.columns k) ≡ 0
   pub inside : IsPrime placed.rows.modulus → (i : ℕ) → i < length placed.columns → slice_index v (slice_index placed.columns i)
       ≡ (slice_index rest (slice_index placed.columns i)
-          + sum_below placed.rows.matrix.height (λ k. slice_index coefficients k * entry placed.rows.matrix k i)) % placed.rows.modulus
+      + sum_below placed.rows.matrix.height (λ k. slice_index coefficients k * entry placed.rows.matrix k i)) % placed.rows.modulus
   pub outside : (j : ℕ) → j < length v → ¬ Contains placed.columns j → slice_index rest j ≡ slice_index v j
 
 -- row i of A on these columns

@@ -214,7 +214,11 @@ fn place_pivots(
 }
 
 // Gives the next places to the columns that have none.
-fn place_others(sorted: &[u32], places: &mut [u32], columns: &mut Vec<u32>) -> Result<(), AllocError>
+fn place_others(
+    sorted: &[u32],
+    places: &mut [u32],
+    columns: &mut Vec<u32>,
+) -> Result<(), AllocError>
     requires few { length sorted.now ≤ LARGEST_SIZE }
     requires rising { AreRising sorted.now }
     requires ordering { IsOrdering sorted.now places.old columns.old.items }

@@ -135,7 +135,8 @@ fn occupied_columns(alloc: Global, rows: &Rows, pairs: &[Pair]) -> Result<Vec<u3
     requires inside { (k : ℕ) → k < length pairs.now → row_at pairs.now k < rows.now.matrix.height }
     ensures { IfOk result (λ columns. AreOccupied (selected rows.now.matrix (map (λ q. q.row) pairs.now)) columns.items) }
 {
-    rows.select(alloc, &row_numbers(alloc, pairs)?)?.occupied(alloc)
+    rows.select(alloc, &row_numbers(alloc, pairs)?)?
+        .occupied(alloc)
 }
 
 // The rows of the pairs, by their numbers.

@@ -99,9 +99,15 @@ impl<'a> Triangle<'a> {
             self.now.rows.matrix self.now.pairs (spread self.now.rows.matrix.width cols.now vals.now) (reduction_of r)) }
     {
         let mut rest = Sparse::new(alloc, self.rows.width(), self.rows.modulus());
-        let mut coefficients =
-            Sparse::new(alloc, self.pairs.len() as u32, self.rows.modulus());
-        work.reduce(alloc, &self.pivots, cols, vals, &mut rest, &mut coefficients)?;
+        let mut coefficients = Sparse::new(alloc, self.pairs.len() as u32, self.rows.modulus());
+        work.reduce(
+            alloc,
+            &self.pivots,
+            cols,
+            vals,
+            &mut rest,
+            &mut coefficients,
+        )?;
         Ok(Reduced { rest, coefficients })
     }
 
@@ -157,7 +163,8 @@ fn in_order(alloc: Global, book: &Book) -> Result<Vec<Pair>, AllocError>
     let columns = AscendingColumns::of(alloc, rows.width(), columns_of(alloc, &pairs)?)?;
     let mut waits = count_waits(alloc, rows, &pairs, &columns)?;
     let mut queue = queue_ready(alloc, &waits)?;
-    list_all(alloc, rows, &pairs, &columns, &mut waits, &mut queue)
+    let order = list_all(alloc, rows, &pairs, &columns, &mut waits, &mut queue)?;
+    Ok(order)
 }
 
 // The columns of these pairs.

@@ -78,7 +78,15 @@ impl Work {
             rest.new.row coefficients.new.row) }
     {
         fit(alloc, pivots, &mut self.sums)?;
-        let done = reduce_by(pivots, cols, vals, &mut self.sums, &mut self.passed, rest, coefficients);
+        let done = reduce_by(
+            pivots,
+            cols,
+            vals,
+            &mut self.sums,
+            &mut self.passed,
+            rest,
+            coefficients,
+        );
         self.sums.clear();
         self.passed.clear();
         done

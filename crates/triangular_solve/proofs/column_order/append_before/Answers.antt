@@ -14,8 +14,7 @@ loop-at-preserved c =
     let w : List ℕ = c.args.row.now.row in
     let at : ℕ = c.loop-at.at in
     let rising : AreRising (support w) = subst AreRising c.cols-cols.ensures.support c.cols-cols.ensures.ascending in
-    let l : at < length (support w) = omega (arith, c.loop-at-test.true, ap length c.cols-cols.ensures.support) in
-    (
+    let l : at < length (support w) = omega (arith, c.loop-at-test.true, ap length c.cols-cols.ensures.support) in (
       (c.push.ensures.modulus ∙ c.loop-at.invariant.0.0, ap length c.in_ok-push.ensures.ok ∙ length-set c.loop-at.to.row _ _ ∙ c.loop-at.invariant.0.1),
       appending_more rising (subst (λ n. AreBelow n (support w)) (sym c.requires.alike.1) (subst (AreBelow (length w)) c.cols-cols.ensures.support c.cols-cols.ensures.below_width))
           c.loop-at.invariant.1 l (omega (arith, c.if-cols-at.true, ap (λ cs. slice_index cs at) c.cols-cols.ensures.support))

@@ -14,9 +14,9 @@ loop-place-init c = record {
   rest = (refl, refl);
   vector = c.requires.vector;
   joining = joining_none c.args.self.now c.args.sums.now.row c.args.passed.now.row c.args.rest.now.row c.requires.alike.1 (λ j. elim (cases_lt j (length c.args.rest.now.row)) [
-      | inl l ↦ zero_at c.args.rest.now.row _ c.requires.none j l
-      | inr ge ↦ get_or_past c.args.rest.now.row j 0 (omega arith)
-    ]);
+    | inl l ↦ zero_at c.args.rest.now.row _ c.requires.none j l
+    | inr ge ↦ get_or_past c.args.rest.now.row j 0 (omega arith)
+  ]);
 }
 
 column_is : {column place : ℕ} (d : ℕ) {items now : List ℕ} → items ≡ now → place < length now → column ≡ get_or items place d → column ≡ slice_index now place

@@ -24,16 +24,16 @@ push-requires-clause-behind c = λ j le l. splitting_behind c.requires.row c.loo
 pub loop-k-preserved : goal.loop-k-preserved
 loop-k-preserved c = elim c.match-find.branch [
   | in-Some w ↦ rw w.sums-is (rw w.passed-is record {
-      sums = (w.add.ensures.modulus ∙ c.loop-k.invariant.sums.0, ap length w.add.ensures.row ∙ length-set c.loop-k.sums.row w.in-Some.place _ ∙ c.loop-k.invariant.sums.1);
-      passed = c.loop-k.invariant.passed;
-      splitting = splitting_inside (omega (arith, c.modulus.ensures.value, c.modulus.ensures.two_or_more, c.requires.modulus)) c.requires.distinct c.requires.row c.loop-k.invariant.splitting c.loop-k-test.true w.in-Some.place w.in-Some.ensures _
-          (w.add.ensures.row ∙ ap (λ m. slice_set c.loop-k.sums.row w.in-Some.place ((slice_index c.loop-k.sums.row w.in-Some.place + slice_index c.args.vals.now c.loop-k.k) % m)) c.loop-k.invariant.sums.0);
-    })
+    sums = (w.add.ensures.modulus ∙ c.loop-k.invariant.sums.0, ap length w.add.ensures.row ∙ length-set c.loop-k.sums.row w.in-Some.place _ ∙ c.loop-k.invariant.sums.1);
+    passed = c.loop-k.invariant.passed;
+    splitting = splitting_inside (omega (arith, c.modulus.ensures.value, c.modulus.ensures.two_or_more, c.requires.modulus)) c.requires.distinct c.requires.row c.loop-k.invariant.splitting c.loop-k-test.true w.in-Some.place w.in-Some.ensures _
+        (w.add.ensures.row ∙ ap (λ m. slice_set c.loop-k.sums.row w.in-Some.place ((slice_index c.loop-k.sums.row w.in-Some.place + slice_index c.args.vals.now c.loop-k.k) % m)) c.loop-k.invariant.sums.0);
+  })
   | in-None+in_ok-push-in-None w ↦ rw w.sums-is (rw w.passed-is record {
-      sums = c.loop-k.invariant.sums;
-      passed = (w.push.ensures.modulus ∙ c.loop-k.invariant.passed.0, ap length w.in_ok-push-in-None.ensures.ok ∙ length-set c.loop-k.passed.row _ _ ∙ c.loop-k.invariant.passed.1);
-      splitting = splitting_outside c.requires.row c.loop-k.invariant.splitting c.loop-k-test.true w.in-None.ensures _ w.in_ok-push-in-None.ensures.ok;
-    })
+    sums = c.loop-k.invariant.sums;
+    passed = (w.push.ensures.modulus ∙ c.loop-k.invariant.passed.0, ap length w.in_ok-push-in-None.ensures.ok ∙ length-set c.loop-k.passed.row _ _ ∙ c.loop-k.invariant.passed.1);
+    splitting = splitting_outside c.requires.row c.loop-k.invariant.splitting c.loop-k-test.true w.in-None.ensures _ w.in_ok-push-in-None.ensures.ok;
+  })
 ]
 
 pub returns-clause-split : goal.returns-clause-split

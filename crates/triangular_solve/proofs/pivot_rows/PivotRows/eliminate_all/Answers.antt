@@ -30,8 +30,7 @@ loop-smaller c =
 
 pub loop-preserved : goal.loop-preserved
 loop-preserved c =
-    let t = some_of c.eliminate_next.result c.eliminate_next.ensures.some (sym c.is_some.ensures ∙ c.loop-test.true) in
-    (
+    let t = some_of c.eliminate_next.result c.eliminate_next.ensures.some (sym c.is_some.ensures ∙ c.loop-test.true) in (
       c.eliminate_next.ensures.sums,
       (_, eliminating_more (omega (arith, ap (λ (P : PlacedRows). P.rows.modulus) c.self.view_is, c.modulus.ensures.value, c.modulus.ensures.two_or_more)) c.loop.invariant.1.1 t.1 refl),
     )

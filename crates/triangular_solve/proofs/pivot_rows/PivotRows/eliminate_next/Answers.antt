@@ -11,7 +11,7 @@ same_modulus {a} e = λ i. record { modulus = e i; row = a.row }
 pub returns-then-place-height-clause-none : goal.returns-then-place-height-clause-none
 returns-then-place-height-clause-none c =
     let b = put_back c.requires.sums c.in-Some.ensures.some c.in-Some.ensures.modulus
-        (omega (arith, ap (λ (Q : PlacedRows). Q.rows.matrix.height) c.self.view_is, c.height.ensures.value, c.if-place-height.true)) c.add.ensures in
+    (omega (arith, ap (λ (Q : PlacedRows). Q.rows.matrix.height) c.self.view_is, c.height.ensures.value, c.if-place-height.true)) c.add.ensures in
     (subst (λ (r : ResidueRow). IsEliminated c.args.self.now r.row) (sym b.0) b.1, ap (λ (r : ResidueRow). r.row) b.0)
 
 pub slice_bounds-add_multiple-count : goal.slice_bounds-add_multiple-count
@@ -19,16 +19,22 @@ slice_bounds-add_multiple-count c = (tail_some (placed_rows c.self.inside.rows c
     (omega (arith, c.if-place-height.false, c.height.ensures.value)) c.cols-cols.ensures.support c.vals-vals.ensures.values).0
 
 pub slice_bounds-add_multiple-start : goal.slice_bounds-add_multiple-start
-slice_bounds-add_multiple-start c = omega (arith, (tail_some (placed_rows c.self.inside.rows c.self.inside.order) (omega (arith, c.modulus-modulus.ensures.value, c.modulus-modulus.ensures.two_or_more)) c.modulus-modulus.ensures.sound c.self.invariant.0 c.self.invariant.1 (subst (λ (Q : PlacedRows). AreSums Q c.args.sums.now) (sym c.self.view_is) c.requires.sums).vector c.in-Some.ensures.some
-    (omega (arith, c.if-place-height.false, c.height.ensures.value)) c.cols-cols.ensures.support c.vals-vals.ensures.values).0)
+slice_bounds-add_multiple-start c = omega (
+  arith,
+  (tail_some (placed_rows c.self.inside.rows c.self.inside.order) (omega (arith, c.modulus-modulus.ensures.value, c.modulus-modulus.ensures.two_or_more)) c.modulus-modulus.ensures.sound c.self.invariant.0 c.self.invariant.1 (subst (λ (Q : PlacedRows). AreSums Q c.args.sums.now) (sym c.self.view_is) c.requires.sums).vector c.in-Some.ensures.some
+      (omega (arith, c.if-place-height.false, c.height.ensures.value)) c.cols-cols.ensures.support c.vals-vals.ensures.values).0,
+)
 
 pub slice_bounds-add_multiple-count-2 : goal.slice_bounds-add_multiple-count-2
 slice_bounds-add_multiple-count-2 c = (tail_some (placed_rows c.self.inside.rows c.self.inside.order) (omega (arith, c.modulus-modulus.ensures.value, c.modulus-modulus.ensures.two_or_more)) c.modulus-modulus.ensures.sound c.self.invariant.0 c.self.invariant.1 (subst (λ (Q : PlacedRows). AreSums Q c.args.sums.now) (sym c.self.view_is) c.requires.sums).vector c.in-Some.ensures.some
     (omega (arith, c.if-place-height.false, c.height.ensures.value)) c.cols-cols.ensures.support c.vals-vals.ensures.values).1
 
 pub slice_bounds-add_multiple-start-2 : goal.slice_bounds-add_multiple-start-2
-slice_bounds-add_multiple-start-2 c = omega (arith, (tail_some (placed_rows c.self.inside.rows c.self.inside.order) (omega (arith, c.modulus-modulus.ensures.value, c.modulus-modulus.ensures.two_or_more)) c.modulus-modulus.ensures.sound c.self.invariant.0 c.self.invariant.1 (subst (λ (Q : PlacedRows). AreSums Q c.args.sums.now) (sym c.self.view_is) c.requires.sums).vector c.in-Some.ensures.some
-    (omega (arith, c.if-place-height.false, c.height.ensures.value)) c.cols-cols.ensures.support c.vals-vals.ensures.values).1)
+slice_bounds-add_multiple-start-2 c = omega (
+  arith,
+  (tail_some (placed_rows c.self.inside.rows c.self.inside.order) (omega (arith, c.modulus-modulus.ensures.value, c.modulus-modulus.ensures.two_or_more)) c.modulus-modulus.ensures.sound c.self.invariant.0 c.self.invariant.1 (subst (λ (Q : PlacedRows). AreSums Q c.args.sums.now) (sym c.self.view_is) c.requires.sums).vector c.in-Some.ensures.some
+      (omega (arith, c.if-place-height.false, c.height.ensures.value)) c.cols-cols.ensures.support c.vals-vals.ensures.values).1,
+)
 
 pub add_multiple-requires-clause-sparse : goal.add_multiple-requires-clause-sparse
 add_multiple-requires-clause-sparse c = tail_sparse (placed_rows c.self.inside.rows c.self.inside.order) (omega (arith, c.modulus-modulus.ensures.value, c.modulus-modulus.ensures.two_or_more)) c.modulus-modulus.ensures.sound c.self.invariant.0 c.self.invariant.1 (subst (λ (Q : PlacedRows). AreSums Q c.args.sums.now) (sym c.self.view_is) c.requires.sums).vector c.in-Some.ensures.some
