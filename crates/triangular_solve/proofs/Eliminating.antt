@@ -1,5 +1,5 @@
 -- Sums at pivots that are taken away by multiples of the pivots' rows.
-use Rattle.std.proofs.Common.{ℕ, zero, suc, ◌≡◌, ◌≢◌, ◌+◌, ◌-◌, ◌*◌, ◌%◌, ◌<◌, ◌≤◌, ◌⊎◌, cond, eqb, List, [], ◌∷◌, length, slice_index, slice_set, take, drop, inl, inr, sym, refl, ap, ap₂, subst, ◌∙◌, arith, eq-eqb, ne_eqb, mod-eq_of_lt, zero-mul}
+use Rattle.std.proofs.Common.{ℕ, suc, ◌≡◌, ◌≢◌, ◌+◌, ◌-◌, ◌*◌, ◌%◌, ◌<◌, ◌≤◌, cond, eqb, List, [], ◌∷◌, length, slice_index, slice_set, take, drop, inl, inr, sym, refl, ap, ap₂, subst, ◌∙◌, arith, eq-eqb, ne_eqb, mod-eq_of_lt, zero-mul}
 use native.Mathlib.Nat.{mod-mod}
 use Rattle.std.proofs.lemmas.Bool.{cases_eq, cases_lt, cond-true, cond-false}
 use Rattle.std.proofs.lemmas.List.{length-set, get_or-set_same, get_or-set_other, get_or_past, take_all}
@@ -8,13 +8,13 @@ use Rattle.residue_words.specs.Matrix.{IsMatrix, IsVector, entry, row, zeros}
 use Rattle.residue_words.proofs.Residues.{add_same, mul_same, multiple_zero}
 use Rattle.residue_words.proofs.Sums.{sum_add, sum_equal, sum_single, sum_zero}
 use Rattle.residue_words.proofs.Vectors.{at_zeros, list_equal}
-use Rattle.sparse_rows.specs.ColumnSet.{AllZero, TakesFirst}
-use Rattle.sparse_rows.specs.Rows.{AddsAt, AddsMultiple, AreRising, ResidueMatrix, ResidueRow, nonzeros, support}
+use Rattle.sparse_rows.specs.ColumnSet.{TakesFirst}
+use Rattle.sparse_rows.specs.Rows.{AddsAt, AddsMultiple, ResidueMatrix, ResidueRow, nonzeros, support}
 use Rattle.sparse_rows.specs.Stored.{IsSparse, entry_at}
 use Rattle.sparse_rows.proofs.Loops.{length_zeros}
 use Rattle.sparse_rows.proofs.Spread.{entry_cover, entry_support, entry_tail, support_sparse}
-use Rattle.triangular_solve.specs.PivotRows.{AreInverses, AreSums, AreUpper, ArePlaced, Eliminates, IsEliminated, IsEliminating, PlacedRows}
-use Rattle.triangular_solve.proofs.Draining.{set_vector, taken_vector}
+use Rattle.triangular_solve.specs.PivotRows.{AreInverses, AreSums, ArePlaced, Eliminates, IsEliminated, IsEliminating, PlacedRows}
+use Rattle.triangular_solve.proofs.Draining.{set_vector}
 use Rattle.triangular_solve.proofs.Extent.{extent, extent_falls}
 use Rattle.triangular_solve.proofs.JoinedRows.{support_nonzero, support_place}
 

@@ -1,15 +1,15 @@
 -- A row that is joined from sums by places and from entries that have passed.
-use Rattle.std.proofs.Common.{ℕ, ◌≡◌, ◌≢◌, ◌+◌, ◌<◌, ◌≤◌, ◌⊎◌, List, length, slice_index, slice_set, inl, inr, sym, refl, ap, subst, ◌∙◌, arith}
+use Rattle.std.proofs.Common.{ℕ, ◌≡◌, ◌≢◌, ◌+◌, ◌<◌, ◌≤◌, List, length, slice_index, slice_set, inl, inr, sym, refl, ap, subst, ◌∙◌, arith}
 use Rattle.std.specs.List.{Contains}
 use Rattle.std.proofs.lemmas.Bool.{cases_eq, cases_lt}
 use Rattle.std.proofs.lemmas.List.{length-set, get_or-set_same, get_or-set_other}
 use Rattle.residue_words.specs.Matrix.{IsVector}
-use Rattle.residue_words.proofs.Lists.{contains_at, place_in}
+use Rattle.residue_words.proofs.Lists.{contains_at}
 use Rattle.sparse_rows.specs.ColumnSet.{AllZero, TakesFirst}
 use Rattle.sparse_rows.specs.Rows.{AreBelow, AreRising, nonzeros, support}
 use Rattle.sparse_rows.proofs.Spread.{entry_cover, entry_here, entry_support, support_sparse}
 use Rattle.triangular_solve.specs.PivotRows.{AppendsBefore, AreDistinct, AscendWhereNonzero, IsSplit}
-use Rattle.triangular_solve.proofs.SplitRows.{distinct_same, placed_or_none}
+use Rattle.triangular_solve.proofs.SplitRows.{distinct_same}
 
 -- the entry in the support's place t is not 0
 pub support_nonzero : {p n : ℕ} {w : List ℕ} → IsVector p n w → (t : ℕ) → t < length (support w) → slice_index w (slice_index (support w) t) ≢ 0

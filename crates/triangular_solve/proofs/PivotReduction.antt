@@ -1,13 +1,12 @@
 -- A row that was split, whose sums at pivots were taken away and that was joined again is reduced.
-use Rattle.std.proofs.Common.{ℕ, ◌≡◌, ◌≢◌, ◌+◌, ◌*◌, ◌%◌, ◌<◌, ◌≤◌, List, length, slice_index, inl, inr, sym, refl, ap, ap₂, subst, ◌∙◌, arith, mod-eq_of_lt, mul-zero}
-use Rattle.std.specs.List.{Contains}
-use Rattle.std.proofs.lemmas.Bool.{cases_eq, cases_lt}
+use Rattle.std.proofs.Common.{ℕ, ◌≡◌, ◌+◌, ◌*◌, ◌%◌, ◌<◌, ◌≤◌, List, length, slice_index, inl, inr, sym, ap, ap₂, subst, ◌∙◌, arith, mod-eq_of_lt, mul-zero}
+use Rattle.std.proofs.lemmas.Bool.{cases_lt}
 use Rattle.residue_words.specs.Residues.{IsPrime, sum_below}
 use Rattle.residue_words.specs.Matrix.{IsVector, entry, zeros}
 use Rattle.residue_words.specs.declared.plain.Pair.{Pair}
 use Rattle.residue_words.proofs.Sums.{sum_equal, sum_zero}
-use Rattle.row_space.specs.Factors.{row_at, col_at}
-use Rattle.sparse_rows.specs.Rows.{AreBelow, ResidueMatrix, ResidueRow}
+use Rattle.row_space.specs.Factors.{row_at}
+use Rattle.sparse_rows.specs.Rows.{ResidueMatrix, ResidueRow}
 use Rattle.sparse_rows.specs.Stored.{spread}
 use Rattle.sparse_rows.proofs.Loops.{length_zeros}
 use Rattle.sparse_rows.proofs.Spread.{length_spread}

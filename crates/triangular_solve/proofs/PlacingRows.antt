@@ -1,24 +1,22 @@
 -- The rows of triangular pairs, as they stand on the columns that they occupy.
-use Rattle.std.proofs.Common.{ℕ, suc, ◌≡◌, ◌≢◌, ◌+◌, ◌*◌, ◌%◌, ◌<◌, ◌≤◌, List, [], ◌∷◌, ◌++◌, get_or, length, map, slice_index, take, inl, inr, sym, refl, ap, ap₂, subst, ◌∙◌, arith}
+use Rattle.std.proofs.Common.{ℕ, ◌≡◌, ◌≢◌, ◌+◌, ◌*◌, ◌%◌, ◌<◌, ◌≤◌, List, [], ◌∷◌, ◌++◌, get_or, length, map, slice_index, take, inl, inr, sym, ap, ap₂, subst, ◌∙◌, arith}
 use Rattle.std.specs.List.{Contains}
 use Rattle.std.proofs.lemmas.Bool.{cases_eq, cases_lt}
 use Rattle.std.proofs.lemmas.List.{get_or-map, get_or_append_left, get_or_push, length-map, length-take-le, length_push, map_push, take_more}
 use Rattle.residue_words.specs.declared.plain.Pair.{Pair}
 use Rattle.residue_words.specs.Residues.{IsPrime}
-use Rattle.residue_words.specs.Matrix.{Matrix, IsMatrix, IsVector, entry, list_of, row}
-use Rattle.residue_words.proofs.Lists.{contains_at, place_in}
+use Rattle.residue_words.specs.Matrix.{Matrix, IsMatrix, IsVector, entry, row}
 use Rattle.residue_words.proofs.Vectors.{at_list_of, length_list_of, list_equal}
 use Rattle.row_space.specs.Factors.{row_at, col_at}
 use Rattle.row_space.proofs.Counting.{pigeonhole}
-use Rattle.sparse_rows.specs.Rows.{AreBelow, AreOccupied, AreRising, ResidueMatrix, nonzeros, selected, support}
+use Rattle.sparse_rows.specs.Rows.{AreBelow, AreOccupied, ResidueMatrix, nonzeros, selected, support}
 use Rattle.sparse_rows.specs.Stored.{IsSparse, spread, with_row}
 use Rattle.sparse_rows.proofs.Spread.{spread_support, support_sparse}
 use Rattle.pivot_table.specs.Order.{Triangular}
-use Rattle.triangular_solve.specs.PivotRows.{AreDistinct, AreInverses, ArePivotRows, ArePlaced, AreUpper, HasPivotsFirst, IsSplit, PlacedRows, placed_rows, row_on, rows_on}
+use Rattle.triangular_solve.specs.PivotRows.{ArePivotRows, AreUpper, HasPivotsFirst, IsSplit, placed_rows, row_on, rows_on}
 use Rattle.triangular_solve.proofs.Eliminating.{AreInversesBelow, first_place}
 use Rattle.triangular_solve.proofs.JoinedRows.{support_value}
 use Rattle.triangular_solve.proofs.Listing.{no_pair}
-use Rattle.triangular_solve.proofs.SplitRows.{distinct_same}
 
 pub pair_row : (pairs : List Pair) (k : ℕ) → k < length pairs → (get_or pairs k no_pair).row ≡ row_at pairs k
 pair_row pairs k l = sym (get_or-map (λ (q : Pair). q.row) pairs k no_pair 0 l)

@@ -1,14 +1,13 @@
 -- A row that is split into the entries in some columns and the others, and joined again.
-use Rattle.std.proofs.Common.{ℕ, suc, ◌≡◌, ◌≢◌, ◌+◌, ◌*◌, ◌%◌, ◌<◌, ◌≤◌, ◌⊎◌, ◌++◌, List, [], ◌∷◌, length, slice_index, slice_set, take, inl, inr, sym, refl, ap, ap₂, subst, ◌∙◌, arith, mod-eq_of_lt}
+use Rattle.std.proofs.Common.{ℕ, ◌≡◌, ◌+◌, ◌%◌, ◌<◌, ◌≤◌, ◌⊎◌, List, [], length, slice_index, slice_set, take, inl, inr, sym, refl, ap, ap₂, subst, ◌∙◌, arith, mod-eq_of_lt}
 use Rattle.std.specs.List.{Contains}
 use Rattle.std.proofs.lemmas.Bool.{cases_eq, cases_lt}
 use Rattle.std.proofs.lemmas.List.{length-set, length-take-le, get_or-set_same, get_or-set_other, get_or-take, take_all, take_more}
 use Rattle.residue_words.specs.Matrix.{IsVector, zeros}
 use Rattle.residue_words.proofs.Lists.{contains_at, place_in}
 use Rattle.residue_words.proofs.Vectors.{at_zeros}
-use Rattle.sparse_rows.specs.ColumnSet.{AllZero, TakesFirst}
-use Rattle.sparse_rows.specs.Rows.{AreBelow, AreRising}
-use Rattle.sparse_rows.specs.Stored.{IsSparse, entry_at, spread}
+use Rattle.sparse_rows.specs.Rows.{AreBelow}
+use Rattle.sparse_rows.specs.Stored.{IsSparse, spread}
 use Rattle.sparse_rows.proofs.Expanding.{among_or_not}
 use Rattle.sparse_rows.proofs.Loops.{length_zeros}
 use Rattle.sparse_rows.proofs.Spread.{at_spread, entry_beyond, length_spread, spread_none, spread_push}

@@ -1,4 +1,4 @@
-use Rattle.std.proofs.Common.{ℕ, List, length, slice_index, slice_set, subst, sym, ◌∙◌, ap, arith}
+use Rattle.std.proofs.Common.{length, slice_set, subst, sym, ◌∙◌, arith}
 use Rattle.triangular_solve.specs.PivotRows.{IsOrdering}
 use Rattle.triangular_solve.proofs.OrderingColumns.{ordering_more, ordering_short}
 use Rattle.triangular_solve.proofs.column_order.append.Goals as goal

@@ -1,7 +1,7 @@
-use Rattle.std.proofs.Common.{ℕ, List, ◌≡◌, ◌<◌, ◌≤◌, ◌∙◌, length, slice_index, slice_set, ap, subst, sym, arith}
+use Rattle.std.proofs.Common.{ℕ, List, ◌≡◌, ◌<◌, ◌∙◌, length, slice_index, slice_set, ap, subst, sym, arith}
 use Rattle.std.proofs.lemmas.List.{length-set}
 use Rattle.sparse_rows.specs.Rows.{AreBelow, AreRising, support}
-use Rattle.triangular_solve.proofs.JoinedRows.{appending_all, appending_behind, appending_more, appending_none, support_value}
+use Rattle.triangular_solve.proofs.JoinedRows.{appending_all, appending_behind, appending_more, support_value}
 use Rattle.triangular_solve.proofs.column_order.append_before.Goals as goal
 
 pub push-requires-clause-behind : goal.push-requires-clause-behind

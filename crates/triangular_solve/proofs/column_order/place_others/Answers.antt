@@ -1,5 +1,4 @@
-use Rattle.std.proofs.Common.{arith, sym, ◌∙◌}
-use Rattle.triangular_solve.proofs.OrderingColumns.{others_all, others_more, others_none, others_order, others_passed}
+use Rattle.triangular_solve.proofs.OrderingColumns.{others_all, others_more, others_order, others_passed}
 use Rattle.triangular_solve.proofs.column_order.place_others.Goals as goal
 use Rattle.triangular_solve.proofs.column_order.place_others.Goals.{then-places-at+in_ok-append, else-places-at}
 

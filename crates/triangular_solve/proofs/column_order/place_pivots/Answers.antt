@@ -1,8 +1,8 @@
-use Rattle.std.proofs.Common.{ℕ, List, [], ◌++◌, ◌∷◌, arith, ap, sym, subst, slice_index, ◌∙◌}
+use Rattle.std.proofs.Common.{[], ◌++◌, ◌∷◌, ap, sym, subst, slice_index, ◌∙◌}
 use Rattle.std.specs.List.{Contains}
 use Rattle.triangular_solve.specs.PivotRows.{IsOrdering}
 use Rattle.triangular_solve.proofs.Listing.{col_is}
-use Rattle.triangular_solve.proofs.OrderingColumns.{pivot_is_new, pivots_all, pivots_more, pivots_none}
+use Rattle.triangular_solve.proofs.OrderingColumns.{pivot_is_new, pivots_more}
 use Rattle.triangular_solve.proofs.column_order.place_pivots.Goals as goal
 use Rattle.triangular_solve.proofs.column_order.place_pivots.Goals.{in-Some+in_ok-append, in_default}
 

@@ -1,6 +1,5 @@
-use Rattle.std.proofs.Common.{◌≡◌, ◌<◌, ◌∙◌, ◌*◌, ◌%◌, length, slice_index, sym, ap, ap₂, subst, arith}
+use Rattle.std.proofs.Common.{◌≡◌, ◌<◌, ◌∙◌, ◌*◌, ◌%◌, sym, ap₂, subst, arith}
 use Rattle.residue_words.specs.Residues.{IsPrime}
-use Rattle.residue_words.specs.Matrix.{entry}
 use Rattle.triangular_solve.proofs.PlacingRows.{first_pivot, inverses_more}
 use Rattle.triangular_solve.proofs.pivot_rows.invert_pivots.Goals as goal
 

@@ -1,8 +1,7 @@
-use Rattle.std.proofs.Common.{ℕ, List, [], ◌≡◌, ◌<◌, ◌≤◌, ◌∙◌, get_or, length, refl, sym, ap, ap₂, subst, arith}
+use Rattle.std.proofs.Common.{ℕ, [], ◌≡◌, ◌<◌, ◌∙◌, get_or, length, sym, ap, ap₂, subst, arith}
 use Rattle.std.proofs.lemmas.List.{take_all}
 use Rattle.residue_words.specs.Matrix.{Matrix, zeros}
-use Rattle.residue_words.specs.declared.plain.Pair.{Pair}
-use Rattle.sparse_rows.specs.Rows.{AreBelow, ResidueMatrix, ResidueRow}
+use Rattle.sparse_rows.specs.Rows.{AreBelow, ResidueRow}
 use Rattle.sparse_rows.specs.Stored.{with_row}
 use Rattle.sparse_rows.proofs.Loops.{length_zeros}
 use Rattle.triangular_solve.specs.PivotRows.{rows_on}

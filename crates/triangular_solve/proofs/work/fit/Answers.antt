@@ -1,2 +1,0 @@
-use Rattle.std.proofs.Common.{arith}
-use Rattle.triangular_solve.proofs.work.fit.Goals as goal

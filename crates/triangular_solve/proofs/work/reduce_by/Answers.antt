@@ -1,7 +1,6 @@
-use Rattle.std.proofs.Common.{ℕ, ◌≡◌, ◌∙◌, ap, subst, sym, length, arith}
+use Rattle.std.proofs.Common.{ap, subst, sym, length}
 use Rattle.sparse_rows.specs.Rows.{ResidueRow}
 use Rattle.sparse_rows.specs.Stored.{IsSparse}
-use Rattle.triangular_solve.proofs.PivotReduction.{ascend_behind, reduced_parts}
 use Rattle.triangular_solve.proofs.work.reduce_by.Goals as goal
 
 pub split-requires-clause-row : goal.split-requires-clause-row

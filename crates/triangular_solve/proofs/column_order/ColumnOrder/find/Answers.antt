@@ -1,7 +1,6 @@
-use Rattle.std.proofs.Common.{List, ℕ, ◌≡◌, slice_index, subst, sym, ap, arith, ◌∙◌}
+use Rattle.std.proofs.Common.{List, ℕ, subst, sym}
 use Rattle.std.specs.List.{Contains}
-use Rattle.triangular_solve.specs.AscendingColumns.{IsPlaceOf}
-use Rattle.triangular_solve.proofs.OrderingColumns.{order_finds, order_from}
+use Rattle.triangular_solve.proofs.OrderingColumns.{order_from}
 use Rattle.triangular_solve.proofs.column_order.ColumnOrder.find.Goals as goal
 
 pub returns-in_err-at : goal.returns-in_err-at

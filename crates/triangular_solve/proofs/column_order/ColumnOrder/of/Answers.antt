@@ -1,9 +1,8 @@
-use Rattle.std.proofs.Common.{ℕ, List, ◌≡◌, subst, sym, ◌∙◌}
+use Rattle.std.proofs.Common.{ℕ, List, subst, sym, ◌∙◌}
 use Rattle.std.specs.List.{Contains}
-use Rattle.sparse_rows.specs.Rows.{AreBelow}
 use Rattle.row_space.specs.Factors.{col_at}
 use Rattle.triangular_solve.specs.PivotRows.{IsOrderOf}
-use Rattle.triangular_solve.proofs.OrderingColumns.{order_below, order_has, ordering_none}
+use Rattle.triangular_solve.proofs.OrderingColumns.{order_below, order_has}
 use Rattle.triangular_solve.proofs.column_order.ColumnOrder.of.Goals as goal
 use Rattle.triangular_solve.proofs.column_order.ColumnOrder.of.Goals.{In_ok-place_others}
 

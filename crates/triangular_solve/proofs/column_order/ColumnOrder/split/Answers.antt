@@ -1,4 +1,4 @@
-use Rattle.std.proofs.Common.{ℕ, List, ◌≡◌, ◌<◌, ◌%◌, ◌+◌, ◌∙◌, length, slice_index, slice_set, refl, sym, ap, subst, arith}
+use Rattle.std.proofs.Common.{ℕ, List, ◌%◌, ◌+◌, ◌∙◌, length, slice_index, slice_set, refl, sym, ap, subst, arith}
 use Rattle.std.proofs.lemmas.List.{length-set}
 use Rattle.residue_words.specs.Matrix.{zeros}
 use Rattle.sparse_rows.specs.Rows.{ResidueRow}

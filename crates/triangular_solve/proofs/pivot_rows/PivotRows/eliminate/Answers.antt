@@ -1,4 +1,4 @@
-use Rattle.std.proofs.Common.{◌≡◌, ◌<◌, ◌≤◌, ◌∙◌, length, slice_index, refl, sym, ap, subst, arith}
+use Rattle.std.proofs.Common.{◌∙◌, length, refl, sym, ap, subst, arith}
 use Rattle.std.proofs.lemmas.List.{length-set}
 use Rattle.sparse_rows.proofs.Loops.{length_zeros}
 use Rattle.triangular_solve.specs.PivotRows.{IsEliminating}

@@ -1,4 +1,4 @@
-use Rattle.std.proofs.Common.{ℕ, List, Option, Some, None, Bool, true, false, ◌≡◌, ◌∙◌, IfSome, IfNone, refl, sym, ap, subst, arith}
+use Rattle.std.proofs.Common.{Option, Some, None, true, false, ◌≡◌, ◌∙◌, IfSome, IfNone, refl, sym, ap, subst, arith}
 use Rattle.std.proofs.lemmas.Bool.{false≢true, true≢false}
 use Rattle.std.specs.Option.{is_some}
 use Rattle.residue_words.specs.Matrix.{zeros}

@@ -1,4 +1,4 @@
-use Rattle.std.proofs.Common.{ℕ, ◌≡◌, ◌<◌, ◌*◌, ◌%◌, ◌-◌, ◌∙◌, length, slice_index, sym, ap, ap₂, subst, arith}
+use Rattle.std.proofs.Common.{ℕ, ◌≡◌, ◌*◌, ◌%◌, ◌-◌, ◌∙◌, length, sym, ap, ap₂, subst, arith}
 use Rattle.std.proofs.lemmas.List.{get_or_default, length-set}
 use Rattle.sparse_rows.specs.Rows.{ResidueRow}
 use Rattle.triangular_solve.specs.PivotRows.{AreSums, Eliminates, IsEliminated, PlacedRows, placed_rows}

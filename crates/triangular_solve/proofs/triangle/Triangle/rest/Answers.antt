@@ -1,5 +1,4 @@
-use Rattle.std.proofs.Common.{◌≡◌, ◌∙◌, ap, subst, length, arith}
-use Rattle.residue_words.specs.Residues.{IsPrime}
+use Rattle.std.proofs.Common.{◌∙◌, ap, subst}
 use Rattle.triangular_solve.specs.PivotRows.{ArePivotRows}
 use Rattle.triangular_solve.specs.Reduced.{Workspace}
 use Rattle.triangular_solve.specs.Triangle.{TriangleState}

@@ -1,5 +1,4 @@
-use Rattle.std.proofs.Common.{◌≡◌, ◌∙◌, ap, length, arith}
-use Rattle.residue_words.specs.declared.plain.Pair.{Pair}
+use Rattle.std.proofs.Common.{◌∙◌, ap, length, arith}
 use Rattle.sparse_rows.specs.Rows.{ResidueMatrix}
 use Rattle.sparse_rows.proofs.Loops.{length_zeros}
 use Rattle.triangular_solve.proofs.PivotReduction.{room_new, same_workspace}
