@@ -1,5 +1,5 @@
 -- A row has at most one Schur row for a prime modulus.
-use Rattle.std.proofs.Common.{ℕ, suc, ◌≡◌, ◌≢◌, ◌+◌, ◌-◌, ◌*◌, ◌%◌, ◌<◌, ◌≤◌, List, length, slice_index, sym, refl, ap, ◌∙◌, arith, mod-eq_of_lt}
+use Rattle.std.proofs.Common.{ℕ, suc, ◌≡◌, ◌≢◌, ◌+◌, ◌-◌, ◌*◌, ◌%◌, ◌<◌, List, length, slice_index, sym, refl, ap, ◌∙◌, arith, mod-eq_of_lt}
 use Rattle.residue_words.specs.declared.plain.Pair.{Pair}
 use Rattle.residue_words.specs.Residues.{IsPrime, sum_below}
 use Rattle.residue_words.specs.Matrix.{Matrix, IsMatrix, entry}
@@ -9,7 +9,7 @@ use Rattle.residue_words.proofs.Vectors.{entry_residue, vector_equal}
 use Rattle.row_space.specs.Factors.{row_at, col_at}
 use Rattle.row_space.proofs.Triangular.{upper_zero}
 use Rattle.pivot_table.specs.Order.{Triangular}
-use Rattle.triangular_solve.specs.Reduced.{IsReduced, IsSchurRow, SchurRowIsOne}
+use Rattle.triangular_solve.specs.Reduced.{IsReduced, SchurRowIsOne}
 
 -- the diagonal of a triangular list
 pub diagonal : {p : ℕ} {A : Matrix} {qs : List Pair} → IsMatrix p A → Triangular A qs → (k : ℕ) → k < length qs → entry A (row_at qs k) (col_at qs k) % p ≢ 0

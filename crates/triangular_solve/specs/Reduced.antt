@@ -1,6 +1,6 @@
 -- What the pivots of a triangle leave of a row and of a matrix: Schur rows and the Schur complement (textbook; for sparse
 -- elimination Bouillaguet, Delaplace and Voge, PASCO 2017).
-use Rattle.std.specs.Prelude.{◌≡◌, ◌≢◌, ◌<◌, ◌+◌, ◌*◌, ◌%◌, ℕ, List, length, slice_index}
+use Rattle.std.specs.Prelude.{◌≡◌, ◌<◌, ◌+◌, ◌*◌, ◌%◌, ℕ, List, length, slice_index}
 use Rattle.residue_words.specs.Residues.{IsPrime, sum_below}
 use Rattle.residue_words.specs.Matrix.{Matrix, IsMatrix, IsVector, entry, row}
 use Rattle.residue_words.specs.declared.plain.Pair.{Pair}

@@ -6,9 +6,11 @@
 #![tactic(auto)]
 
 mod accumulator;
+mod ascending_columns;
+mod column_order;
 mod leads;
 mod led;
-mod pivotal_columns;
+mod pivot_rows;
 mod queue;
 mod reduced;
 #[cfg(test)]
