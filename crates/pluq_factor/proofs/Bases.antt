@@ -92,7 +92,6 @@ basis_few {R} {r} {V} h mv basis prime =
     let few = independent_height p N A prime.two_or_more both.0 (λ v c. (both.1 v).1 c) in
     omega (arith, ap (λ (M : Matrix). M.height) h.top, few)
 
-
 -- where the rows don't fit, which a prime modulus excludes, the pivots' rows alone are answered
 pub basis_top : {R : ResidueMatrix} {r : Left} → IsLeft R r → (IsPrime R.modulus → ⊥) → IsBasis R.modulus R.matrix r.top
 basis_top {R} {r} h odd = record {

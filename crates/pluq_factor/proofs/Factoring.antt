@@ -68,12 +68,15 @@ complement_none {p} {A} m = record {
   pivotal = λ k j l lj. absurd (omega arith);
   others = λ i l none. (
     m.each i l,
-    ([], record {
-      zero = λ k l. absurd (omega arith);
-      sum = λ j lj.
-          let plain : entry A i j ≡ entry A i j + 0 = omega arith in
-          sym (mod-eq_of_lt (entry_residue p A m i j l lj)) ∙ ap (λ x. x % p) (plain ∙ ap (λ x. entry A i j + x) (sym (sum_none (λ k. slice_index [] k * entry A (row_at [] k) j))));
-    }),
+    (
+      [],
+      record {
+        zero = λ k l. absurd (omega arith);
+        sum = λ j lj.
+            let plain : entry A i j ≡ entry A i j + 0 = omega arith in
+            sym (mod-eq_of_lt (entry_residue p A m i j l lj)) ∙ ap (λ x. x % p) (plain ∙ ap (λ x. entry A i j + x) (sym (sum_none (λ k. slice_index [] k * entry A (row_at [] k) j))));
+      },
+    ),
   );
 }
 

@@ -68,7 +68,10 @@ fn factor_from<R: Threads + Sync, G: Gate>(
     };
     drop(rows);
     let Taken { pivots, top, left } = round;
-    let SchurRows { rows: rest, coefficients } = left;
+    let SchurRows {
+        rows: rest,
+        coefficients,
+    } = left;
     let below = factor_from(rt, alloc, rest, workers, rounds - 1, gate)?;
     // Only where the modulus isn't prime.
     if pivots.items().len() + below.pivots.items().len() > height as usize {
