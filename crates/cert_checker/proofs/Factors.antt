@@ -1,12 +1,12 @@
 -- Factors by what is checked of them.
-use Rattle.std.proofs.Common.{ℕ, ◌≡◌, ◌≢◌, ◌*◌, ◌%◌, ◌<◌, ◌↔◌, List, length, map, slice_index, sym, ap, ◌∙◌, arith}
+use Rattle.std.proofs.Common.{ℕ, ◌≡◌, ◌≢◌, ◌<◌, ◌↔◌, List, length, map, slice_index, sym, ap, ◌∙◌, arith}
 use Rattle.std.proofs.lemmas.List.{length-map}
 use Rattle.residue_words.specs.declared.plain.Pair.{Pair}
 use Rattle.residue_words.specs.Matrix.{Matrix, IsMatrix, combine, entry, row}
 use Rattle.residue_words.proofs.Vectors.{at_combine, entry_matrix_of, length_list_of, list_equal}
 use Rattle.row_space.specs.Factors.{AreFactors}
 use Rattle.sparse_rows.specs.Rows.{AreBelow, transposed}
-use Rattle.cert_checker.specs.Diagonal.{AreLast, LastAt}
+use Rattle.cert_checker.specs.Diagonal.{AreLast}
 use Rattle.cert_checker.specs.Factoring.{AreOfSizes}
 use Rattle.cert_checker.specs.Product.{IsCombined, IsProduct}
 

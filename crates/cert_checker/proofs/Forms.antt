@@ -3,7 +3,7 @@ use Rattle.std.proofs.Common.{ℕ, ◌≡◌, ◌+◌, ◌*◌, ◌%◌, ◌<◌
 use Rattle.std.specs.List.{range_with_len}
 use Rattle.std.proofs.lemmas.List.{get_or-map, replicate_more}
 use Rattle.std.proofs.lemmas.List.FromFn.{map-range_with_len_more}
-use Rattle.residue_words.specs.Matrix.{Matrix, IsMatrix, IsVector, apply, combine, entry, list_of, row, zeros}
+use Rattle.residue_words.specs.Matrix.{Matrix, IsMatrix, IsVector, combine, entry, list_of, row, zeros}
 use Rattle.residue_words.specs.Residues.{sum_below}
 use Rattle.residue_words.proofs.Sums.{sum_equal}
 use Rattle.residue_words.proofs.Vectors.{at_apply, at_combine, at_list_of, at_zeros, entry_matrix_of, length_list_of, list_equal}

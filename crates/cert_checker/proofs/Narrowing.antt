@@ -4,12 +4,11 @@ use native.Mathlib.Nat.{zero-mod}
 use Rattle.std.specs.List.{Contains}
 use Rattle.std.proofs.lemmas.Bool.{cases_eq, cases_lt}
 use Rattle.residue_words.specs.Matrix.{Matrix, IsMatrix, entry}
-use Rattle.residue_words.specs.Residues.{sum_below}
-use Rattle.residue_words.proofs.Lists.{contains_at, place_in}
+use Rattle.residue_words.proofs.Lists.{place_in}
 use Rattle.residue_words.proofs.Sums.{sum_equal, sum_has, sum_zero}
 use Rattle.residue_words.proofs.Vectors.{entry_matrix_of}
 use Rattle.sparse_rows.specs.Placed.{IsNextInEither, AreBothZeroFrom}
-use Rattle.sparse_rows.specs.Rows.{AreEnough, AreOccupied, IsZeroRow, narrowed, support}
+use Rattle.sparse_rows.specs.Rows.{AreEnough, AreOccupied, IsZeroRow, narrowed}
 use Rattle.sparse_rows.proofs.FilledRows.{zero_entry}
 use Rattle.cert_checker.specs.Product.{AreAllIn, IsCombined, IsProduct, combined_at}
 

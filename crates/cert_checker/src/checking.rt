@@ -19,7 +19,8 @@ use std::alloc::{AllocError, Global};
 /// and the number of pivots, and not by heights and widths.
 pub fn check(alloc: Global, a: &Rows, certificate: &Certificate) -> Result<bool, AllocError>
     requires { IsFormed a.now.modulus certificate.now }
-    ensures { IfOk result (λ valid. IsTrue valid ↔ IsValid a.now.modulus a.now.matrix (certificate_of certificate.now)) }
+    ensures { IfOk result (λ valid. IsTrue valid
+        ↔ IsValid a.now.modulus a.now.matrix (certificate_of certificate.now)) }
 {
     if certificate.p != a.modulus().p() {
         return Ok(false);
@@ -51,7 +52,8 @@ fn shows(
 ) -> Result<bool, AllocError>
     requires right { u.now.modulus ≡ a.now.modulus }
     requires extra { HasExtra a.now.modulus kind extra.now }
-    ensures { IfOk result (λ yes. IsTrue yes ↔ Shows a.now.modulus a.now.matrix rank u.now.matrix (claim_of kind extra.now)) }
+    ensures { IfOk result (λ yes. IsTrue yes
+        ↔ Shows a.now.modulus a.now.matrix rank u.now.matrix (claim_of kind extra.now)) }
 {
     let Some(matrix) = extra else {
         return Ok(kind == CertKind::Rank);

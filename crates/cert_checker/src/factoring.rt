@@ -21,7 +21,8 @@ pub(crate) fn are_factors(
 ) -> Result<bool, AllocError>
     requires left { l.now.modulus ≡ a.now.modulus }
     requires right { u.now.modulus ≡ a.now.modulus }
-    ensures { IfOk result (λ yes. IsTrue yes ↔ AreFactors a.now.modulus a.now.matrix pivots.now l.now.matrix u.now.matrix) }
+    ensures { IfOk result (λ yes. IsTrue yes
+        ↔ AreFactors a.now.modulus a.now.matrix pivots.now l.now.matrix u.now.matrix) }
 {
     // The proof wants that all three are matrices of residues.
     let _ = (a.modulus(), l.modulus(), u.modulus());

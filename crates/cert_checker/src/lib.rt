@@ -11,5 +11,7 @@ mod factoring;
 mod outer_ones;
 mod product;
 mod showing;
+#[cfg(test)]
+mod tests;
 
 pub use checking::check;

@@ -21,7 +21,8 @@ pub(crate) enum Side {
 fn outer_one(rows: &Rows, k: u32, side: Side) -> Option<u32>
     requires { k < rows.now.matrix.height }
     ensures some { IfSome result (IsOuterOne side rows.now.matrix.width (entry rows.now.matrix k)) }
-    ensures none { IfNone result ((c : ℕ) → ¬ IsOuterOne side rows.now.matrix.width (entry rows.now.matrix k) c) }
+    ensures none { IfNone result
+        ((c : ℕ) → ¬ IsOuterOne side rows.now.matrix.width (entry rows.now.matrix k) c) }
 {
     // The proof wants that it is a matrix of residues.
     let _ = rows.height();
@@ -54,8 +55,10 @@ pub(crate) fn outer_ones(
     rows: &Rows,
     side: Side,
 ) -> Result<Option<Vec<u32>>, AllocError>
-    ensures some { IfOk result (λ found. IfSome found (λ ones. AreOuterOnes side rows.now.matrix ones.items)) }
-    ensures none { IfOk result (λ found. IfNone found ((ones : List ℕ) → ¬ AreOuterOnes side rows.now.matrix ones)) }
+    ensures some { IfOk result (λ found. IfSome found
+        (λ ones. AreOuterOnes side rows.now.matrix ones.items)) }
+    ensures none { IfOk result (λ found. IfNone found
+        ((ones : List ℕ) → ¬ AreOuterOnes side rows.now.matrix ones)) }
 {
     // The proof that c + 1 is no overflow wants to know how wide a matrix is.
     let _ = rows.width();

@@ -18,7 +18,8 @@ use std::alloc::{AllocError, Global};
 // Whether V = Y B. Where B has few entries for its width, the product is taken over the columns alone in which B has some.
 pub(crate) fn is_product(alloc: Global, v: &Rows, y: &Rows, b: &Rows) -> Result<bool, AllocError>
     requires { FitAsProduct v.now y.now b.now }
-    ensures { IfOk result (λ yes. IsTrue yes ↔ IsProduct b.now.modulus v.now.matrix y.now.matrix b.now.matrix) }
+    ensures { IfOk result (λ yes. IsTrue yes
+        ↔ IsProduct b.now.modulus v.now.matrix y.now.matrix b.now.matrix) }
 {
     // The proof wants that all three are matrices of residues.
     let _ = (v.modulus(), y.modulus(), b.modulus());
@@ -39,7 +40,8 @@ pub(crate) fn is_product(alloc: Global, v: &Rows, y: &Rows, b: &Rows) -> Result<
 // Whether V = Y B, with memory for each column.
 fn is_narrow_product(alloc: Global, v: &Rows, y: &Rows, b: &Rows) -> Result<bool, AllocError>
     requires { FitAsProduct v.now y.now b.now }
-    ensures { IfOk result (λ yes. IsTrue yes ↔ IsProduct b.now.modulus v.now.matrix y.now.matrix b.now.matrix) }
+    ensures { IfOk result (λ yes. IsTrue yes
+        ↔ IsProduct b.now.modulus v.now.matrix y.now.matrix b.now.matrix) }
 {
     let mut sums = vec![in alloc; 0; b.width() as usize]?;
     Ok(are_rows_of_product(&mut sums, v, y, b))
@@ -67,7 +69,8 @@ fn are_rows_of_product(sums: &mut [u64], v: &Rows, y: &Rows, b: &Rows) -> bool
 // The first row from `from` on in which one of the matrices has an entry, if there is one.
 fn next_in_either(v: &Rows, y: &Rows, from: u32) -> Option<u32>
     requires { y.now.matrix.height ≡ v.now.matrix.height }
-    ensures { MatchOption result (AreBothZeroFrom v.now.matrix y.now.matrix from) (IsNextInEither v.now.matrix y.now.matrix from) }
+    ensures { MatchOption result (AreBothZeroFrom v.now.matrix y.now.matrix from)
+        (IsNextInEither v.now.matrix y.now.matrix from) }
 {
     let Some(i) = v.next_filled(from) else {
         return y.next_filled(from);
@@ -86,7 +89,8 @@ fn is_row_of_product(sums: &mut [u64], v: &Rows, y: &Rows, b: &Rows, i: u32) -> 
     requires zero { AllZero sums.old }
     ensures len { length sums.new ≡ length sums.old }
     ensures zero { IsTrue result → AllZero sums.new }
-    ensures combined { IsTrue result ↔ IsCombined b.now.modulus (entry v.now.matrix i) (entry y.now.matrix i) b.now.matrix }
+    ensures combined { IsTrue result
+        ↔ IsCombined b.now.modulus (entry v.now.matrix i) (entry y.now.matrix i) b.now.matrix }
 {
     // The proof wants that all three are matrices of residues.
     let _ = (v.modulus(), y.modulus());

@@ -1,1 +1,4 @@
 pub mod Certificate
+pub mod CertificateParts
+pub mod CertificateText
+pub mod Laws

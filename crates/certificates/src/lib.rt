@@ -6,5 +6,14 @@
 #![tactic(auto)]
 
 mod certificate;
+mod laws;
+mod reading;
+#[cfg(test)]
+mod tests;
+mod title;
+mod writing;
 
 pub use certificate::{CertKind, Certificate};
+pub use laws::written_certificate_reads_back;
+pub use reading::read;
+pub use writing::write;

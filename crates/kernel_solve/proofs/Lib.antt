@@ -4,4 +4,5 @@ pub mod Free
 pub mod Inverting
 pub mod Matrices
 pub mod Read
+pub mod Refuting
 pub mod RightHalf

@@ -1,5 +1,5 @@
 -- What became of a row.
-use Rattle.std.proofs.Common.{◌≡◌, ◌≢◌, ◌≤◌, ◌+◌, ℕ, List, [], ◌∷◌, ◌++◌, length, take, ap, sym, subst, ◌∙◌, append_assoc, arith}
+use Rattle.std.proofs.Common.{◌≡◌, ◌≤◌, ◌+◌, ℕ, List, [], ◌∷◌, ◌++◌, take, ap, ◌∙◌, append_assoc, arith}
 use Rattle.std.specs.Prelude.{None}
 use Rattle.std.proofs.Math.Seq.{take-append_seam}
 use Rattle.residue_words.specs.Matrix.{Matrix}

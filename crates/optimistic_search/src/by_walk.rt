@@ -1,5 +1,5 @@
 // The search row by row, each by a walk of its own.
-ghost use Rattle.std.specs.Prelude.{◌≡◌, ◌<◌, [], None, IfOk};
+ghost use Rattle.std.specs.Prelude.{◌≡◌, ◌<◌, ◌≤◌, None, length, take, IfOk};
 ghost use Rattle.pivot_table.specs.Greedy.{IsGreedy, IsTried};
 ghost use Rattle.pivot_table.specs.History.{Grown, HasRow, Maximal, StartsWith};
 ghost use Rattle.optimistic_search.specs.Candidate.{IsCovered};
@@ -15,7 +15,7 @@ use std::sync::ledger::Ledger;
 
 // Tries a row: where it has an alive column, the row is appended with the least. A row that is in a pair, or all of whose entries
 // are in columns of pairs, takes no step.
-fn try_row<L: Ledger>(book: &mut Book, walk: &mut Walk, row: u32, steps: &mut Steps<L>)
+pub(crate) fn try_row<L: Ledger>(book: &mut Book, walk: &mut Walk, row: u32, steps: &mut Steps<L>)
     requires rows { walk.old.rows ≡ book.old.rows }
     requires pairs { walk.old.pairs ≡ book.old.pairs }
     requires closed { walk.old.current ≡ None }
@@ -47,9 +47,10 @@ fn try_row<L: Ledger>(book: &mut Book, walk: &mut Walk, row: u32, steps: &mut St
     }
 }
 
-// Appends these pairs to a walk with none.
-fn follow<L: Ledger>(walk: &mut Walk, pairs: &[Pair], steps: &mut Steps<L>)
-    requires none { walk.old.pairs ≡ [] }
+// Appends these pairs to a walk with the first of them.
+pub(crate) fn follow<L: Ledger>(walk: &mut Walk, pairs: &[Pair], first: usize, steps: &mut Steps<L>)
+    requires first { first ≤ length pairs.now }
+    requires pairs { walk.old.pairs ≡ take first pairs.now }
     requires closed { walk.old.current ≡ None }
     requires grown { Grown walk.old.rows.matrix pairs.now }
     ensures rows { walk.new.rows ≡ walk.old.rows }
@@ -57,7 +58,7 @@ fn follow<L: Ledger>(walk: &mut Walk, pairs: &[Pair], steps: &mut Steps<L>)
     ensures closed { walk.new.current ≡ None }
     ensures steps { steps.new ≡ steps.old }
 {
-    for k in 0..pairs.len() {
+    for k in first..pairs.len() {
         walk.extend(pairs[k], steps);
     }
 }
@@ -90,7 +91,7 @@ fn search_with<'a, L: Ledger>(
     let many = rows.height().min(rows.width()) as usize;
     book.reserve(many.saturating_sub(book.pairs().len()))?;
     let mut walk = Walk::new(alloc, rows)?;
-    follow(&mut walk, book.pairs(), steps);
+    follow(&mut walk, book.pairs(), 0, steps);
     try_all(&mut book, &mut walk, steps);
     Ok(book)
 }

@@ -87,6 +87,11 @@ fn is_wide(rows: &Rows) -> bool {
     u64::from(rows.width()) / 4 > rows.entries()
 }
 
+// Whether there are so many more columns, or rows, than entries that what several workers take for each of them doesn't pay.
+pub(crate) fn has_few_entries(rows: &Rows) -> bool {
+    is_wide(rows) || u64::from(rows.height()) / 4 > rows.entries()
+}
+
 // Tries the rows in ascending order, and appends those that have an alive column with the least, in memory by the entries. It
 // takes all memory first.
 pub(crate) fn search_by_entries(alloc: Global, book: Book) -> Result<Book, AllocError>

@@ -1,15 +1,20 @@
 // The walk on the example of histories, and both searches on small matrices.
 ghost use Rattle.sparse_rows.specs.declared.rows.TheConstants.{LARGEST_SIZE};
-ghost use Rattle.std.specs.Prelude.{◌≡◌, ◌<◌, ◌≤◌, ◌+◌, [], None, IfOk};
+ghost use Rattle.std.specs.Prelude.{◌≡◌, ◌<◌, ◌≤◌, ◌+◌, [], ◌∷◌, None, IfOk};
 ghost use Rattle.pivot_table.specs.Example.{pivot_example};
+ghost use Rattle.pivot_table.specs.History.{pair};
+ghost use Rattle.optimistic_search.specs.Taking.{IsIdle};
 
-use crate::{Open, Steps, Walk, search, search_by_walk};
-use pivot_table::Book;
+use crate::{
+    Gate, Open, Point, Steps, Taken, Walk, search, search_by_walk, search_traced, take_row,
+};
+use pivot_table::{Board, Book};
 use residue_words::Modulus;
 use residue_words::plain::Pair;
 use sparse_rows::{Rows, RowsBuilder};
 use std::alloc::{AllocError, Global};
 use std::marker::Brand;
+use std::sync::atomic::{AtomicU64, Ordering};
 use std::sync::ledger::{Blank, Ledger};
 use std::test::Fail;
 use std::thread::Threads;
@@ -61,6 +66,97 @@ fn a_walk_is_carried_on(rt: HostRuntime) -> Result<(), Fail> {
     let found = answers::<Brand>(rt.alloc(), Blank::new(1))?;
     assert_eq!(rt; found[0], Some(1));
     assert_eq!(rt; found[1], None);
+    Ok(())
+}
+
+// The first pair of the example alone.
+fn first_pair<'a>(alloc: Global, rows: &'a Rows) -> Result<Book<'a>, AllocError>
+    requires { rows.now.matrix ≡ pivot_example }
+    ensures matrix { IfOk result (λ b. b.rows.matrix ≡ pivot_example) }
+    ensures rows { IfOk result (λ b. b.rows ≡ rows.now) }
+    ensures pairs { IfOk result (λ b. b.pairs ≡ pair 0 0 ∷ []) }
+{
+    let mut book = Book::empty(alloc, rows)?;
+    book.reserve(1)?;
+    book.push(Pair { row: 0, col: 0 });
+    Ok(book)
+}
+
+// What becomes of the three rows, one after the other, with the first pair given.
+fn taken_in_turn<L: Ledger>(alloc: Global, blank: Blank) -> Result<[Taken; 3], AllocError>
+    requires name { blank.name ≡ L.name }
+    requires parts { blank.parts ≡ L.parts }
+    requires some { 0 < blank.parts }
+{
+    let rows = example_rows(alloc)?;
+    let book = first_pair(alloc, &rows)?;
+    let (board, mut seat) = Board::new(alloc, &book)?;
+    let mut walk = Walk::new(alloc, &rows)?;
+    let mut steps = Steps::<L>::new(blank);
+    walk.extend(Pair { row: 0, col: 0 }, &mut steps);
+    let first = take_row(&board, &mut seat, &mut walk, 0, 7, &Open, &mut steps);
+    let second = take_row(&board, &mut seat, &mut walk, 1, 7, &Open, &mut steps);
+    let third = take_row(&board, &mut seat, &mut walk, 2, 7, &Open, &mut steps);
+    Ok([first, second, third])
+}
+
+#[test]
+fn rows_are_taken_in_turn(rt: HostRuntime) -> Result<(), Fail> {
+    let taken = taken_in_turn::<Brand>(rt.alloc(), Blank::new(1))?;
+    assert_eq!(rt; taken[0], Taken::Busy);
+    assert_eq!(rt; taken[1], Taken::Published(1));
+    assert_eq!(rt; taken[2], Taken::Dropped);
+    Ok(())
+}
+
+// Holds whoever has row 1 before it publishes, until whoever has row 2 has published.
+#[derive(Drop)]
+struct Hold {
+    owner: AtomicU64,
+    published: AtomicU64,
+}
+
+impl Gate for Hold {
+    fn at(&self, worker: u32, point: Point) {
+        let worker = u64::from(worker) + 1;
+        match point {
+            Point::Claimed(2) => self.owner.store(worker, Ordering::SeqCst),
+            Point::Published(_) => {
+                if self.owner.load(Ordering::SeqCst) == worker {
+                    self.published.store(1, Ordering::SeqCst);
+                }
+            }
+            Point::Before(1, _, _) => {
+                for _ in 0..500_000_000u64 {
+                    if self.published.load(Ordering::SeqCst) == 1 {
+                        return;
+                    }
+                }
+            }
+            _ => {}
+        }
+    }
+}
+
+// Whether row 2 overtakes row 1, which is dead then, where the gate holds it: two workers go at once.
+fn is_overtaken<R: Threads + Sync>(rt: &R, alloc: Global) -> Result<bool, AllocError> {
+    let gate = Hold {
+        owner: AtomicU64::new(0),
+        published: AtomicU64::new(0),
+    };
+    let rows = example_rows(alloc)?;
+    let found = search_traced(rt, alloc, first_pair(alloc, &rows)?, 2, &gate)?;
+    let wanted = [Pair { row: 0, col: 0 }, Pair { row: 2, col: 1 }];
+    Ok(
+        found.book.pairs() == wanted.as_slice()
+            && found.versions.items() == [0u64, 1].as_slice()
+            && gate.published.load(Ordering::SeqCst) == 1,
+    )
+}
+
+#[test]
+fn two_workers_go_at_once(rt: HostRuntime) -> Result<(), Fail> {
+    assert!(rt; is_overtaken(&rt, rt.alloc())?);
     Ok(())
 }
 
@@ -129,7 +225,24 @@ fn walked<'a, L: Ledger>(
     search_by_walk(alloc, book, &mut steps)
 }
 
-// How many pairs the search finds, if the search by walks finds the same and a search of what was found finds no more.
+// Whether one worker finds nothing after several.
+fn leaves_nothing<R: Threads + Sync>(
+    rt: &R,
+    alloc: Global,
+    rows: &Rows,
+    workers: u32,
+) -> Result<bool, AllocError>
+    requires some { 1 ≤ workers }
+    requires few { workers ≤ 64 }
+{
+    let found = search(rt, alloc, Book::empty(alloc, rows)?, workers, &Open)?;
+    let many = found.pairs().len();
+    let again = search(rt, alloc, found, 1, &Open)?;
+    Ok(again.pairs().len() == many)
+}
+
+// How many pairs the search finds, if the search by walks finds the same, a search of what was found finds no more, and several
+// workers leave nothing.
 fn agreed<R: Threads + Sync>(
     rt: &R,
     alloc: Global,
@@ -143,6 +256,9 @@ fn agreed<R: Threads + Sync>(
     }
     let again = search(rt, alloc, found, 64, &Open)?;
     if again.pairs() != walked.pairs() {
+        return Ok(None);
+    }
+    if !leaves_nothing(rt, alloc, rows, 2)? || !leaves_nothing(rt, alloc, rows, 64)? {
         return Ok(None);
     }
     Ok(Some(many))
@@ -222,5 +338,6 @@ fn the_largest_matrix_costs_by_its_entries(rt: HostRuntime) -> Result<(), Fail> 
         })?;
     }
     assert_eq!(rt; book.pairs(), wanted.as_slice());
+    assert!(rt; leaves_nothing(&rt, alloc, &rows, 64)?);
     Ok(())
 }

@@ -1,10 +1,14 @@
 // The search, by a number of workers.
-ghost use Rattle.std.specs.Prelude.{◌≡◌, ◌≤◌, IfOk};
+ghost use Rattle.std.specs.Prelude.{◌≡◌, ◌≤◌, IfOk, length};
 ghost use Rattle.pivot_table.specs.History.{Maximal, StartsWith};
 ghost use Rattle.optimistic_search.specs.Search.{IsGreedyFrom};
+ghost use Rattle.optimistic_search.specs.Versions.{AreVersions};
 
 use crate::gate::Gate;
-use crate::narrow::search_by_entries;
+use crate::narrow::{has_few_entries, search_by_entries};
+use crate::together::search_together;
+use crate::traced::Traced;
+use crate::versions::{own_places, started};
 use pivot_table::Book;
 use std::alloc::{AllocError, Global};
 use std::thread::Threads;
@@ -14,14 +18,17 @@ use std::thread::Threads;
 ///
 /// For every number of workers the book begins with the pairs that it had, each new pair was alive when it came, and nothing is
 /// alive afterwards. One worker tries the rows in ascending order and appends each that has an alive column with the least, so that
-/// what it finds is a function of the book. So far any number of workers goes as one, and the gate isn't called; which pairs more
-/// workers find is left open.
+/// what it finds is a function of the book; it doesn't call the gate. More workers go at once, on a board that they share without a
+/// lock: each goes once through the rows, the first from row 0 and the others from rows evenly apart, and takes those that no other
+/// has. What they find depends on their turns. What they should have left is swept by the calling thread.
 ///
-/// Each column has a level, the longest path of steps that leads to it. A walk leaves out the columns whose level is above that of
-/// every candidate, and a candidate of level 0 is alive without a walk. It takes 13 bytes a column and 16 bytes a pair that there
-/// can be, all before the first row. Where the matrix is much wider than it has entries, columns without an entry cost nothing,
-/// and a copy of the matrix without them is searched; rows without an entry never cost memory. The book is gone where memory
-/// was refused.
+/// One worker keeps a level for each column, the longest path of steps that leads to it. A walk leaves out the columns whose level is
+/// above that of every candidate, and a candidate of level 0 is alive without a walk. It takes 13 bytes a column and 16 bytes a pair
+/// that there can be. Where the matrix is much wider than it has entries, columns without an entry cost nothing, and a copy of the
+/// matrix without them is searched; rows without an entry never cost memory. More workers take 9 bytes a row and 24 bytes a pair
+/// that there can be, 8 more for each of these while the board is made, and 9 bytes a column and 8 bytes a pair for each worker and
+/// once besides; a matrix that is four times as wide or as high as it has entries is left to one worker. All memory is taken before
+/// the first row. The book is gone where memory was refused.
 pub fn search<'a, R: Threads + Sync, G: Gate>(
     rt: &R,
     alloc: Global,
@@ -36,5 +43,55 @@ pub fn search<'a, R: Threads + Sync, G: Gate>(
     ensures maximal { IfOk result (λ b. Maximal book.entry.rows.matrix b.pairs) }
     ensures greedy { workers ≡ 1 → IfOk result (IsGreedyFrom book.entry) }
 {
+    if workers == 1 || has_few_entries(book.rows()) {
+        return search_alone(alloc, book);
+    }
+    let (found, _starts) = search_together(rt, alloc, book, workers, gate)?;
+    Ok(found)
+}
+
+// What one worker does.
+fn search_alone(alloc: Global, book: Book) -> Result<Book, AllocError>
+    ensures rows { IfOk result (λ b. b.rows ≡ book.entry.rows) }
+    ensures begins { IfOk result (λ b. StartsWith b.pairs book.entry.pairs) }
+    ensures maximal { IfOk result (λ b. Maximal book.entry.rows.matrix b.pairs) }
+    ensures greedy { IfOk result (IsGreedyFrom book.entry) }
+{
     search_by_entries(alloc, book)
+}
+
+/// What `search` does, and a version for each pair: how much of the history was seen when its row was claimed. That is the place
+/// itself for the pairs that the book had, for those that one worker finds, and for what is swept.
+///
+/// Besides what `search` takes, it takes 8 bytes a pair at the end.
+pub fn search_traced<'a, R: Threads + Sync, G: Gate>(
+    rt: &R,
+    alloc: Global,
+    book: Book<'a>,
+    workers: u32,
+    gate: &G,
+) -> Result<Traced<'a>, AllocError>
+    requires some { 1 ≤ workers }
+    requires few { workers ≤ 64 }
+    ensures rows { IfOk result (λ t. t.book.rows ≡ book.entry.rows) }
+    ensures begins { IfOk result (λ t. StartsWith t.book.pairs book.entry.pairs) }
+    ensures maximal { IfOk result (λ t. Maximal book.entry.rows.matrix t.book.pairs) }
+    ensures greedy { workers ≡ 1 → IfOk result (λ t. IsGreedyFrom book.entry t.book) }
+    ensures versions { IfOk result (λ t. AreVersions (length book.entry.pairs) (length t.book.pairs) t.versions) }
+    ensures alone { workers ≡ 1 → IfOk result (λ t. AreVersions (length t.book.pairs) (length t.book.pairs) t.versions) }
+{
+    if workers == 1 || has_few_entries(book.rows()) {
+        let found = search_alone(alloc, book)?;
+        let versions = own_places(alloc, found.pairs().len())?;
+        return Ok(Traced {
+            book: found,
+            versions,
+        });
+    }
+    let (found, starts) = search_together(rt, alloc, book, workers, gate)?;
+    let versions = started(alloc, &starts, found.pairs().len())?;
+    Ok(Traced {
+        book: found,
+        versions,
+    })
 }

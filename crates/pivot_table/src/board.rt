@@ -27,11 +27,18 @@ use std::marker::Model;
 /// What a try to publish came to.
 #[derive(Clone, Copy, Debug, PartialEq, Eq)]
 pub enum Outcome {
+    /// The pair stands at this place of the history.
     Published(u64),
+    /// Another seat was first: this is the pair that comes next behind what the seat had seen.
     Newer(Pair),
 }
 
-/// A history that several seats grow at once. It takes 8 bytes a row and 24 bytes a pair that there can be, all when it is made.
+/// A history that several seats grow at once, without a lock: a word for each place of the history and one for each row, each of
+/// which changes in single atomic steps. Contracts see the matrix, the pairs that the board began with, and for each seat what
+/// it knows.
+///
+/// It takes 9 bytes a row and 24 bytes a pair that there can be, and 8 more for each of these while it is made. No other call
+/// takes memory, and none waits for another thread. All but `close`, which goes over the words once, take constant time.
 #[derive(Drop)]
 pub struct Board<'a> {
     table: Table<(), View, Book<'a>, Law, Global>,
@@ -114,7 +121,8 @@ impl<'a> Board<'a> {
         self.rows.height().min(self.rows.width()) as usize + 1 + row as usize
     }
 
-    /// Whether the row came in hand. It did not where it is not free.
+    /// Takes a row in hand, and says whether it did. It did not where another seat has or had the row, or a pair of the board's
+    /// beginning has it.
     pub fn claim(&self, seat: &mut Seat, row: u32) -> bool
         requires seat { IsSeatOf self.now seat.old }
         requires row { row < self.now.rows.matrix.height }
@@ -123,11 +131,11 @@ impl<'a> Board<'a> {
         ensures chair { MatchBool result (Claims seat.old.chair row seat.new.chair) (seat.new.chair ≡ meeting seat.old.chair row) }
     {
         let word = self.word_of(row);
-        let found = self
+        let was = self
             .table
             .shared
             .compare_exchange::<Claim>(&mut seat.token, word, 0, 2 * seat.seen + 1);
-        if found == 0 {
+        if was == 0 {
             seat.row = Some(row);
             seat.start = seat.seen;
             true
@@ -136,7 +144,8 @@ impl<'a> Board<'a> {
         }
     }
 
-    /// Publishes the row in hand at the column, or sees the pair that another seat published next.
+    /// Publishes the row in hand at its least alive column, or sees the pair that another seat published meanwhile. The row then
+    /// stays in hand.
     pub fn publish(&self, seat: &mut Seat, col: u32) -> Outcome
         requires seat { IsSeatOf self.now seat.old }
         requires unpublished { seat.old.chair.published ≡ false }

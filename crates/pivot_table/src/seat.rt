@@ -4,7 +4,8 @@ ghost use Rattle.std.specs.Prelude.{◌≡◌, ◌≤◌, length, min, option_ma
 use crate::view::View;
 use std::marker::Model;
 
-/// What one thread steps with: the pairs that it has seen, and the row that it has in hand. It crosses threads.
+/// What one thread steps with at a board: it has seen a beginning of the history, and may have a row in hand. It can be handed to
+/// another thread.
 #[derive(Drop)]
 pub struct Seat {
     pub(crate) token: atomic_table::Seat<(), View>,

@@ -11,6 +11,7 @@ pub mod Puts
 pub mod ReadingMatrices
 pub mod RoundTrip
 pub mod Runs
+pub mod Scripts
 pub mod Told
 pub mod Values
 pub mod Words

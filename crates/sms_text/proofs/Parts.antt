@@ -1,5 +1,7 @@
 -- Parts of an input read one after another: lines that are due, lines of words, and whole texts.
 use Rattle.std.proofs.Common.{ℕ, ◌≡◌, ◌+◌, Bool, true, false, cond, List, [], ◌∷◌, ◌++◌, Option, None, Some, Result, Ok, Err, refl, sym, ap, ◌∙◌, subst, inl, inr, append_assoc, append-nil}
+use Rattle.std.proofs.lemmas.Result.{err_from_is_err_and}
+use Rattle.std.specs.Result.{IsErrAnd}
 use Rattle.sms_text.specs.declared.kind.Kind.{Kind}
 use Rattle.sms_text.specs.declared.kind.TextError.{TextError}
 use Rattle.sms_text.specs.declared.kind.TextError.TheVariants as error
@@ -40,6 +42,13 @@ pub part_sound : {T : Type 0} (w : Wanted) (Means : T → List Item → List Due
 part_sound w Means old new x =
     elim old.reader.error as (λ o. PartIf w Means old new (Ok x) o → o ≡ None)
     [ None ↦ λ t. refl | Some e ↦ λ h. absurd (let y = h.0 in cc) ]
+
+-- an error that is handed on
+pub part_handed : {T : Type 0} (w : Wanted) (Means : T → List Item → List Due → Type 0) (old new : InputState) (e : TextError) (result : Result T TextError) →
+    IsErrAnd result (λ d. d ≡ e) → PartDid w Means old new (Err e) → PartDid w Means old new result
+part_handed w Means old new e result handed did =
+    let fault = err_from_is_err_and result handed in
+    subst (PartDid w Means old new) (ap Err (sym fault.2) ∙ sym fault.1) did
 
 -- calls of a reader, which was sound, read so much of what is wanted: these items, and then these lines of it are due
 pub record ReadSoFar (w : Wanted) (old new : InputState) (items : List Item) (due : List Due) : Type 0 where
@@ -338,3 +347,20 @@ first_outer_missing {T} p form rest Means old new e opened did =
           (line_missed w old old new [] (Outer form) rest (so_far_begins w old sound opened) Means e (outer_misses p form old new e t))
       | Some d ↦ λ kept h. (let x = h.0 in let same : e ≡ d = cc in ap Err same, h.1)
     ] refl did
+
+-- it came
+pub first_outer_shown : {T : Type 0} (p : ℕ) (form : LineForm) (Means : T → List Item → List Due → Type 0) (old new : InputState) (line : WordLine) (x : T) →
+    old.reader.open_text ≡ None → WordsDid old new (Ok line) → has_form p form line.words ≡ true → new.reader.open_text ≡ open_at (due_behind form line.words) →
+    Means x (Words line.words ∷ []) (due_behind form line.words) → PartDid (wants p (Outer form ∷ [])) Means old new (Ok x)
+first_outer_shown p form Means old new line x closed did fits opened means =
+    let w = wants p (Outer form ∷ []) in
+    let s = outer_taken w form [] old old new [] (so_far_begins w old (words_sound old new line did) closed) line did fits (opened ∙ ap open_at (sym (append-nil (due_behind form line.words)))) in
+    so_far_ends w Means old new (Words line.words ∷ []) (due_behind form line.words) x (subst (λ d. ReadSoFar w old new (Words line.words ∷ []) d) (append-nil (due_behind form line.words)) s) means
+
+-- another came, and was refused
+pub first_outer_unfit : {T : Type 0} (p : ℕ) (form : LineForm) (rest : List Due) (Means : T → List Item → List Due → Type 0) (old new : InputState) (line : WordLine) (e : TextError) (after : ReaderState) →
+    old.reader.open_text ≡ None → WordsDid old new (Ok line) → has_form p form line.words ≡ false → e ≡ error.Bad line.number (fault_of form) → after ≡ record new.reader { error = Some e; last = None } →
+    PartDid (wants p (Outer form ∷ rest)) Means old (input after new.source) (Err e)
+first_outer_unfit p form rest Means old new line e after closed did fails is told =
+    let w = wants p (Outer form ∷ rest) in
+    outer_unfit w form rest old old new [] (so_far_begins w old (words_sound old new line did) closed) Means line e after did fails is told

@@ -1,5 +1,5 @@
 -- Lines of words outside of matrix texts: those of certificates, of traces and of scripts (this project's formats).
-use Rattle.std.specs.Prelude.{◌-◌, ◌==◌, ◌||◌, ◌&&◌, nat_le, Bool, true, false, not, ℕ, List, [], ◌∷◌, codes}
+use Rattle.std.specs.Prelude.{◌≡◌, ◌≤◌, ◌-◌, ◌==◌, ◌||◌, ◌&&◌, nat_le, Bool, true, false, not, ℕ, List, [], ◌∷◌, codes}
 use Rattle.std.specs.Str.{bytes_eq}
 use Rattle.residue_words.specs.declared.modulus.TheConstants.{MODULUS_BOUND}
 use Rattle.sms_text.specs.declared.kind.Kind.{Kind}
@@ -22,6 +22,12 @@ is_up_to most w = is_number w && nat_le (value w) most
 
 abbrev pub is_from_one_up_to : ℕ → List ℕ → Bool
 is_from_one_up_to most w = is_up_to most w && not (value w == 0)
+
+-- such a word spells this number
+pub record IsUpTo (most : ℕ) (w : List ℕ) (n : ℕ) : Type 0 where
+  pub test : is_up_to most w ≡ true
+  pub spelled : n ≡ value w
+  pub bound : n ≤ most
 
 -- a modulus and a count, as first lines give them; a row or a column
 abbrev pub is_modulus_word : List ℕ → Bool

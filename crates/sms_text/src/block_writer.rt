@@ -1,13 +1,14 @@
 // A buffer in front of a sink.
-ghost use Rattle.std.specs.Prelude.{◌≡◌, ℕ, ◌+◌, ◌≤◌, List, [], length};
+ghost use Rattle.std.specs.Prelude.{◌≡◌, ℕ, ◌+◌, ◌≤◌, List, [], length, All};
 ghost use Rattle.sms_text.specs.Writing.{Writes, Adds, output};
 ghost use Rattle.std.specs.Fmt.{decimal};
-ghost use Rattle.sms_text.specs.Written.{head_line, entry_line, pair_line, end_line};
+ghost use Rattle.sms_text.specs.Written.{head_line, entry_line, pair_line, pair_lines, end_line, IsSmallPlace};
 
 use crate::short_bytes::ShortBytes;
 use crate::stream::Sink;
 use crate::write::{WriteFault, entry, head, pair, put_all};
 use itoa::Buffer;
+use residue_words::plain::Pair;
 use std::marker::Model;
 
 /// Bytes on their way to one sink, which reach it in blocks of more than 4,096 bytes and a last one of what is left. It takes no memory.
@@ -90,13 +91,26 @@ impl BlockWriter {
         self.add(out, digits.format(n).as_bytes())
     }
 
-    /// Adds a line of two numbers.
-    pub fn add_pair<K: Sink>(&mut self, out: &mut K, i: u32, j: u32) -> Result<(), WriteFault>
+    // Adds a line of two numbers.
+    fn add_pair<K: Sink>(&mut self, out: &mut K, i: u32, j: u32) -> Result<(), WriteFault>
         ensures { Adds result (pair_line i j)
             (output self.old (K.state out.old)) (output self.new (K.state out.new)) }
     {
         let line = pair(i, j);
         self.add(out, line.bytes())
+    }
+
+    /// Adds a line for each pair, its row and its column counted from 1.
+    pub fn add_pairs<K: Sink>(&mut self, out: &mut K, pairs: &[Pair]) -> Result<(), WriteFault>
+        requires { All IsSmallPlace pairs.now }
+        ensures { Adds result (pair_lines pairs.now)
+            (output self.old (K.state out.old)) (output self.new (K.state out.new)) }
+    {
+        for k in 0..pairs.len() {
+            let pair = pairs[k];
+            self.add_pair(out, pair.row + 1, pair.col + 1)?;
+        }
+        Ok(())
     }
 
     /// Adds the closing line.

@@ -39,8 +39,12 @@ pub fn write_titled<K: Sink>(out: &mut K, title: &str, rows: &Rows) -> Result<()
     blocks.send(out)
 }
 
-// Adds the text of a matrix.
-fn add_rows<K: Sink>(out: &mut K, blocks: &mut BlockWriter, rows: &Rows) -> Result<(), WriteFault>
+/// Adds the text of a matrix of at most `LARGEST_TEXT_SIZE` rows and columns to what waits for a sink.
+pub fn add_rows<K: Sink>(
+    out: &mut K,
+    blocks: &mut BlockWriter,
+    rows: &Rows,
+) -> Result<(), WriteFault>
     requires height { rows.now.matrix.height ≤ LARGEST_TEXT_SIZE }
     requires width { rows.now.matrix.width ≤ LARGEST_TEXT_SIZE }
     ensures { Adds result (text_of rows.now.matrix)

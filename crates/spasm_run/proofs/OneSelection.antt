@@ -19,7 +19,8 @@ use Rattle.pivot_table.proofs.Selecting.{greedy_one, selected, sparsest_one}
 use Rattle.optimistic_search.specs.Search.{IsGreedyFrom}
 use Rattle.spasm_run.specs.declared.answer.Answer.TheVariants as answer
 use Rattle.spasm_run.specs.declared.words.Task.TheVariants as task
-use Rattle.spasm_run.specs.Computed.{IsAnswerTo, IsSmallPlace, asking}
+use Rattle.sms_text.specs.Written.{IsSmallPlace}
+use Rattle.spasm_run.specs.Computed.{IsAnswerTo, asking}
 use Rattle.spasm_run.specs.declared.words.Command.{Command}
 use Rattle.triangular_solve.proofs.Listing.{col_is, no_pair, place_of, triangular_order_one}
 

@@ -1,11 +1,6 @@
 -- One piece written after another.
-use Rattle.std.proofs.Common.{ℕ, false, true, ◌≡◌, ◌+◌, ◌<◌, ◌≤◌, List, [], ◌∷◌, ◌++◌, length, get_or, drop, add-one, Option, None, Some, Result, Ok, Err, refl, sym, ap, subst, ◌∙◌, arith, append_assoc}
+use Rattle.std.proofs.Common.{ℕ, false, true, ◌≡◌, List, [], ◌∷◌, ◌++◌, Option, None, Some, Result, Ok, Err, refl, sym, ap, subst, ◌∙◌, arith, append_assoc}
 use Rattle.std.specs.Prelude.{codes}
-use Rattle.std.proofs.Math.Seq.{drop-cons}
-use Rattle.std.proofs.lemmas.List.{drop_all}
-use Rattle.residue_words.specs.declared.plain.Pair.{Pair}
-use Rattle.sms_text.specs.Written.{pair_line}
-use Rattle.spasm_run.specs.Answers.{pair_lines}
 use Rattle.std.specs.Fmt.{decimal}
 use Rattle.std.specs.Result.{IsErr}
 use Rattle.sms_text.specs.declared.kind.Kind.{Kind}
@@ -70,13 +65,3 @@ pub wide_line : (s : Status) (h w m n : ℕ) → s ≡ status.Wide h w → m ≡
 wide_line s h w m n e f d =
     ap (λ (x : ℕ). ((codes "error 9 wide " ++ decimal x) ++ (codes " " ++ decimal n)) ++ 10 ∷ []) f
     ∙ ap (λ (x : ℕ). ((codes "error 9 wide " ++ decimal h) ++ (codes " " ++ decimal x)) ++ 10 ∷ []) d ∙ sym (ap fault_line e)
-
--- the line of the pivot at k, and those behind it
-pub pair_lines_from : (qs : List Pair) (k : ℕ) (d : Pair) → k < length qs
-    → pair_lines (drop k qs) ≡ pair_line ((get_or qs k d).row + 1) ((get_or qs k d).col + 1) ++ pair_lines (drop (k + 1) qs)
-pair_lines_from qs k d less =
-    let one : drop k qs ≡ get_or qs k d ∷ drop (k + 1) qs = rw (add-one k) (drop-cons qs k d less) in ap pair_lines one
-
--- no pivot is left
-pub pair_lines_end : (qs : List Pair) (k : ℕ) → length qs ≤ k → pair_lines (drop k qs) ≡ []
-pair_lines_end qs k past = ap pair_lines (drop_all k qs past)

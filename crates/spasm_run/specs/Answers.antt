@@ -1,7 +1,6 @@
 -- What each command reads, and what it answers.
-use Rattle.std.specs.Prelude.{◌≡◌, ◌+◌, ◌<◌, ◌≤◌, ◌⊎◌, ◌==◌, ◌&&◌, nat_lt, not, if◌then◌else◌, ℕ, List, [], ◌∷◌, ◌++◌, Option, None, Some, codes, length}
+use Rattle.std.specs.Prelude.{◌≡◌, ◌<◌, ◌≤◌, ◌⊎◌, ◌==◌, ◌&&◌, nat_lt, not, if◌then◌else◌, ℕ, List, [], ◌∷◌, ◌++◌, Option, None, Some, codes, length}
 use Rattle.std.specs.Fmt.{decimal}
-use Rattle.std.specs.List.{flat_map}
 use Rattle.residue_words.specs.Matrix.{Matrix, row}
 use Rattle.residue_words.specs.declared.plain.Pair.{Pair}
 use Rattle.pivot_table.specs.Selected.{Selected}
@@ -11,7 +10,7 @@ use Rattle.row_space.specs.Kernel.{IsKernel}
 use Rattle.row_space.specs.Solution.{IsReducedSolution, IsRefutingCombination, IsSolution}
 use Rattle.kernel_solve.specs.Column.{column, column_matrix}
 use Rattle.sms_text.specs.Text.{Due, Header}
-use Rattle.sms_text.specs.Written.{pair_line, text_of}
+use Rattle.sms_text.specs.Written.{pair_lines, text_of}
 use Rattle.sparse_rows.specs.Rows.{transposed}
 use Rattle.spasm_run.specs.declared.commands.TheConstants.{LARGEST_INVERTED}
 use Rattle.spasm_run.specs.declared.status.Status.{Status}
@@ -57,10 +56,6 @@ InvertsTo p A text =
     ((B : Matrix) × IsInverse p A B × (text ≡ codes "inverse\n" ++ text_of B))
     ⊎ ((K : Matrix) × ((B : Matrix) → ¬ IsInverse p A B) × IsKernel p A K × (0 < K.height)
     × (text ≡ codes "singular\n" ++ text_of (as_row (row K 0))))
-
--- the places of pivots, a line each, counted from 1
-abbrev pub pair_lines : List Pair → List ℕ
-pair_lines qs = flat_map (λ (q : Pair). pair_line (q.row + 1) (q.col + 1)) qs
 
 abbrev pub pivots_text : List Pair → List ℕ
 pivots_text qs = codes "pivots " ++ decimal (length qs) ++ 10 ∷ pair_lines qs

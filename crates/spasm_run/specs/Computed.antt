@@ -2,7 +2,6 @@
 use Rattle.std.specs.Prelude.{◌≡◌, ◌<◌, ℕ, List, ◌++◌, Bool, false, Some, None, Result, Ok, Err, All, codes}
 use Rattle.residue_words.specs.Residues.{IsPrime}
 use Rattle.residue_words.specs.Matrix.{Matrix, IsMatrix}
-use Rattle.residue_words.specs.declared.plain.Pair.{Pair}
 use Rattle.sparse_rows.specs.Rows.{beside}
 use Rattle.sparse_rows.specs.declared.rows.TheConstants.{LARGEST_SIZE}
 use Rattle.kernel_solve.specs.Column.{column}
@@ -10,7 +9,7 @@ use Rattle.kernel_solve.specs.declared.systems.Found.{Found}
 use Rattle.kernel_solve.specs.Found.{Answers}
 use Rattle.sms_text.specs.Reading.{Draws, untouched}
 use Rattle.sms_text.specs.Stream.{SourceState}
-use Rattle.sms_text.specs.Written.{text_of}
+use Rattle.sms_text.specs.Written.{IsSmallPlace, text_of}
 use Rattle.spasm_run.specs.declared.answer.Answer.{Answer}
 use Rattle.spasm_run.specs.declared.answer.Answer.TheVariants as answer
 use Rattle.spasm_run.specs.declared.status.Status.{Status}
@@ -38,10 +37,6 @@ answer_text (answer.Summary s) = summary_text s.rank s.entries s.sum
 -- the sizes of its matrix can be written
 abbrev pub HasSmallSizes : Matrix → Type 0
 HasSmallSizes A = (A.height < LARGEST_SIZE) × (A.width < LARGEST_SIZE)
-
--- its row and its column can be written
-abbrev pub IsSmallPlace : Pair → Type 0
-IsSmallPlace q = (q.row < LARGEST_SIZE) × (q.col < LARGEST_SIZE)
 
 abbrev pub IsSmall : Answer → Type 0
 IsSmall (answer.Rank r) = Unit {0}

@@ -1,12 +1,11 @@
 -- How many pairs have an entry in a column, and which are ready.
-use Rattle.std.proofs.Common.{ℕ, ◌≡◌, ◌≢◌, ◌+◌, ◌<◌, ◌≤◌, ◌⊎◌, eqb, List, [], ◌∷◌, ◌++◌, length, inl, inr, ⊎_elim, sym, refl, ap, subst, ◌∙◌, arith, eq-eqb, ne_eqb, append_assoc}
+use Rattle.std.proofs.Common.{ℕ, ◌≡◌, ◌≢◌, ◌+◌, ◌<◌, ◌≤◌, ◌⊎◌, eqb, List, [], ◌∷◌, ◌++◌, length, inl, inr, ⊎_elim, sym, refl, ap, subst, ◌∙◌, arith, eq-eqb, ne_eqb}
 use Rattle.std.specs.List.{Contains}
 use Rattle.std.proofs.lemmas.Bool.{cases_eq, cond-true, cond-false}
 use Rattle.std.proofs.lemmas.List.Elements.{Contains-append_right}
 use Rattle.residue_words.specs.Matrix.{Matrix, entry}
 use Rattle.residue_words.specs.declared.plain.Pair.{Pair}
 use Rattle.residue_words.proofs.Lists.{not_in_nil, in_head, in_tail, in_cases, cut_at, middle_more, middle_cases}
-use Rattle.pivot_table.specs.History.{Grown}
 use Rattle.pivot_table.proofs.Orders.{IsChain}
 use Rattle.triangular_solve.specs.Listing.{entry_flag, column_count}
 use Rattle.pivot_table.specs.Order.{IsReady}

@@ -1,5 +1,5 @@
 -- Pairs that are listed in triangular order, by counts at the places of their columns.
-use Rattle.std.proofs.Common.{ℕ, zero, suc, ◌≡◌, ◌≢◌, ◌+◌, ◌<◌, ◌≤◌, ◌⊎◌, eqb, List, [], ◌∷◌, ◌++◌, length, map, slice_index, get_or, inl, inr, ⊎_elim, sym, refl, ap, subst, ◌∙◌, arith, eq-eqb, true, false}
+use Rattle.std.proofs.Common.{ℕ, suc, ◌≡◌, ◌≢◌, ◌+◌, ◌<◌, ◌≤◌, ◌⊎◌, eqb, List, [], ◌∷◌, ◌++◌, length, map, slice_index, get_or, inl, inr, ⊎_elim, sym, refl, ap, subst, ◌∙◌, arith, eq-eqb, true}
 use Rattle.std.specs.List.{Contains, IsDistinct}
 use Rattle.std.specs.List.Sorted.{IsNonDecreasingBy, IsPermutation}
 use Rattle.std.proofs.lemmas.Bool.{cases_eq, cases_lt}

@@ -1,11 +1,11 @@
 -- Places of columns that ascend, by a table and by a search.
-use Rattle.std.proofs.Common.{ℕ, ◌≡◌, ◌≢◌, ◌+◌, ◌<◌, ◌≤◌, ◌⊎◌, List, length, slice_index, slice_set, replicate, inl, inr, sym, refl, ap, ◌∙◌, arith}
+use Rattle.std.proofs.Common.{ℕ, ◌≡◌, ◌≢◌, ◌+◌, ◌<◌, ◌≤◌, List, length, slice_index, slice_set, replicate, inl, inr, sym, ap, ◌∙◌, arith}
 use Rattle.std.specs.List.{Contains}
 use Rattle.std.proofs.lemmas.Bool.{cases_eq, cases_lt}
 use Rattle.std.proofs.lemmas.List.{length-set, length-replicate, get_or-replicate, get_or-set_same, get_or-set_other}
 use Rattle.residue_words.proofs.Lists.{place_in}
 use Rattle.sparse_rows.specs.Rows.{AreRising}
-use Rattle.triangular_solve.specs.PivotalColumns.{IsPlaceOf, IsTable}
+use Rattle.triangular_solve.specs.AscendingColumns.{IsTable}
 
 -- a table of n columns that has the places of the first k
 pub record IsTableSoFar (n : ℕ) (columns : List ℕ) (k : ℕ) (table : List ℕ) : Type 0 where

@@ -1,7 +1,9 @@
 pub mod Accumulator
+pub mod AscendingColumns
 pub mod Leads
 pub mod Led
 pub mod Listing
-pub mod PivotalColumns
+pub mod PivotRows
 pub mod Queue
+pub mod Reduced
 pub mod Triangle

@@ -1,14 +1,16 @@
 // A dense row of sums, and where in it something may stand.
-ghost use Rattle.std.specs.Prelude.{◌≡◌, ◌<◌, ◌≤◌, ◌⊎◌, ◌+◌, ◌*◌, ◌/◌, ◌%◌, ◌^◌, length, slice_index, slice_set, IfOk, IfSome, IfNone};
+ghost use Rattle.std.specs.Prelude.{◌≡◌, ◌<◌, ◌≤◌, ◌⊎◌, ◌+◌, ◌*◌, ◌/◌, ◌%◌, ◌^◌, length, slice_index, slice_set, IfOk, OnOk, IfSome, IfNone};
 ghost use Rattle.residue_words.specs.Matrix.{IsVector, zeros};
 ghost use Rattle.residue_words.specs.declared.shoup.TheConstants.{LANE_BOUND};
 ghost use Rattle.sparse_rows.specs.ColumnSet.{AllZero, TakesFirst};
 ghost use Rattle.sparse_rows.specs.Stored.{IsSparse};
 ghost use Rattle.sparse_rows.specs.Rows.{AddsAt, AddsMultiple};
+ghost use Rattle.sparse_rows.specs.declared.rows.TheConstants.{LARGEST_SIZE};
 ghost use Rattle.triangular_solve.specs.Accumulator.{limit_of};
+ghost use Rattle.triangular_solve.specs.PivotRows.{IsAlike};
 
 use residue_words::{LANE_BOUND, Modulus};
-use sparse_rows::ColumnSet;
+use sparse_rows::{ColumnSet, Sparse};
 use std::alloc::{AllocError, Global};
 use std::marker::Model;
 
@@ -56,8 +58,23 @@ impl Accumulator {
         })
     }
 
+    // How many columns it has.
+    pub(crate) fn width(&self) -> u32
+        requires { length self.now.row ≤ LARGEST_SIZE }
+        ensures { result ≡ length self.now.row }
+    {
+        self.sums.len() as u32
+    }
+
+    // The modulus.
+    pub(crate) fn modulus(&self) -> Modulus
+        ensures { result ≡ self.now.modulus }
+    {
+        self.modulus
+    }
+
     // Adds v at column j.
-    fn add(&mut self, j: u32, v: u64)
+    pub(crate) fn add(&mut self, j: u32, v: u64)
         requires column { j < length self.old.row }
         requires below { v < limit_of self.old.modulus }
         ensures { AddsAt j v self.old self.new }
@@ -122,6 +139,21 @@ impl Accumulator {
             }
         }
         None
+    }
+
+    // Appends its entries to a zero row.
+    pub(crate) fn drain(&mut self, row: &mut Sparse) -> Result<(), AllocError>
+        requires vector { IsVector self.old.modulus (length self.old.row) self.old.row }
+        requires modulus { row.old.modulus ≡ self.old.modulus }
+        requires none { row.old.row ≡ zeros (length self.old.row) }
+        ensures sums { IsAlike self.old self.new }
+        ensures row { IsAlike row.old row.new }
+        ensures ok { OnOk result (row.new.row ≡ self.old.row) }
+    {
+        while let Some((column, value)) = self.pop() {
+            row.push(column, value)?;
+        }
+        Ok(())
     }
 
     // Makes it the zero row, in time proportional to the columns touched.

@@ -6,14 +6,20 @@
 #![tactic(auto)]
 
 mod accumulator;
+mod ascending_columns;
+mod column_order;
 mod leads;
 mod led;
-mod pivotal_columns;
+mod pivot_rows;
 mod queue;
+mod reduced;
 #[cfg(test)]
 mod tests;
 mod triangle;
+mod work;
 
 pub use accumulator::Accumulator;
 pub use leads::Leads;
+pub use reduced::{Reduced, schur_row_is_one};
 pub use triangle::{Triangle, triangular_order_is_one};
+pub use work::Work;

@@ -2,19 +2,26 @@
 ghost use Rattle.std.specs.Prelude.{◌≡◌, ◌≢◌, ◌<◌, ◌≤◌, ◌+◌, ◌-◌, ◌⊎◌, ℕ, length, map, slice_index, slice_set, IfOk, IfSome, IfNone, OnOk};
 ghost use Rattle.std.specs.List.{Contains};
 ghost use Rattle.std.specs.List.Sorted.{IsPermutation};
+ghost use Rattle.residue_words.specs.Residues.{IsPrime};
 ghost use Rattle.sparse_rows.specs.Rows.{AreRising};
+ghost use Rattle.sparse_rows.specs.Stored.{IsSparse, spread};
 ghost use Rattle.sparse_rows.specs.declared.rows.TheConstants.{LARGEST_SIZE};
 ghost use Rattle.pivot_table.specs.Order.{IsTriangularOrder, Triangular};
 ghost use Rattle.triangular_solve.specs.Listing.{AreSortedPivots, AreWaits, EachOtherPlace, EachPlaceOf, HasReady, TakesReady};
+ghost use Rattle.triangular_solve.specs.PivotRows.{ArePivotRows};
+ghost use Rattle.triangular_solve.specs.Reduced.{FitsReduced, FitsRest, IsReduced, IsSchurRow, reduction_of, workspace_of};
 ghost use Rattle.triangular_solve.specs.Triangle.{TriangularOrderIsOne};
 
 #[cfg(test)]
 mod tests;
 
-use crate::pivotal_columns::PivotalColumns;
+use crate::ascending_columns::AscendingColumns;
+use crate::pivot_rows::PivotRows;
 use crate::queue::Queue;
+use crate::reduced::Reduced;
+use crate::work::Work;
 use pivot_table::{Book, Pair};
-use sparse_rows::Rows;
+use sparse_rows::{Rows, Sparse};
 use std::alloc::{AllocError, Global};
 use std::marker::Model;
 
@@ -25,17 +32,19 @@ use std::marker::Model;
 pub struct Triangle<'a> {
     rows: &'a Rows,
     pairs: Vec<Pair>,
+    pivots: PivotRows,
 }
 
 impl<'a> Model for Triangle<'a> {
     ghost use Rattle.pivot_table.specs.Order.{Triangular};
+    ghost use Rattle.triangular_solve.specs.PivotRows.{ArePivotRows};
     ghost use Rattle.triangular_solve.specs.Triangle.{TriangleState};
 
     ghost Value = { TriangleState };
 
     ghost view = { λ t. record { rows = t.rows.now; pairs = t.pairs.items } };
 
-    ghost invariant = { λ t. Triangular t.rows.now.matrix t.pairs.items };
+    ghost invariant = { λ t. Triangular t.rows.now.matrix t.pairs.items × ArePivotRows t.rows.now t.pairs.items t.pivots };
 }
 
 impl<'a> Triangle<'a> {
@@ -47,13 +56,11 @@ impl<'a> Triangle<'a> {
         ensures order { IfOk result (λ t. IsTriangularOrder book.now.rows.matrix book.now.pairs t.pairs) }
     {
         let rows = book.rows();
-        let pairs = by_columns(alloc, book)?;
-        let columns = PivotalColumns::of(alloc, rows.width(), &pairs)?;
-        let mut waits = count_waits(alloc, rows, &pairs, &columns)?;
-        let mut queue = queue_ready(alloc, &waits)?;
+        let pairs = in_order(alloc, book)?;
         Ok(Triangle {
+            pivots: PivotRows::of(alloc, rows, &pairs)?,
             rows,
-            pairs: list_all(alloc, rows, &pairs, &columns, &mut waits, &mut queue)?,
+            pairs,
         })
     }
 
@@ -70,6 +77,65 @@ impl<'a> Triangle<'a> {
         ensures { result.now ≡ self.now.rows }
     {
         self.rows
+    }
+
+    /// Reduces the row that stands in these columns and values by the pivots: it is the coefficients times the pivot rows and a
+    /// rest, which is 0 in all pivotal columns. For a prime modulus the rest is the Schur row.
+    ///
+    /// The time is that of the entries of the pivot rows that are used, and a step for each 4096 columns in which some pivot
+    /// row has an entry.
+    pub fn reduce(
+        &self,
+        alloc: Global,
+        cols: &[u32],
+        vals: &[u64],
+        work: &mut Work,
+    ) -> Result<Reduced, AllocError>
+        requires row { IsSparse self.now.rows.modulus self.now.rows.matrix.width cols.now vals.now }
+        requires work { work.old ≡ workspace_of self.now }
+        ensures work { work.new ≡ work.old }
+        ensures fits { IfOk result (FitsReduced self.now) }
+        ensures reduced { IfOk result (λ r. IsPrime self.now.rows.modulus → IsReduced self.now.rows.modulus
+            self.now.rows.matrix self.now.pairs (spread self.now.rows.matrix.width cols.now vals.now) (reduction_of r)) }
+    {
+        let mut rest = Sparse::new(alloc, self.rows.width(), self.rows.modulus());
+        let mut coefficients = Sparse::new(alloc, self.pairs.len() as u32, self.rows.modulus());
+        work.reduce(
+            alloc,
+            &self.pivots,
+            cols,
+            vals,
+            &mut rest,
+            &mut coefficients,
+        )?;
+        Ok(Reduced { rest, coefficients })
+    }
+
+    /// What is left of the row that stands in these columns and values by the pivots, without the coefficients.
+    pub fn rest(
+        &self,
+        alloc: Global,
+        cols: &[u32],
+        vals: &[u64],
+        work: &mut Work,
+    ) -> Result<Sparse, AllocError>
+        requires row { IsSparse self.now.rows.modulus self.now.rows.matrix.width cols.now vals.now }
+        requires work { work.old ≡ workspace_of self.now }
+        ensures work { work.new ≡ work.old }
+        ensures fits { IfOk result (FitsRest self.now) }
+        ensures rest { IfOk result (λ s. IsPrime self.now.rows.modulus → IsSchurRow self.now.rows.modulus
+            self.now.rows.matrix self.now.pairs (spread self.now.rows.matrix.width cols.now vals.now) s.row) }
+    {
+        let mut rest = Sparse::new(alloc, self.rows.width(), self.rows.modulus());
+        work.rest(alloc, &self.pivots, cols, vals, &mut rest)?;
+        Ok(rest)
+    }
+
+    // The pivot rows.
+    pub(crate) fn pivot_rows(&self) -> &PivotRows
+        ensures { ArePivotRows self.now.rows self.now.pairs result.now }
+    {
+        &self.pivots
     }
 }
 
@@ -88,12 +154,36 @@ fn by_columns(alloc: Global, book: &Book) -> Result<Vec<Pair>, AllocError>
     Ok(sorted)
 }
 
+// The pairs of a book in triangular order.
+fn in_order(alloc: Global, book: &Book) -> Result<Vec<Pair>, AllocError>
+    ensures { IfOk result (λ order. IsTriangularOrder book.now.rows.matrix book.now.pairs order.items) }
+{
+    let rows = book.rows();
+    let pairs = by_columns(alloc, book)?;
+    let columns = AscendingColumns::of(alloc, rows.width(), columns_of(alloc, &pairs)?)?;
+    let mut waits = count_waits(alloc, rows, &pairs, &columns)?;
+    let mut queue = queue_ready(alloc, &waits)?;
+    let order = list_all(alloc, rows, &pairs, &columns, &mut waits, &mut queue)?;
+    Ok(order)
+}
+
+// The columns of these pairs.
+fn columns_of(alloc: Global, pairs: &[Pair]) -> Result<Vec<u32>, AllocError>
+    ensures { IfOk result (λ columns. columns.items ≡ map (λ p. p.col) pairs.now) }
+{
+    let mut columns = Vec::with_capacity(alloc, pairs.len())?;
+    for pair in pairs {
+        columns.push(pair.col)?;
+    }
+    Ok(columns)
+}
+
 // For each pair how many of the pairs have an entry in its column, itself among them.
 fn count_waits(
     alloc: Global,
     rows: &Rows,
     pairs: &[Pair],
-    columns: &PivotalColumns,
+    columns: &AscendingColumns,
 ) -> Result<Vec<u32>, AllocError>
     requires pivots { AreSortedPivots rows.now.matrix pairs.now }
     requires few { length pairs.now ≤ LARGEST_SIZE }
@@ -110,7 +200,7 @@ fn count_waits(
 }
 
 // One more at the place of each of these columns that is pivotal.
-fn raise(waits: &mut [u32], columns: &PivotalColumns, cols: &[u32])
+fn raise(waits: &mut [u32], columns: &AscendingColumns, cols: &[u32])
     requires many { length waits.old ≡ length columns.now }
     requires pivotal { AreRising columns.now }
     requires rising { AreRising cols.now }
@@ -159,7 +249,7 @@ fn next_ready(waits: &[u32], queue: &mut Queue) -> Option<u32>
 // One less at the place of each of these columns that is pivotal, and the places at which one is left onto the queue.
 fn lower(
     waits: &mut [u32],
-    columns: &PivotalColumns,
+    columns: &AscendingColumns,
     cols: &[u32],
     queue: &mut Queue,
 ) -> Result<(), AllocError>
@@ -207,7 +297,7 @@ fn list_all(
     alloc: Global,
     rows: &Rows,
     pairs: &[Pair],
-    columns: &PivotalColumns,
+    columns: &AscendingColumns,
     waits: &mut [u32],
     queue: &mut Queue,
 ) -> Result<Vec<Pair>, AllocError>

@@ -1,4 +1,4 @@
-use Rattle.std.proofs.Common.{ℕ, ◌≡◌, List, map, subst, sym, ◌∙◌}
+use Rattle.std.proofs.Common.{ℕ, List, map, subst, sym, ◌∙◌}
 use Rattle.std.proofs.lemmas.Bool.{false≢true}
 use Rattle.residue_words.specs.Matrix.{Matrix, IsMatrix}
 use Rattle.sparse_rows.specs.Rows.{AreBelow, transposed}

@@ -1,4 +1,4 @@
-use Rattle.std.proofs.Common.{ℕ, inl, inr, ap, sym, subst, slice_index, arith}
+use Rattle.std.proofs.Common.{inl, inr, sym, subst, slice_index, arith}
 use Rattle.std.specs.List.{Contains}
 use Rattle.std.proofs.lemmas.Bool.{cases_eq}
 use Rattle.cert_checker.proofs.product.are_all_in.Goals as goal

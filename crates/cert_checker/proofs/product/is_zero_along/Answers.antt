@@ -1,4 +1,4 @@
-use Rattle.std.proofs.Common.{ℕ, true, ◌≡◌, ◌∙◌, sym, slice_index, arith}
+use Rattle.std.proofs.Common.{ℕ, ◌∙◌, sym, slice_index}
 use Rattle.std.proofs.lemmas.Bool.{false≢true}
 use Rattle.residue_words.specs.Matrix.{Matrix, IsVector, row}
 use Rattle.cert_checker.specs.Product.{IsZeroAt}

@@ -4,7 +4,8 @@ use Rattle.std.specs.Prelude.{codes}
 use Rattle.std.specs.Fmt.{decimal}
 use Rattle.std.proofs.lemmas.Result.{err_from_is_err_and}
 use Rattle.sms_text.proofs.WrittenRows.{added_nothing, added_more, added_fault, added_sent}
-use Rattle.spasm_run.specs.Answers.{pair_lines, pivots_text}
+use Rattle.sms_text.specs.Written.{pair_lines}
+use Rattle.spasm_run.specs.Answers.{pivots_text}
 use Rattle.spasm_run.proofs.written_pivots.write_pivots.Goals as goal
 
 pub returns-in_err-add_number : goal.returns-in_err-add_number

@@ -1,4 +1,4 @@
-use Rattle.std.proofs.Common.{ℕ, ◌≡◌, ◌<◌, List, length, slice_index, subst, sym, ap, refl, ◌∙◌, arith}
+use Rattle.std.proofs.Common.{◌≡◌, ◌<◌, length, slice_index, subst, sym, ap, refl, ◌∙◌, arith}
 use Rattle.sparse_rows.specs.Rows.{nonzeros, support}
 use Rattle.triangular_solve.specs.Led.{LeadsAt, kept_rows}
 use Rattle.triangular_solve.specs.Leads.{KeptRows}

@@ -1,6 +1,6 @@
-use Rattle.std.proofs.Common.{◌≡◌, OnOk, subst, sym}
+use Rattle.std.proofs.Common.{OnOk, subst, sym}
 use Rattle.sparse_rows.specs.Rows.{ResidueRow}
-use Rattle.triangular_solve.specs.Led.{CanTake, Drains, spread_row}
+use Rattle.triangular_solve.specs.Led.{CanTake, Drains}
 use Rattle.triangular_solve.proofs.Reducing.{loaded}
 use Rattle.triangular_solve.proofs.leads.reduce.Goals as goal
 

@@ -1,15 +1,14 @@
-use Rattle.std.proofs.Common.{ℕ, List, ◌≡◌, ◌≢◌, ◌<◌, ◌+◌, ◌-◌, ◌++◌, ◌∷◌, [], length, map, get_or, inl, inr, ⊎_elim, slice_index, subst, sym, ap, ◌∙◌, arith}
+use Rattle.std.proofs.Common.{ℕ, List, ◌≡◌, ◌≢◌, ◌<◌, length, get_or, inl, inr, ⊎_elim, slice_index, subst, sym, ap, ◌∙◌, arith}
 use Rattle.std.specs.List.{Contains}
-use Rattle.std.proofs.lemmas.List.{length-map, length_push}
+use Rattle.std.proofs.lemmas.List.{length-map}
 use Rattle.std.proofs.lemmas.List.Elements.{Contains-get_or}
-use Rattle.residue_words.specs.Matrix.{entry, row}
+use Rattle.residue_words.specs.Matrix.{entry}
 use Rattle.residue_words.specs.declared.plain.Pair.{Pair}
 use Rattle.row_space.specs.Factors.{col_at}
-use Rattle.sparse_rows.specs.Rows.{AreRising}
 use Rattle.sparse_rows.proofs.Supports.{in_support, of_support}
 use Rattle.triangular_solve.specs.Listing.{column_count}
 use Rattle.triangular_solve.proofs.Counting.{count_some}
-use Rattle.triangular_solve.proofs.Listing.{IsListing, listing_begins, listing_ends, listing_goes, listing_shorter, no_pair, waits_left}
+use Rattle.triangular_solve.proofs.Listing.{listing_begins, listing_ends, listing_goes, no_pair, waits_left}
 use Rattle.triangular_solve.proofs.triangle.list_all.Goals as goal
 
 pub loop-place-init : goal.loop-place-init

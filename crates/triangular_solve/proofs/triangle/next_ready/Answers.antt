@@ -1,5 +1,4 @@
-use Rattle.std.proofs.Common.{ℕ, ◌≡◌, arith, ⊎_elim, slice_index, sym, ap, ◌∙◌}
-use Rattle.std.specs.List.{Contains}
+use Rattle.std.proofs.Common.{⊎_elim, slice_index, sym, ap, ◌∙◌}
 use Rattle.triangular_solve.proofs.triangle.next_ready.Goals as goal
 
 pub bounds-waits-place : goal.bounds-waits-place

@@ -10,8 +10,8 @@ use Rattle.pivot_table.proofs.Allowed.{claim_allows}
 use Rattle.pivot_table.proofs.Fitting.{seat_fits, same_matrix}
 use Rattle.pivot_table.proofs.board.Board.claim.Goals as goal
 
-pub compare_exchange-found-requires : goal.compare_exchange-found-requires
-compare_exchange-found-requires c =
+pub compare_exchange-was-requires : goal.compare_exchange-was-requires
+compare_exchange-was-requires c =
     let b = c.self.inside in
     let it = c.seat.inside.token in
     let A : Matrix = b.table.shared.key.rows.matrix in

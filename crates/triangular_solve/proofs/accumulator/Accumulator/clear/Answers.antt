@@ -1,5 +1,5 @@
-use Rattle.triangular_solve.proofs.Accumulating.{accumulator_zero, cleared}
-use Rattle.triangular_solve.proofs.Touched.{taken_falls, touched_pop}
+use Rattle.triangular_solve.proofs.Accumulating.{cleared}
+use Rattle.triangular_solve.proofs.Touched.{taken_falls}
 use Rattle.triangular_solve.proofs.accumulator.Accumulator.clear.Goals as goal
 
 pub loop-column-smaller : goal.loop-column-smaller

@@ -1,4 +1,4 @@
-use Rattle.std.proofs.Common.{◌≡◌, ◌<◌, ◌≤◌, ◌^◌, length}
+use Rattle.std.proofs.Common.{◌≡◌, length}
 use Rattle.triangular_solve.specs.Accumulator.{IsAccumulator}
 use Rattle.triangular_solve.proofs.Extent.{extent}
 use Rattle.triangular_solve.proofs.accumulator.Accumulator.clear.Given as goal

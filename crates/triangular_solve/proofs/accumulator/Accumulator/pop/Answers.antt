@@ -1,4 +1,4 @@
-use Rattle.std.proofs.Common.{ℕ, ◌≡◌, ◌<◌, ◌%◌, ◌∙◌, List, slice_index, slice_set, ap, arith, subst}
+use Rattle.std.proofs.Common.{ℕ, ◌%◌, ◌∙◌, List, slice_set, ap, arith, subst}
 use Rattle.std.proofs.lemmas.List.{get_or_default}
 use Rattle.sparse_rows.specs.ColumnSet.{AllZero, TakesFirst}
 use Rattle.sparse_rows.specs.Rows.{ResidueRow}

@@ -1,4 +1,4 @@
-use Rattle.std.proofs.Common.{◌≡◌, ◌<◌, ◌≤◌, ◌^◌, length}
+use Rattle.std.proofs.Common.{◌≡◌}
 use Rattle.triangular_solve.specs.Accumulator.{IsAccumulator, residues_of}
 use Rattle.triangular_solve.proofs.Extent.{extent}
 use Rattle.triangular_solve.proofs.accumulator.Accumulator.pop.Given as goal

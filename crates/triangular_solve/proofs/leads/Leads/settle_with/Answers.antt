@@ -1,11 +1,10 @@
-use Rattle.std.proofs.Common.{ℕ, ◌≡◌, ◌<◌, List, length, slice_index, slice_set, refl, ap, subst, sym, arith, ◌∙◌}
+use Rattle.std.proofs.Common.{◌<◌, length, slice_index, slice_set, refl, ap, subst, sym, arith, ◌∙◌}
 use Rattle.residue_words.specs.Matrix.{zeros}
 use Rattle.residue_words.proofs.Vectors.{at_zeros, length_list_of}
-use Rattle.sparse_rows.specs.Rows.{ResidueRow}
-use Rattle.sparse_rows.specs.Stored.{IsSparse, spread}
+use Rattle.sparse_rows.specs.Stored.{IsSparse}
 use Rattle.triangular_solve.specs.Accumulator.{IsClear}
 use Rattle.triangular_solve.specs.Led.{Drains, IsKept, kept_rows, spread_row}
-use Rattle.triangular_solve.specs.Leads.{KeptRows, IsRest, IsSettled}
+use Rattle.triangular_solve.specs.Leads.{KeptRows, IsSettled}
 use Rattle.triangular_solve.proofs.LedRows.{IsAt, read_led}
 use Rattle.triangular_solve.proofs.Draining.{sparse_of}
 use Rattle.triangular_solve.proofs.Reducing.{at_clear, made_of, settled_of_drained, unit_ready}

@@ -1,0 +1,68 @@
+-- The lines of words and the matrices that items have.
+use Rattle.std.proofs.Common.{ℕ, ◌≡◌, Bool, true, false, cond, List, [], ◌∷◌, ◌++◌, map, Option, None, Some, refl, sym, ap, ◌∙◌, append_assoc}
+use Rattle.std.specs.Prelude.{◌==◌, ◌-◌}
+use Rattle.residue_words.specs.Matrix.{Matrix}
+use Rattle.sparse_rows.specs.Rows.{ResidueMatrix}
+use Rattle.sms_text.specs.Parts.{open_at}
+use Rattle.sms_text.specs.ReadingRows.{SaysRows}
+use Rattle.sms_text.specs.Text.{Due, Header, Outer, Item, Words, pivot_lines, texts_of_kind, matrices, outer_lines}
+use Rattle.sms_text.specs.OuterLines.{Pivot}
+use Rattle.certificates.specs.declared.certificate.CertKind.{CertKind}
+use Rattle.certificates.specs.declared.certificate.CertKind.TheVariants.{Rank, Rref, Kernel}
+use Rattle.certificates.specs.Certificate.{HasExtra, claim_of}
+use Rattle.certificates.specs.CertificateText.{ClaimFitsText, HasLines, claim_said, kind_word}
+use Rattle.certificates.specs.CertificateParts.{ExtraFitsText, extra_due, extra_values}
+
+-- lines of words alone
+pub words_have : (p : ℕ) (lines : List (List (List ℕ))) → HasLines p (map Words lines) lines []
+words_have p [] = record { words = λ more. refl; matrices = λ more. refl }
+words_have p (ws ∷ lines) =
+    let rest = words_have p lines in
+    record { words = λ more. ap (λ l. ws ∷ l) (rest.words more); matrices = λ more. rest.matrices more }
+
+-- a text has one matrix
+pub rows_have : (p : ℕ) (A : ResidueMatrix) (items : List Item) → SaysRows p A items [] → HasLines p items [] (A.matrix ∷ [])
+rows_have p A items is = record { words = is.inside; matrices = is.matrix }
+
+-- items with matrices behind others
+pub have_more : (p : ℕ) (items more : List Item) (lines : List (List (List ℕ))) (values others : List Matrix) → HasLines p items lines values → HasLines p more [] others → HasLines p (items ++ more) lines (values ++ others)
+have_more p items more lines values others first next = record {
+  words = λ rest. ap outer_lines (append_assoc items more rest) ∙ first.words (more ++ rest) ∙ ap (λ l. lines ++ l) (next.words rest);
+  matrices = λ rest. ap (matrices p) (append_assoc items more rest) ∙ first.matrices (more ++ rest) ∙ ap (λ l. values ++ l) (next.matrices rest) ∙ sym (append_assoc values others (matrices p rest));
+}
+
+-- the texts that a kind makes due
+pub texts_due : (kind : CertKind) → texts_of_kind (kind_word kind) ≡ Header ∷ Header ∷ extra_due kind
+texts_due Rank = refl
+texts_due Rref = refl
+texts_due Kernel = refl
+
+pub extra_closed : (kind : CertKind) → open_at (extra_due kind) ≡ None
+extra_closed Rank = refl
+extra_closed Rref = refl
+extra_closed Kernel = refl
+
+-- no text is open where pivots are due, and texts behind them
+pub pivots_closed : (n : ℕ) (rest : List Due) → open_at rest ≡ None → open_at (pivot_lines n ++ rest) ≡ None
+pivots_closed n rest closed = one_pivot (n == 0)
+  where
+    one_pivot : (b : Bool) → open_at (cond b [] (Outer (Pivot (n - 1)) ∷ []) ++ rest) ≡ None
+    one_pivot true = closed
+    one_pivot false = refl
+
+-- what is claimed, by its word and by its kind
+pub claim_is : (p : ℕ) (kind : CertKind) (extra : Option ResidueMatrix) → HasExtra p kind extra → claim_said (kind_word kind) (extra_values extra) ≡ claim_of kind extra
+claim_is p Rank None h = refl
+claim_is p Rref (Some E) h = refl
+claim_is p Kernel (Some K) h = refl
+claim_is p Rank (Some E) h = absurd h
+claim_is p Rref None h = absurd h
+claim_is p Kernel None h = absurd h
+
+-- what is claimed fits a text where its matrix does
+pub claim_fits : (kind : CertKind) (extra : Option ResidueMatrix) → ExtraFitsText extra → ClaimFitsText (claim_of kind extra)
+claim_fits Rank extra fits = tt
+claim_fits Rref None fits = tt
+claim_fits Rref (Some E) fits = fits
+claim_fits Kernel None fits = tt
+claim_fits Kernel (Some K) fits = fits

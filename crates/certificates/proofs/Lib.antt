@@ -1,0 +1,5 @@
+pub mod CertificateLines
+pub mod CertificateRead
+pub mod CertificateWritten
+pub mod PivotsRead
+pub mod WrittenCertificates

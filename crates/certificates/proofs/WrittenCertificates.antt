@@ -1,0 +1,196 @@
+-- The written text of a certificate reads as this certificate.
+use Rattle.std.proofs.Common.{ℕ, suc, ◌≡◌, ◌+◌, ◌-◌, ◌^◌, ◌<◌, ◌≤◌, Bool, true, false, List, [], ◌∷◌, ◌++◌, length, map, Some, refl, sym, ap, ◌∙◌, subst, arith, append_assoc, append-nil}
+use Rattle.std.specs.Prelude.{◌==◌, All, codes}
+use Rattle.std.specs.Fmt.{decimal}
+use Rattle.std.proofs.lemmas.Bool.Decides.{nat_tests}
+use Rattle.std.proofs.lemmas.List.Elements.{All-head, All-tail}
+use Rattle.residue_words.specs.declared.modulus.TheConstants.{MODULUS_BOUND}
+use Rattle.residue_words.specs.declared.plain.Pair.{Pair}
+use Rattle.residue_words.specs.Matrix.{Matrix, IsMatrix}
+use Rattle.row_space.specs.Factors as plain
+use Rattle.sms_text.specs.declared.reader.TheConstants.{LARGEST_TEXT_SIZE}
+use Rattle.sms_text.specs.Laws.{items_of}
+use Rattle.sms_text.specs.OuterLines.{Pivot, is_certificate, is_from_one_up_to, is_kind_word, is_pivot, is_up_to}
+use Rattle.sms_text.specs.OuterLines as form
+use Rattle.sms_text.specs.Text.{Due, Header, Outer, Item, Words, due_behind, matrices, number_at, outer_lines, pivot_lines, texts_of_kind}
+use Rattle.sms_text.specs.Written.{pair_line, pair_lines}
+use Rattle.sms_text.proofs.Parts.{outer_says}
+use Rattle.sms_text.proofs.RoundTrip.{text_carries}
+use Rattle.sms_text.proofs.WrittenLines.{Carries, IsWord, carries_append, carries_nothing, carries_words, spaced}
+use Rattle.sms_text.proofs.WrittenNumbers.{Spells, above_zero, decimal_spells}
+use Rattle.sms_text.proofs.WrittenValues.{items_matrix_then, items_no_words}
+use Rattle.certificates.specs.CertificateText.{ClaimFitsText, HasLines, HasText, IsTextPlace, certificate_said, certificate_text, claim_said, claim_text, claim_word, pivot_of, title_line}
+use Rattle.certificates.specs.Laws.{ClaimIsModulo, IsModulo, WrittenCertificateReadsBack, certificate_items, claim_items, pivot_words, title_words}
+use Rattle.certificates.proofs.CertificateLines.{have_more, words_have}
+
+-- a word that spells a number is of the form that this number asks for
+up_to : (most n : ℕ) (w : List ℕ) → Spells w n → n ≤ most → is_up_to most w ≡ true
+up_to most n w s low = rw (s.number, s.spelled) (grind (arith, nat_tests))
+
+from_one : (most i : ℕ) (w : List ℕ) → Spells w (i + 1) → i < most → is_from_one_up_to most w ≡ true
+from_one most i w s low =
+    let some : (i + 1 == 0) ≡ false = grind (arith, nat_tests) in
+    rw (up_to most (i + 1) w s (omega arith), s.spelled, some) refl
+
+kind_word_is : (claim : plain.Claim) → is_kind_word (claim_word claim) ≡ true
+kind_word_is plain.Claim.Rank = refl
+kind_word_is (plain.Claim.Rref E) = refl
+kind_word_is (plain.Claim.Kernel K) = refl
+
+-- the texts behind the factors
+abbrev claim_due : plain.Claim → List Due
+claim_due plain.Claim.Rank = []
+claim_due (plain.Claim.Rref E) = Header ∷ []
+claim_due (plain.Claim.Kernel K) = Header ∷ []
+
+abbrev claim_values : plain.Claim → List Matrix
+claim_values plain.Claim.Rank = []
+claim_values (plain.Claim.Rref E) = E ∷ []
+claim_values (plain.Claim.Kernel K) = K ∷ []
+
+texts_are : (claim : plain.Claim) → texts_of_kind (claim_word claim) ≡ Header ∷ Header ∷ claim_due claim
+texts_are plain.Claim.Rank = refl
+texts_are (plain.Claim.Rref E) = refl
+texts_are (plain.Claim.Kernel K) = refl
+
+claim_again : (claim : plain.Claim) → claim_said (claim_word claim) (claim_values claim) ≡ claim
+claim_again plain.Claim.Rank = refl
+claim_again (plain.Claim.Rref E) = refl
+claim_again (plain.Claim.Kernel K) = refl
+
+claim_word_written : (claim : plain.Claim) → IsWord (claim_word claim)
+claim_word_written plain.Claim.Rank = record { above = (omega arith, (omega arith, (omega arith, (omega arith, tt)))); filled = refl }
+claim_word_written (plain.Claim.Rref E) = record { above = (omega arith, (omega arith, (omega arith, (omega arith, tt)))); filled = refl }
+claim_word_written (plain.Claim.Kernel K) = record { above = (omega arith, (omega arith, (omega arith, (omega arith, (omega arith, (omega arith, tt)))))); filled = refl }
+
+first_word_written : IsWord (codes "certificate")
+first_word_written = record {
+  above = (omega arith, (omega arith, (omega arith, (omega arith, (omega arith, (omega arith, (omega arith, (omega arith, (omega arith, (omega arith, (omega arith, tt)))))))))));
+  filled = refl;
+}
+
+-- the first line
+title_spaced : (word : List ℕ) (p r : ℕ) → title_line word p r ≡ spaced (codes "certificate") (word ∷ decimal p ∷ decimal r ∷ []) ++ 10 ∷ []
+title_spaced word p r = simp append_assoc
+
+title_fits : (c : plain.Certificate) → HasText c → is_certificate (title_words c) ≡ true
+title_fits c has =
+    rw (
+      kind_word_is c.claim,
+      up_to (MODULUS_BOUND - 1) c.modulus _ (decimal_spells c.modulus (omega (arith, has.modulus))) (omega (arith, has.modulus)),
+      up_to LARGEST_TEXT_SIZE (length c.pivots) _ (decimal_spells (length c.pivots) (omega (arith, has.count))) has.count,
+    ) refl
+
+title_carries : (p : ℕ) (c : plain.Certificate) → HasText c → (ended : Bool) (dues : List Due) →
+    Carries p ended (Outer form.Certificate ∷ dues) (pivot_lines (length c.pivots) ++ (Header ∷ Header ∷ (claim_due c.claim ++ dues))) (title_line (claim_word c.claim) c.modulus (length c.pivots)) (Words (title_words c) ∷ [])
+title_carries p c has ended dues =
+    let r = length c.pivots in
+    let modulus = decimal_spells c.modulus (omega (arith, has.modulus)) in
+    let rank = decimal_spells r (omega (arith, has.count)) in
+    let due : due_behind form.Certificate (title_words c) ++ dues ≡ pivot_lines r ++ (Header ∷ Header ∷ (claim_due c.claim ++ dues)) =
+    ap (λ n. (pivot_lines n ++ texts_of_kind (claim_word c.claim)) ++ dues) rank.spelled
+    ∙ ap (λ d. (pivot_lines r ++ d) ++ dues) (texts_are c.claim)
+    ∙ append_assoc (pivot_lines r) (Header ∷ Header ∷ claim_due c.claim) dues in
+    let P : List Due → Type 0 = λ d. Carries p ended (Outer form.Certificate ∷ dues) d (title_line (claim_word c.claim) c.modulus r) (Words (title_words c) ∷ []) in
+    subst P due (carries_words p ended (Outer form.Certificate) dues (title_line (claim_word c.claim) c.modulus r) (codes "certificate") (claim_word c.claim ∷ decimal c.modulus ∷ decimal r ∷ [])
+    (record { item = Words (title_words c); due = due_behind form.Certificate (title_words c) }) (title_spaced (claim_word c.claim) c.modulus r)
+    first_word_written (claim_word_written c.claim, (modulus.word, (rank.word, tt))) refl (outer_says p form.Certificate (title_words c) (title_fits c has)))
+
+-- the lines of the pivots
+abbrev pivot_items : List Pair → List Item
+pivot_items qs = map (λ q. Words (pivot_words q)) qs
+
+one_pivot : (n : ℕ) → pivot_lines (suc n) ≡ Outer (Pivot n) ∷ []
+one_pivot n = let less : suc n - 1 ≡ n = omega arith in rw (above_zero n) (ap (λ k. Outer (Pivot k) ∷ []) less)
+
+pair_spaced : (i j : ℕ) → pair_line i j ≡ spaced (decimal i) (decimal j ∷ []) ++ 10 ∷ []
+pair_spaced i j = simp append_assoc
+
+pivots_carry : (p : ℕ) (qs : List Pair) → All IsTextPlace qs → (ended : Bool) (dues : List Due) → Carries p ended (pivot_lines (length qs) ++ dues) dues (pair_lines qs) (pivot_items qs)
+pivots_carry p [] small ended dues = carries_nothing p ended dues
+pivots_carry p (q ∷ qs) small ended dues =
+    let here = All-head IsTextPlace q qs small in
+    let row = decimal_spells (q.row + 1) (omega (arith, here.0)) in
+    let col = decimal_spells (q.col + 1) (omega (arith, here.1)) in
+    let n = length qs in
+    let fits : is_pivot (pivot_words q) ≡ true = rw (from_one LARGEST_TEXT_SIZE q.row _ row here.0, from_one LARGEST_TEXT_SIZE q.col _ col here.1) refl in
+    let line = carries_words p ended (Outer (Pivot n)) dues (pair_line (q.row + 1) (q.col + 1)) (decimal (q.row + 1)) (decimal (q.col + 1) ∷ [])
+    (record { item = Words (pivot_words q); due = pivot_lines n }) (pair_spaced (q.row + 1) (q.col + 1)) row.word (col.word, tt) row.unmarked (outer_says p (Pivot n) (pivot_words q) fits) in
+    let P : List Due → Type 0 = λ d. Carries p ended (d ++ dues) dues (pair_lines (q ∷ qs)) (pivot_items (q ∷ qs)) in
+    subst P (sym (one_pivot n)) (carries_append p ended _ _ _ _ _ _ _ line (pivots_carry p qs (All-tail IsTextPlace q qs small) ended dues))
+
+-- the matrix that is claimed
+claim_carries : (p : ℕ) (claim : plain.Claim) → p < 2 ^ 64 → ClaimIsModulo p claim → ClaimFitsText claim → (ended : Bool) (dues : List Due) →
+    Carries p ended (claim_due claim ++ dues) dues (claim_text claim) (claim_items claim)
+claim_carries p plain.Claim.Rank small is fits ended dues = carries_nothing p ended dues
+claim_carries p (plain.Claim.Rref E) small is fits ended dues = text_carries p E small is fits.0 fits.1 ended dues
+claim_carries p (plain.Claim.Kernel K) small is fits ended dues = text_carries p K small is fits.0 fits.1 ended dues
+
+certificate_carries : (p : ℕ) (c : plain.Certificate) → p < 2 ^ 64 → IsModulo p c → HasText c → (ended : Bool) (dues : List Due) →
+    Carries p ended (Outer form.Certificate ∷ dues) dues (certificate_text c) (certificate_items c)
+certificate_carries p c small is has ended dues =
+    let last = claim_due c.claim ++ dues in
+    let title = title_carries p c has ended dues in
+    let pivots = pivots_carry p c.pivots has.pivots ended (Header ∷ Header ∷ last) in
+    let left = text_carries p c.left small is.left has.left.0 has.left.1 ended (Header ∷ last) in
+    let right = text_carries p c.right small is.right has.right.0 has.right.1 ended last in
+    carries_append p ended _ _ _ _ _ _ _ (carries_append p ended _ _ _ _ _ _ _ (carries_append p ended _ _ _ _ _ _ _ (carries_append p ended _ _ _ _ _ _ _ title pivots) left) right)
+    (claim_carries p c.claim small is.claim has.claim ended dues)
+
+-- what the items are
+pivot_lines_are : (qs : List Pair) → pivot_items qs ≡ map Words (map pivot_words qs)
+pivot_lines_are [] = refl
+pivot_lines_are (q ∷ qs) = ap (λ l. Words (pivot_words q) ∷ l) (pivot_lines_are qs)
+
+pivots_again : (qs : List Pair) → All IsTextPlace qs → map pivot_of (map pivot_words qs) ≡ qs
+pivots_again [] small = refl
+pivots_again (q ∷ qs) small =
+    let here = All-head IsTextPlace q qs small in
+    let row = (decimal_spells (q.row + 1) (omega (arith, here.0))).spelled in
+    let col = (decimal_spells (q.col + 1) (omega (arith, here.1))).spelled in
+    let same_row : number_at (pivot_words q) 0 - 1 ≡ q.row = omega (arith, row) in
+    let same_col : number_at (pivot_words q) 1 - 1 ≡ q.col = omega (arith, col) in
+    ap (λ r. record { row = r; col = number_at (pivot_words q) 1 - 1 } ∷ map pivot_of (map pivot_words qs)) same_row
+    ∙ ap (λ k. record { row = q.row; col = k } ∷ map pivot_of (map pivot_words qs)) same_col
+    ∙ ap (λ l. q ∷ l) (pivots_again qs (All-tail IsTextPlace q qs small))
+
+matrix_has : (p : ℕ) (A : Matrix) → IsMatrix p A → HasLines p (items_of A) [] (A ∷ [])
+matrix_has p A is = record { words = λ more. items_no_words p A more; matrices = λ more. items_matrix_then p A more is }
+
+claim_has : (p : ℕ) (claim : plain.Claim) → ClaimIsModulo p claim → HasLines p (claim_items claim) [] (claim_values claim)
+claim_has p plain.Claim.Rank is = words_have p []
+claim_has p (plain.Claim.Rref E) is = matrix_has p E is
+claim_has p (plain.Claim.Kernel K) is = matrix_has p K is
+
+abbrev all_lines : plain.Certificate → List (List (List ℕ))
+all_lines c = title_words c ∷ map pivot_words c.pivots
+
+abbrev all_values : plain.Certificate → List Matrix
+all_values c = c.left ∷ c.right ∷ claim_values c.claim
+
+certificate_has : (p : ℕ) (c : plain.Certificate) → IsModulo p c → HasLines p (certificate_items c) (all_lines c) (all_values c)
+certificate_has p c is =
+    let first : HasLines p (Words (title_words c) ∷ pivot_items c.pivots) (all_lines c) [] =
+    subst (λ l. HasLines p (Words (title_words c) ∷ l) (all_lines c) []) (sym (pivot_lines_are c.pivots)) (words_have p (all_lines c)) in
+    let left = have_more p (Words (title_words c) ∷ pivot_items c.pivots) (items_of c.left) (all_lines c) [] (c.left ∷ []) first (matrix_has p c.left is.left) in
+    let right = have_more p _ (items_of c.right) (all_lines c) (c.left ∷ []) (c.right ∷ []) left (matrix_has p c.right is.right) in
+    have_more p _ (claim_items c.claim) (all_lines c) (c.left ∷ c.right ∷ []) (claim_values c.claim) right (claim_has p c.claim is.claim)
+
+said_again : (c : plain.Certificate) → HasText c → certificate_said (all_lines c) (all_values c) ≡ Some c
+said_again c has =
+    let modulus = (decimal_spells c.modulus (omega (arith, has.modulus))).spelled in
+    ap (λ n. Some (made n (map pivot_of (map pivot_words c.pivots)) (claim_said (claim_word c.claim) (claim_values c.claim)))) modulus
+    ∙ ap (λ qs. Some (made c.modulus qs (claim_said (claim_word c.claim) (claim_values c.claim)))) (pivots_again c.pivots has.pivots)
+    ∙ ap (λ k. Some (made c.modulus c.pivots k)) (claim_again c.claim)
+  where
+    made : ℕ → List Pair → plain.Claim → plain.Certificate
+    made n qs claim = record { modulus = n; pivots = qs; left = c.left; right = c.right; claim = claim }
+
+pub reads_back : WrittenCertificateReadsBack
+reads_back p c small is has =
+    let h = certificate_has p c is in
+    let lines_are : outer_lines (certificate_items c) ≡ all_lines c = ap outer_lines (sym (append-nil (certificate_items c))) ∙ h.words [] ∙ append-nil (all_lines c) in
+    let values_are : matrices p (certificate_items c) ≡ all_values c = ap (matrices p) (sym (append-nil (certificate_items c))) ∙ h.matrices [] ∙ append-nil (all_values c) in (
+      ap (λ l. certificate_said l (matrices p (certificate_items c))) lines_are ∙ ap (certificate_said (all_lines c)) values_are ∙ said_again c has,
+      λ ended room number dues rest fits. (certificate_carries p c small is has ended dues).step room number rest fits,
+    )

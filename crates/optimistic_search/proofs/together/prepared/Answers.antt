@@ -1,0 +1,34 @@
+use Rattle.std.proofs.Common.{◌≡◌, ◌∙◌, List, ap, arith, subst, sym}
+use Rattle.std.specs.Prelude.{All}
+use Rattle.std.proofs.lemmas.List.Elements.{All-push}
+use Rattle.sparse_rows.specs.Rows.{ResidueMatrix}
+use Rattle.pivot_table.specs.Board.{SeatState}
+use Rattle.pivot_table.specs.Core.{Chair}
+use Rattle.optimistic_search.specs.Walked.{Walked}
+use Rattle.optimistic_search.specs.Workers.{IsWorkerOf}
+use Rattle.optimistic_search.specs.declared.worker.Worker.{Worker}
+use Rattle.optimistic_search.proofs.together.prepared.Goals as goal
+
+pub loop-number-preserved : goal.loop-number-preserved
+loop-number-preserved g c =
+    let inv = c.loop-number.invariant in
+    let more = c.push_reserved.ensures in
+    let one : Worker = record { seat = c.split.result; walk = c.in_ok-walk.walk; number = c.loop-number.number; from = c.first_row.result } in
+    let walk = c.in_ok-walk.ensures in
+    let low = c.first_row.ensures in
+    let height : c.height-height.result ≡ c.args.board.now.rows.matrix.height = c.height-height.ensures.value ∙ ap (λ (m : ResidueMatrix). m.matrix.height) c.rows.ensures in
+    let own : IsWorkerOf c.args.board.now one = (
+      record {
+        seat = c.split.ensures.seat;
+        rows = ap (λ (w : Walked). w.rows) walk ∙ sym c.requires.rows;
+        pairs = ap (λ (w : Walked). w.pairs) walk ∙ sym c.requires.seen ∙ ap (λ (s : SeatState). s.chair.seen) (sym inv.seat) ∙ sym (ap (λ (x : Chair). x.seen) c.split.ensures.chair);
+        hand = ap (λ (x : Chair). x.hand) c.split.ensures.chair;
+        current = ap (λ (w : Walked). w.current) walk;
+      },
+      omega arith,
+    ) in record {
+      seat = c.split.ensures.same ∙ inv.seat;
+      workers = subst (λ (l : List Worker). All (IsWorkerOf c.args.board.now) l) (sym more.items) (All-push (IsWorkerOf c.args.board.now) c.loop-number.workers.items one inv.workers own);
+      count = let n = inv.count in let m = more.len in omega arith;
+      room = let r = inv.room in let m = more.capacity in omega arith;
+    }

@@ -1,0 +1,17 @@
+-- Workers that share a board, and what their search leaves.
+use Rattle.std.specs.Prelude.{◌≤◌, ℕ, Bool, List}
+use Rattle.residue_words.specs.Matrix.{Matrix}
+use Rattle.residue_words.specs.declared.plain.Pair.{Pair}
+use Rattle.pivot_table.specs.Board.{BoardState}
+use Rattle.pivot_table.specs.History.{StandsOrIsDead}
+use Rattle.pivot_table.specs.Closing.{IsDone}
+use Rattle.optimistic_search.specs.Taking.{IsIdle}
+use Rattle.optimistic_search.specs.declared.worker.Worker.{Worker}
+
+-- a worker that stands before a row, or has gone through all rows
+abbrev pub IsWorkerOf : BoardState → Worker → Type 0
+IsWorkerOf b w = IsIdle b w.seat w.walk × (w.from ≤ b.rows.matrix.height)
+
+-- the rows that are done stand in the history or are dead in it
+abbrev pub DoneAreSettled : Matrix → List Pair → List Bool → Type 0
+DoneAreSettled A h marks = (r : ℕ) → IsDone marks r → StandsOrIsDead A h r

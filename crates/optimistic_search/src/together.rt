@@ -1,0 +1,200 @@
+// The search of several workers at once.
+ghost use Rattle.std.specs.Prelude.{◌≡◌, ◌<◌, ◌≤◌, ℕ, None, length, take, vec_len, All, IfOk};
+ghost use Rattle.pivot_table.specs.Board.{IsSeatOf};
+ghost use Rattle.pivot_table.specs.Book.{HasRoom};
+ghost use Rattle.pivot_table.specs.Closing.{AreStartsFrom, IsDone};
+ghost use Rattle.pivot_table.specs.History.{Maximal, StandsOrIsDead, StartsWith};
+ghost use Rattle.optimistic_search.specs.Workers.{DoneAreSettled, IsWorkerOf};
+
+use crate::by_walk::{follow, try_row};
+use crate::gate::Gate;
+use crate::steps::Steps;
+use crate::walk::Walk;
+use crate::worker::{Worker, first_row};
+use pivot_table::{Board, Book, Closed, Marks, Seat, Starts};
+use std::alloc::{AllocError, Global};
+use std::marker::Brand;
+use std::sync::ledger::{Blank, Ledger};
+use std::thread::{Threads, for_each_mut};
+
+// A walk over a book's pairs.
+fn walk_over<'a, L: Ledger>(
+    alloc: Global,
+    book: &Book<'a>,
+    steps: &mut Steps<L>,
+) -> Result<Walk<'a>, AllocError>
+    ensures { IfOk result (λ w. w ≡ record { rows = book.now.rows; pairs = book.now.pairs; current = None }) }
+{
+    let mut walk = Walk::new(alloc, book.rows())?;
+    follow(&mut walk, book.pairs(), 0, steps);
+    Ok(walk)
+}
+
+// The workers, each with a seat and a walk of its own.
+fn prepared<'a, L: Ledger>(
+    alloc: Global,
+    book: &Book<'a>,
+    board: &Board<'a>,
+    seat: &mut Seat,
+    count: u32,
+    steps: &mut Steps<L>,
+) -> Result<Vec<Worker<'a>>, AllocError>
+    requires seat { IsSeatOf board.now seat.old }
+    requires rows { board.now.rows ≡ book.now.rows }
+    requires seen { seat.old.chair.seen ≡ book.now.pairs }
+    ensures same { seat.new ≡ seat.old }
+    ensures workers { IfOk result (λ v. All (IsWorkerOf board.now) v.items) }
+{
+    let height = board.rows().height();
+    let mut workers = Vec::with_capacity(alloc, count as usize)?;
+    for number in 0..count {
+        let walk = walk_over(alloc, book, steps)?;
+        workers.push_reserved(Worker {
+            seat: board.split(seat),
+            walk,
+            number,
+            from: first_row(number, count, height),
+        });
+    }
+    Ok(workers)
+}
+
+// Runs the workers, each in a thread of its own where one can be made.
+fn run_all<R: Threads + Sync, G: Gate>(
+    rt: &R,
+    board: &Board<'_>,
+    gate: &G,
+    workers: &mut [Worker<'_>],
+)
+    requires { All (IsWorkerOf board.now) workers.old }
+    ensures { All (IsWorkerOf board.now) workers.new }
+{
+    let count = workers.len();
+    if count == 0 {
+        return;
+    }
+    for_each_mut(
+        rt,
+        workers,
+        count,
+        &|_: usize, worker: &mut Worker<'_>|
+            requires { IsWorkerOf board.now worker.now }
+            ensures { IsWorkerOf board.entry.now worker.exit.now }
+        { worker.run(board, gate) },
+    );
+}
+
+// Takes the workers' seats over, and lets their walks go.
+fn join_all(board: &Board<'_>, seat: &mut Seat, workers: Vec<Worker<'_>>)
+    requires seat { IsSeatOf board.now seat.old }
+    requires workers { All (IsWorkerOf board.now) workers.items }
+    ensures { IsSeatOf board.now seat.new }
+{
+    let mut workers = workers;
+    while let Some(worker) = workers.pop() {
+        let Worker {
+            seat: other,
+            walk: _walk,
+            number: _number,
+            from: _from,
+        } = worker;
+        board.join(seat, other);
+    }
+}
+
+// Tries a row, unless it is done.
+fn try_unless_done<L: Ledger>(
+    book: &mut Book,
+    walk: &mut Walk,
+    row: u32,
+    done: &Marks,
+    steps: &mut Steps<L>,
+)
+    requires rows { walk.old.rows ≡ book.old.rows }
+    requires pairs { walk.old.pairs ≡ book.old.pairs }
+    requires closed { walk.old.current ≡ None }
+    requires inside { row < book.old.rows.matrix.height }
+    requires tall { length done.now ≡ book.old.rows.matrix.height }
+    requires room { HasRoom book.old.rows.matrix book.old }
+    requires done { DoneAreSettled book.old.rows.matrix book.old.pairs done.now }
+    ensures book_rows { book.new.rows ≡ book.old.rows }
+    ensures walk_rows { walk.new.rows ≡ walk.old.rows }
+    ensures walk_pairs { walk.new.pairs ≡ book.new.pairs }
+    ensures closed { walk.new.current ≡ None }
+    ensures room { HasRoom book.old.rows.matrix book.new }
+    ensures begins { StartsWith book.new.pairs book.old.pairs }
+    ensures settled { StandsOrIsDead book.old.rows.matrix book.new.pairs row }
+{
+    if done.is_done(row) {
+        return;
+    }
+    try_row(book, walk, row, steps);
+}
+
+// Tries each row that isn't done, in ascending order.
+fn sweep<L: Ledger>(book: &mut Book, walk: &mut Walk, done: &Marks, steps: &mut Steps<L>)
+    requires rows { walk.old.rows ≡ book.old.rows }
+    requires pairs { walk.old.pairs ≡ book.old.pairs }
+    requires closed { walk.old.current ≡ None }
+    requires tall { length done.now ≡ book.old.rows.matrix.height }
+    requires room { HasRoom book.old.rows.matrix book.old }
+    requires done { DoneAreSettled book.old.rows.matrix book.old.pairs done.now }
+    ensures rows { book.new.rows ≡ book.old.rows }
+    ensures begins { StartsWith book.new.pairs book.old.pairs }
+    ensures maximal { Maximal book.old.rows.matrix book.new.pairs }
+{
+    for row in 0..book.rows().height() {
+        try_unless_done(book, walk, row, done, steps);
+    }
+}
+
+// Grows the book by several workers, and tells the starts of what they published. It takes all memory before the first begins.
+fn search_with<'a, R: Threads + Sync, G: Gate, L: Ledger>(
+    rt: &R,
+    alloc: Global,
+    book: Book<'a>,
+    workers: u32,
+    gate: &G,
+    blank: Blank,
+) -> Result<(Book<'a>, Starts), AllocError>
+    requires name { blank.name ≡ L.name }
+    requires parts { blank.parts ≡ L.parts }
+    requires some { 0 < blank.parts }
+    ensures rows { IfOk result (λ t. t.0.rows ≡ book.entry.rows) }
+    ensures begins { IfOk result (λ t. StartsWith t.0.pairs book.entry.pairs) }
+    ensures maximal { IfOk result (λ t. Maximal book.entry.rows.matrix t.0.pairs) }
+    ensures starts { IfOk result (λ t. (n : ℕ) × AreStartsFrom (length book.entry.pairs) n t.1) }
+{
+    let mut steps = Steps::<L>::new(blank);
+    let first = book.pairs().len();
+    let (board, mut seat) = Board::new(alloc, &book)?;
+    let mut walk = walk_over(alloc, &book, &mut steps)?;
+    let mut team = prepared(alloc, &book, &board, &mut seat, workers, &mut steps)?;
+    run_all(rt, &board, gate, team.as_mut_slice());
+    join_all(&board, &mut seat, team);
+    let Closed {
+        book: closed,
+        done,
+        starts,
+    } = board.close(seat);
+    let mut closed = closed;
+    follow(&mut walk, closed.pairs(), first, &mut steps);
+    sweep(&mut closed, &mut walk, &done, &mut steps);
+    Ok((closed, starts))
+}
+
+// Grows the book by several workers, and tells the starts of what they published.
+pub(crate) fn search_together<'a, R: Threads + Sync, G: Gate>(
+    rt: &R,
+    alloc: Global,
+    book: Book<'a>,
+    workers: u32,
+    gate: &G,
+) -> Result<(Book<'a>, Starts), AllocError>
+    ensures rows { IfOk result (λ t. t.0.rows ≡ book.entry.rows) }
+    ensures begins { IfOk result (λ t. StartsWith t.0.pairs book.entry.pairs) }
+    ensures maximal { IfOk result (λ t. Maximal book.entry.rows.matrix t.0.pairs) }
+    ensures starts { IfOk result (λ t. (n : ℕ) × AreStartsFrom (length book.entry.pairs) n t.1) }
+{
+    search_with::<R, G, Brand>(rt, alloc, book, workers, gate, Blank::new(1))
+}

@@ -1,0 +1,5 @@
+pub mod Bases
+pub mod Factoring
+pub mod Selecting
+pub mod Staging
+pub mod Taking

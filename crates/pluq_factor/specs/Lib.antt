@@ -1,0 +1,5 @@
+pub mod Basis
+pub mod Laws
+pub mod Rounds
+pub mod Staged
+pub mod Taken

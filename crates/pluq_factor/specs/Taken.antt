@@ -1,0 +1,36 @@
+-- What one round takes out of a matrix.
+use Rattle.std.specs.Prelude.{◌≡◌, ◌≤◌, ℕ, List, length}
+use Rattle.residue_words.specs.Residues.{IsPrime}
+use Rattle.residue_words.specs.Matrix.{Matrix, IsMatrix}
+use Rattle.residue_words.specs.declared.plain.Pair.{Pair}
+use Rattle.sparse_rows.specs.Rows.{ResidueMatrix}
+use Rattle.pivot_table.specs.Order.{Triangular}
+use Rattle.pivot_table.specs.Selected.{Selected}
+use Rattle.triangular_solve.specs.Reduced.{IsComplement}
+use Rattle.triangular_solve.specs.Triangle.{TriangleState}
+use Rattle.schur_rows.specs.Round.{FitsComplement, FitsRound, IsRound, pivot_rows}
+use Rattle.pluq_factor.specs.declared.taken.Left.{Left}
+use Rattle.pluq_factor.specs.declared.taken.Taken.{Taken}
+
+-- the matrix with these pairs
+abbrev pub triangle_on : ResidueMatrix → List Pair → TriangleState
+triangle_on R qs = record { rows = R; pairs = qs }
+
+-- the pivots that so many workers selected, their rows, and what they leave
+pub record IsTaken (R : ResidueMatrix) (workers : ℕ) (r : Taken) : Type 0 where
+  pub sound : IsMatrix R.modulus R.matrix
+  pub selected : Selected R.matrix workers r.pivots
+  pub modulus : r.top.modulus ≡ R.modulus
+  pub top : r.top.matrix ≡ pivot_rows R.matrix r.pivots
+  pub fits : FitsRound (triangle_on R r.pivots) r.left
+  pub round : IsPrime R.modulus → IsRound (triangle_on R r.pivots) r.left
+
+-- the rows of triangular pivots, and what these leave
+pub record IsLeft (R : ResidueMatrix) (r : Left) : Type 0 where
+  pub sound : IsMatrix R.modulus R.matrix
+  pub pairs : List Pair
+  pub triangular : Triangular R.matrix pairs
+  pub modulus : r.top.modulus ≡ R.modulus
+  pub top : r.top.matrix ≡ pivot_rows R.matrix pairs
+  pub fits : FitsComplement (triangle_on R pairs) r.rest
+  pub complement : IsPrime R.modulus → IsComplement R.modulus R.matrix pairs r.rest.matrix

@@ -1,0 +1,82 @@
+// Rows that show the row space.
+ghost use Rattle.std.specs.Prelude.{◌≡◌, ◌≤◌, IfOk};
+ghost use Rattle.pluq_factor.specs.Basis.{IsBasis};
+
+use crate::plan::Plan;
+use crate::taken::{Left, take_left};
+use dense_finish::{Factors, finish};
+use optimistic_search::Gate;
+use schur_rows::append_all;
+use sparse_rows::{LARGEST_SIZE, Rows};
+use std::alloc::{AllocError, Global};
+use std::thread::Threads;
+
+/// Rows of a matrix's row space: for a prime modulus they are independent and span it. They are the pivots' rows of each round,
+/// and those of the dense finish; no coefficients are kept. For a modulus that is not prime they are some rows of that width.
+pub fn row_basis<R: Threads + Sync, G: Gate>(
+    rt: &R,
+    alloc: Global,
+    rows: &Rows,
+    plan: Plan,
+    gate: &G,
+) -> Result<Rows, AllocError>
+    requires some { 1 ≤ plan.workers }
+    requires few { plan.workers ≤ 64 }
+    ensures { IfOk result (IsBasis rows.now.modulus rows.now.matrix) }
+{
+    let copy = rows.copy(alloc)?;
+    let basis = basis_from(rt, alloc, copy, plan.workers, plan.rounds, gate)?;
+    Ok(basis)
+}
+
+// The rows of a dense finish.
+fn finished<R: Threads + Sync>(
+    rt: &R,
+    alloc: Global,
+    rows: &Rows,
+    workers: u32,
+) -> Result<Rows, AllocError>
+    requires some { 1 ≤ workers }
+    requires few { workers ≤ 64 }
+    ensures { IfOk result (IsBasis rows.now.modulus rows.now.matrix) }
+{
+    // The call's contract tells that the entries are residues.
+    let _ = rows.height();
+    let Factors { u, .. } = finish(rt, alloc, rows, workers)?;
+    Ok(u)
+}
+
+// The rows by so many rounds and the finish. The matrix is given up before the next round begins.
+fn basis_from<R: Threads + Sync, G: Gate>(
+    rt: &R,
+    alloc: Global,
+    rows: Rows,
+    workers: u32,
+    rounds: u32,
+    gate: &G,
+) -> Result<Rows, AllocError>
+    requires some { 1 ≤ workers }
+    requires few { workers ≤ 64 }
+    ensures { IfOk result (IsBasis rows.modulus rows.matrix) }
+{
+    // The calls' contracts tell that the entries are residues.
+    let _ = (rows.height(), rows.width());
+    if rounds == 0 {
+        let basis = finished(rt, alloc, &rows, workers)?;
+        return Ok(basis);
+    }
+    let Some(left) = take_left(rt, alloc, &rows, workers, gate)? else {
+        let basis = finished(rt, alloc, &rows, workers)?;
+        return Ok(basis);
+    };
+    drop(rows);
+    let Left { top, rest } = left;
+    let below = basis_from(rt, alloc, rest, workers, rounds - 1, gate)?;
+    let mut basis = top;
+    // Only where the modulus isn't prime are there more rows than a matrix has.
+    if below.height() > LARGEST_SIZE - basis.height() {
+        return Ok(basis);
+    }
+    append_all(alloc, &mut basis, &below)?;
+    Ok(basis)
+}

@@ -1,0 +1,30 @@
+//! Factors, row space and rank of a sparse matrix, by structural rounds and a dense finish.
+//!
+//! A round finds pivots without any arithmetic and leaves the complement, on which the next one works; what the last one leaves
+//! is eliminated densely. The method is that of Bouillaguet, Delaplace and Voge, 'Parallel Sparse PLUQ Factorization modulo p',
+//! PASCO 2017.
+#![tactic(auto)]
+
+mod basis;
+mod by_rounds;
+mod plan;
+mod taken;
+#[cfg(test)]
+mod tests;
+
+ghost use Rattle.pluq_factor.specs.Laws.{SelectedIsOne, StagedGoesOn};
+
+pub use basis::row_basis;
+pub use by_rounds::factor;
+pub use dense_finish::Factors;
+pub use plan::Plan;
+
+/// A list begins with the pivots of at most one round, and what stands behind them is staged on the complement, for a prime
+/// modulus.
+pub fn staged_is_one()
+    ensures selected { SelectedIsOne }
+    ensures on { StagedGoesOn }
+{
+    // The law's contract: a matrix has at most one complement.
+    schur_rows::complement_is_one();
+}

@@ -1,0 +1,45 @@
+// How a matrix is taken apart.
+ghost use Rattle.std.specs.Prelude.{◌≡◌, ◌≤◌, length, map, IfOk};
+ghost use Rattle.pivot_table.specs.Selected.{Selected};
+
+use fl_pivots::leftmost;
+use optimistic_search::{Gate, search};
+use pivot_table::Pair;
+use sparse_rows::Rows;
+use std::alloc::{AllocError, Global};
+use std::thread::Threads;
+use triangular_solve::Triangle;
+
+/// By how many workers, and in how many structural rounds at most.
+#[derive(Clone, Copy, Debug)]
+pub struct Plan {
+    /// 1 to 64.
+    pub workers: u32,
+    /// Each round works on what the one before left; none where 0.
+    pub rounds: u32,
+}
+
+// The pivots of one round, in triangular order.
+pub(crate) fn select_pivots<'a, R: Threads + Sync, G: Gate>(
+    rt: &R,
+    alloc: Global,
+    rows: &'a Rows,
+    workers: u32,
+    gate: &G,
+) -> Result<Triangle<'a>, AllocError>
+    requires some { 1 ≤ workers }
+    requires few { workers ≤ 64 }
+    ensures rows { IfOk result (λ t. t.rows ≡ rows.now) }
+    ensures selected { IfOk result (λ t. Selected rows.now.matrix workers t.pairs) }
+{
+    let book = search(rt, alloc, leftmost(alloc, rows)?, workers, gate)?;
+    let triangle = Triangle::of(alloc, &book)?;
+    Ok(triangle)
+}
+
+// The rows of the pairs.
+pub(crate) fn rows_of(alloc: Global, pairs: &[Pair]) -> Result<Vec<u32>, AllocError>
+    ensures { IfOk result (λ rows. rows.items ≡ map (λ q. q.row) pairs.now) }
+{
+    pairs.iter().map(|q| q.row).collect(alloc)
+}

@@ -1,0 +1,88 @@
+// What one round takes out of a matrix.
+ghost use Rattle.std.specs.Prelude.{◌≡◌, ◌≤◌, [], IfOk, IfSome};
+ghost use Rattle.std.specs.Option.{MatchOption};
+ghost use Rattle.pivot_table.specs.Selected.{Selected};
+ghost use Rattle.pluq_factor.specs.Taken.{IsLeft, IsTaken};
+
+use crate::plan::{rows_of, select_pivots};
+use optimistic_search::Gate;
+use pivot_table::Pair;
+use schur_rows::{SchurRows, complement, schur};
+use sparse_rows::{List, Rows};
+use std::alloc::{AllocError, Global};
+use std::thread::Threads;
+
+// The pivots of a round, their rows, and what they leave, with the coefficients.
+#[derive(Debug, Drop)]
+pub(crate) struct Taken {
+    pub(crate) pivots: List<Pair>,
+    pub(crate) top: Rows,
+    pub(crate) left: SchurRows,
+}
+
+// The rows of a round's pivots, and the complement.
+#[derive(Debug, Drop)]
+pub(crate) struct Left {
+    pub(crate) top: Rows,
+    pub(crate) rest: Rows,
+}
+
+// One round with the coefficients; None where there is no pivot.
+pub(crate) fn take_round<R: Threads + Sync, G: Gate>(
+    rt: &R,
+    alloc: Global,
+    rows: &Rows,
+    workers: u32,
+    gate: &G,
+) -> Result<Option<Taken>, AllocError>
+    requires some { 1 ≤ workers }
+    requires few { workers ≤ 64 }
+    ensures { IfOk result (λ r. MatchOption r (Selected rows.now.matrix workers []) (IsTaken rows.now workers)) }
+{
+    // The call's contract tells that the entries are residues.
+    let _ = rows.height();
+    let triangle = select_pivots(rt, alloc, rows, workers, gate)?;
+    let pairs = triangle.pairs();
+    if pairs.is_empty() {
+        return Ok(None);
+    }
+    let left = schur(rt, alloc, &triangle, workers)?;
+    let top = rows.select(alloc, &rows_of(alloc, pairs)?)?;
+    let pivots = listed(alloc, pairs)?;
+    Ok(Some(Taken { pivots, top, left }))
+}
+
+// One round without the coefficients; None where there is no pivot.
+pub(crate) fn take_left<R: Threads + Sync, G: Gate>(
+    rt: &R,
+    alloc: Global,
+    rows: &Rows,
+    workers: u32,
+    gate: &G,
+) -> Result<Option<Left>, AllocError>
+    requires some { 1 ≤ workers }
+    requires few { workers ≤ 64 }
+    ensures { IfOk result (λ r. IfSome r (IsLeft rows.now)) }
+{
+    // The call's contract tells that the entries are residues.
+    let _ = rows.height();
+    let triangle = select_pivots(rt, alloc, rows, workers, gate)?;
+    let pairs = triangle.pairs();
+    if pairs.is_empty() {
+        return Ok(None);
+    }
+    let rest = complement(rt, alloc, &triangle, workers)?;
+    let top = rows.select(alloc, &rows_of(alloc, pairs)?)?;
+    Ok(Some(Left { top, rest }))
+}
+
+// The pairs as a list.
+pub(crate) fn listed(alloc: Global, pairs: &[Pair]) -> Result<List<Pair>, AllocError>
+    ensures { IfOk result (λ list. list ≡ pairs.now) }
+{
+    let mut list = List::new(alloc);
+    for pair in pairs {
+        list.push(*pair)?;
+    }
+    Ok(list)
+}

@@ -1,0 +1,11 @@
+pub mod Above
+pub mod Below
+pub mod Copying
+pub mod Dealing
+pub mod Distinct
+pub mod Joining
+pub mod Numbers
+pub mod Parting
+pub mod Spanning
+pub mod Unique
+pub mod Whole

@@ -1,0 +1,5 @@
+use Rattle.schur_rows.proofs.Whole.{sound_of, whole_round}
+use Rattle.schur_rows.proofs.round.schur.Goals as goal
+
+pub returns-clause-round : goal.returns-clause-round
+returns-clause-round g c = λ prime. whole_round (sound_of c.rows.ensures c.modulus.ensures.sound) c.pairs.ensures.triangular prime c.in_ok-left.ensures

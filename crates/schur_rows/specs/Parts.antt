@@ -1,0 +1,118 @@
+-- What workers make of a round: parts of the matrix, row by row.
+use Rattle.std.specs.Prelude.{◌≡◌, ◌<◌, ◌≤◌, ◌+◌, ◌*◌, ◌/◌, ◌%◌, ℕ, Bool, true, List, Result, Vec, length, min, slice_index_or, IfOk}
+use Rattle.std.specs.declared.alloc.Global.{Global}
+use Rattle.residue_words.specs.Matrix.{Matrix, IsMatrix, IsVector, row, zeros}
+use Rattle.residue_words.specs.Residues.{IsPrime}
+use Rattle.row_space.specs.Factors.{row_at}
+use Rattle.row_space.specs.Inverse.{unit}
+use Rattle.sparse_rows.specs.Rows.{IsNextFilled, IsZeroRow, with_zeros}
+use Rattle.sparse_rows.specs.declared.rows.TheConstants.{LARGEST_SIZE}
+use Rattle.sparse_rows.specs.Stored.{with_row}
+use Rattle.triangular_solve.specs.Reduced.{IsPivotRow, IsReduced, IsSchurRow, Reduction}
+use Rattle.triangular_solve.specs.Triangle.{TriangleState}
+use Rattle.schur_rows.specs.Round.{above}
+use Rattle.schur_rows.specs.declared.round.SchurRows.{SchurRows}
+use Rattle.schur_rows.specs.declared.workers.Deal.{Deal}
+
+-- r is row i of a round: a pivot row is itself and leaves nothing, for another row its Schur row is left; where the
+-- coefficients are kept, they split the row
+pub record IsRowOf (t : TriangleState) (kept : Bool) (i : ℕ) (r : Reduction) : Type 0 where
+  pub nothing : IsPivotRow t.pairs i → r.rest ≡ zeros t.rows.matrix.width
+  pub itself : kept ≡ true → (k : ℕ) → k < length t.pairs → row_at t.pairs k ≡ i → r.coefficients ≡ unit (length t.pairs) k
+  pub left : IsPrime t.rows.modulus → ¬ IsPivotRow t.pairs i →
+      IsSchurRow t.rows.modulus t.rows.matrix t.pairs (row t.rows.matrix i) r.rest
+  pub split : kept ≡ true → IsPrime t.rows.modulus → ¬ IsPivotRow t.pairs i →
+      IsReduced t.rows.modulus t.rows.matrix t.pairs (row t.rows.matrix i) r
+
+-- the rows of a round from `from` on, as many as there are
+pub record IsPart (t : TriangleState) (kept : Bool) (from : ℕ) (s : SchurRows) : Type 0 where
+  pub modulus : s.rows.modulus ≡ t.rows.modulus
+  pub rest : IsMatrix t.rows.modulus s.rows.matrix
+  pub width : s.rows.matrix.width ≡ t.rows.matrix.width
+  pub coefficient_modulus : s.coefficients.modulus ≡ t.rows.modulus
+  pub coefficients : IsMatrix t.rows.modulus s.coefficients.matrix
+  pub coefficient_width : s.coefficients.matrix.width ≡ length t.pairs
+  pub height : s.coefficients.matrix.height ≡ s.rows.matrix.height
+  pub each : (x : ℕ) → x < s.rows.matrix.height →
+      IsRowOf t kept (from + x) (record { rest = row s.rows.matrix x; coefficients = row s.coefficients.matrix x })
+
+-- the rows from `from` up to `to`
+abbrev pub IsPartTo : TriangleState → Bool → ℕ → ℕ → SchurRows → Type 0
+IsPartTo t kept from to s = IsPart t kept from s × (from + s.rows.matrix.height ≡ to)
+
+-- the rows from `from` up to `to` have no entry
+abbrev pub AreZeroRows : Matrix → ℕ → ℕ → Type 0
+AreZeroRows A from to = (k : ℕ) → from ≤ k → k < to → IsZeroRow A k
+
+-- i is the first of them that has one
+abbrev pub IsNextBelow : Matrix → ℕ → ℕ → ℕ → Type 0
+IsNextBelow A from to i = IsNextFilled A from i × (i < to)
+
+-- both matrices have so many rows of zeros more
+pub record AddsZeros (count : ℕ) (old new : SchurRows) : Type 0 where
+  pub modulus : new.rows.modulus ≡ old.rows.modulus
+  pub rows : new.rows.matrix ≡ with_zeros old.rows.matrix count
+  pub coefficient_modulus : new.coefficients.modulus ≡ old.coefficients.modulus
+  pub coefficients : new.coefficients.matrix ≡ with_zeros old.coefficients.matrix count
+
+-- each matrix has one row more, these
+pub record AddsRow (r : Reduction) (old new : SchurRows) : Type 0 where
+  pub modulus : new.rows.modulus ≡ old.rows.modulus
+  pub rows : new.rows.matrix ≡ with_row old.rows.matrix r.rest
+  pub coefficient_modulus : new.coefficients.modulus ≡ old.coefficients.modulus
+  pub coefficients : new.coefficients.matrix ≡ with_row old.coefficients.matrix r.coefficients
+
+-- what is left of the k-th pivot's row: nothing, and the row itself once
+abbrev pub itself : SchurRows → ℕ → Reduction
+itself s k = record { rest = zeros s.rows.matrix.width; coefficients = unit s.coefficients.matrix.width k }
+
+-- they are row i of a round
+pub record AddsLeft (t : TriangleState) (kept : Bool) (i : ℕ) (old new : SchurRows) : Type 0 where
+  pub left : Reduction
+  pub rest : IsVector t.rows.modulus t.rows.matrix.width left.rest
+  pub coefficients : IsVector t.rows.modulus (length t.pairs) left.coefficients
+  pub is_row : IsRowOf t kept i left
+  pub added : AddsRow left old new
+
+-- there is room for one row more
+pub record CanTake (t : TriangleState) (part : SchurRows) : Type 0 where
+  pub modulus : part.rows.modulus ≡ t.rows.modulus
+  pub width : part.rows.matrix.width ≡ t.rows.matrix.width
+  pub coefficient_modulus : part.coefficients.modulus ≡ t.rows.modulus
+  pub coefficient_width : part.coefficients.matrix.width ≡ length t.pairs
+  pub low : part.rows.matrix.height < LARGEST_SIZE
+  pub coefficients_low : part.coefficients.matrix.height < LARGEST_SIZE
+
+-- the rows of `part` stand below those of `old`
+pub record Joins (part old new : SchurRows) : Type 0 where
+  pub modulus : new.rows.modulus ≡ old.rows.modulus
+  pub rows : new.rows.matrix ≡ above old.rows.matrix part.rows.matrix
+  pub coefficient_modulus : new.coefficients.modulus ≡ old.coefficients.modulus
+  pub coefficients : new.coefficients.matrix ≡ above old.coefficients.matrix part.coefficients.matrix
+
+-- the parts cover so many rows
+pub record IsDeal (height : ℕ) (deal : Deal) : Type 0 where
+  pub some : 1 ≤ deal.workers
+  pub few : deal.count ≤ 1024
+  pub few_workers : deal.workers ≤ 64
+  pub small : deal.size ≤ LARGEST_SIZE + 1
+  pub covered : height ≤ deal.count * deal.size
+
+-- where part j begins
+abbrev pub cut_at : ℕ → Deal → ℕ → ℕ
+cut_at height deal j = min height (j * deal.size)
+
+-- part j
+abbrev pub IsPartOf : TriangleState → Deal → ℕ → SchurRows → Type 0
+IsPartOf t deal j s = IsPartTo t deal.kept (cut_at t.rows.matrix.height deal j) (cut_at t.rows.matrix.height deal (j + 1)) s
+
+-- a worker makes the parts worker, worker + workers, worker + 2 workers and so on
+pub record HasParts (t : TriangleState) (deal : Deal) (worker : ℕ) (parts : List SchurRows) : Type 0 where
+  pub long : (j : ℕ) → j < deal.count → j % deal.workers ≡ worker → j / deal.workers < length parts
+  pub each : (j : ℕ) (d : SchurRows) → j < deal.count → j % deal.workers ≡ worker →
+      IsPartOf t deal j (slice_index_or parts (j / deal.workers) d)
+
+-- the parts of the workers, in order
+abbrev pub HaveParts : {E : Type 0} → TriangleState → Deal → List (Result (Vec SchurRows Global) E) → Type 0
+HaveParts {E} t deal shares = (w : ℕ) (d : Result (Vec SchurRows Global) E) → w < length shares →
+    IfOk (slice_index_or shares w d) (λ parts. HasParts t deal w parts.items)

@@ -1,0 +1,40 @@
+//! What pivots leave of a sparse matrix: the Schur complement, with the coefficients of the pivot rows where they are wanted,
+//! by several workers; and the laws by which factors, row space and rank of the matrix follow from those of the complement.
+//!
+//! The pivots stand in triangular order, so a row is reduced by them without any division but by themselves. One such step is
+//! a round of the elimination of Bouillaguet, Delaplace and Voge, 'Parallel Sparse PLUQ Factorization modulo p', PASCO 2017.
+#![tactic(auto)]
+
+mod parts;
+mod pivot_rows;
+mod round;
+mod stacking;
+mod workers;
+
+ghost use Rattle.schur_rows.specs.Laws.{ComplementIsOne, RoundJoins, RoundRank, RoundSpans};
+
+pub use round::{SchurRows, complement, schur};
+pub use stacking::append_all;
+
+/// A matrix has at most one complement, for a prime modulus.
+pub fn complement_is_one()
+    ensures { ComplementIsOne }
+{
+    // The law's contract: a row has at most one Schur row.
+    triangular_solve::schur_row_is_one();
+}
+
+/// Factors of what a round leaves join to factors of the matrix, for a prime modulus.
+pub fn round_joins()
+    ensures { RoundJoins }
+{}
+
+/// Independent rows with the row space of the complement give such rows of the matrix, for a prime modulus.
+pub fn round_spans()
+    ensures { RoundSpans }
+{}
+
+/// The rank of the complement gives that of the matrix, for a prime modulus.
+pub fn round_rank()
+    ensures { RoundRank }
+{}

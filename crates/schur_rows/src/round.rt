@@ -1,0 +1,64 @@
+// What one round leaves.
+ghost use Rattle.std.specs.Prelude.{◌≡◌, ◌≤◌, IfOk};
+ghost use Rattle.residue_words.specs.Residues.{IsPrime};
+ghost use Rattle.triangular_solve.specs.Reduced.{IsComplement};
+ghost use Rattle.schur_rows.specs.Round.{FitsComplement, FitsRound, IsRound};
+
+use crate::workers::left_by;
+use sparse_rows::Rows;
+use std::alloc::{AllocError, Global};
+use std::thread::Threads;
+use triangular_solve::Triangle;
+
+/// What the pivots of a triangle leave of its matrix, and how often each of their rows was taken out: two matrices as high as
+/// it is.
+#[derive(Debug, Drop)]
+pub struct SchurRows {
+    /// The complement: of each row what the pivots leave of it, and zeros for their own rows.
+    pub rows: Rows,
+    /// Of each row the coefficients of the pivot rows, in the triangle's order; a pivot row has a 1 at itself.
+    pub coefficients: Rows,
+}
+
+/// The complement with the coefficients, by so many workers: for a prime modulus the same for every number of them. For a
+/// modulus that is not prime they are some matrices of these sizes.
+///
+/// Each worker reduces parts of the rows, in the time of `Triangle::reduce` for each row that has an entry and is no pivot's;
+/// then the parts are put behind each other. Rows without an entry cost nothing where there are many. Where a thread cannot
+/// be started the caller does its work.
+pub fn schur<R: Threads + Sync>(
+    rt: &R,
+    alloc: Global,
+    triangle: &Triangle,
+    workers: u32,
+) -> Result<SchurRows, AllocError>
+    requires some { 1 ≤ workers }
+    requires few { workers ≤ 64 }
+    ensures fits { IfOk result (FitsRound triangle.now) }
+    ensures round { IfOk result (λ s. IsPrime triangle.now.rows.modulus → IsRound triangle.now s) }
+{
+    // The calls' contracts tell that the pivots are triangular, and the entries residues.
+    let _ = (triangle.pairs().len(), triangle.rows().modulus());
+    let left = left_by(rt, alloc, triangle, workers, true)?;
+    Ok(left)
+}
+
+/// The complement alone, by so many workers.
+pub fn complement<R: Threads + Sync>(
+    rt: &R,
+    alloc: Global,
+    triangle: &Triangle,
+    workers: u32,
+) -> Result<Rows, AllocError>
+    requires some { 1 ≤ workers }
+    requires few { workers ≤ 64 }
+    ensures fits { IfOk result (FitsComplement triangle.now) }
+    ensures complement { IfOk result (λ rows. IsPrime triangle.now.rows.modulus → IsComplement triangle.now.rows.modulus
+        triangle.now.rows.matrix triangle.now.pairs rows.matrix) }
+{
+    // The calls' contracts tell that the pivots are triangular, and the entries residues.
+    let _ = (triangle.pairs().len(), triangle.rows().modulus());
+    let left = left_by(rt, alloc, triangle, workers, false)?;
+    let SchurRows { rows, .. } = left;
+    Ok(rows)
+}

@@ -1,0 +1,155 @@
+// What a round leaves, made by several workers.
+ghost use Rattle.std.specs.Prelude.{◌≡◌, ◌<◌, ◌≤◌, ◌+◌, length, IfOk, OnOk};
+ghost use Rattle.sparse_rows.specs.declared.rows.TheConstants.{LARGEST_SIZE};
+ghost use Rattle.schur_rows.specs.Parts.{HasParts, HaveParts, IsDeal, IsPartTo, Joins, cut_at};
+ghost use Rattle.schur_rows.specs.PivotRows.{HasNumbers};
+
+use crate::parts::{no_rows, part_of};
+use crate::pivot_rows::PivotRows;
+use crate::round::SchurRows;
+use crate::stacking::append_all;
+use std::alloc::{AllocError, Global};
+use std::thread;
+use std::thread::Threads;
+use triangular_solve::{Triangle, Work};
+
+// How many parts a worker makes, so that all have about as much to do.
+const PARTS: usize = 16;
+
+// What each worker makes, or that memory ran out for it.
+type Share = Result<Vec<SchurRows>, AllocError>;
+
+// How the rows are dealt: so many parts of so many rows each, the last ones shorter, to the workers in turn.
+#[derive(Clone, Copy, Debug)]
+pub(crate) struct Deal {
+    // Whether the coefficients are kept.
+    kept: bool,
+    size: usize,
+    count: usize,
+    workers: usize,
+}
+
+impl Deal {
+    // Where part j of a matrix of this height begins.
+    fn cut(&self, height: u32, j: usize) -> u32
+        requires height { height ≤ LARGEST_SIZE }
+        requires deal { IsDeal height self.now }
+        requires part { j ≤ self.now.count }
+        ensures { result ≡ cut_at height self.now j }
+    {
+        (height as usize).min(j * self.size) as u32
+    }
+}
+
+// What a triangle leaves of its matrix.
+pub(crate) fn left_by<R: Threads + Sync>(
+    rt: &R,
+    alloc: Global,
+    triangle: &Triangle,
+    workers: u32,
+    kept: bool,
+) -> Result<SchurRows, AllocError>
+    requires some { 1 ≤ workers }
+    requires few { workers ≤ 64 }
+    ensures { IfOk result (IsPartTo triangle.now kept 0 triangle.now.rows.matrix.height) }
+{
+    let height = triangle.rows().height();
+    let pivot_rows = PivotRows::of(alloc, triangle)?;
+    if workers == 1 {
+        let mut work = Work::new(alloc, triangle)?;
+        return part_of(alloc, triangle, &pivot_rows, kept, 0, height, &mut work);
+    }
+    let count = PARTS * workers as usize;
+    let deal = Deal {
+        kept,
+        size: height as usize / count + 1,
+        count,
+        workers: workers as usize,
+    };
+    let shares = shares_of(rt, alloc, triangle, &pivot_rows, deal)?;
+    merged(alloc, triangle, deal, &shares)
+}
+
+// The shares of the workers.
+fn shares_of<R: Threads + Sync>(
+    rt: &R,
+    alloc: Global,
+    triangle: &Triangle,
+    pivot_rows: &PivotRows,
+    deal: Deal,
+) -> Result<Vec<Share>, AllocError>
+    requires deal { IsDeal triangle.now.rows.matrix.height deal }
+    requires numbers { HasNumbers triangle.now.pairs pivot_rows.now }
+    ensures count { IfOk result (λ shares. length shares.items ≡ deal.workers) }
+    ensures shares { IfOk result (λ shares. HaveParts triangle.now deal shares.items) }
+{
+    thread::map_indices(
+        rt,
+        alloc,
+        deal.workers,
+        &|worker| share_of(alloc, triangle, pivot_rows, deal, worker),
+    )
+}
+
+// The parts worker, worker + workers, worker + 2 workers and so on.
+fn share_of(
+    alloc: Global,
+    triangle: &Triangle,
+    pivot_rows: &PivotRows,
+    deal: Deal,
+    worker: usize,
+) -> Share
+    requires worker { worker < deal.workers }
+    requires deal { IsDeal triangle.now.rows.matrix.height deal }
+    requires numbers { HasNumbers triangle.now.pairs pivot_rows.now }
+    ensures { IfOk result (λ parts. HasParts triangle.now deal worker parts.items) }
+{
+    let height = triangle.rows().height();
+    let mut work = Work::new(alloc, triangle)?;
+    let mut parts = Vec::new(alloc);
+    let mut j = worker;
+    while j < deal.count {
+        let from = deal.cut(height, j);
+        let to = deal.cut(height, j + 1);
+        parts.push(part_of(alloc, triangle, pivot_rows, deal.kept, from, to, &mut work)?)?;
+        j += deal.workers;
+    }
+    Ok(parts)
+}
+
+// The parts of the shares behind each other.
+fn merged(
+    alloc: Global,
+    triangle: &Triangle,
+    deal: Deal,
+    shares: &[Share],
+) -> Result<SchurRows, AllocError>
+    requires deal { IsDeal triangle.now.rows.matrix.height deal }
+    requires count { length shares.now ≡ deal.workers }
+    requires shares { HaveParts triangle.now deal shares.now }
+    ensures { IfOk result (IsPartTo triangle.now deal.kept 0 triangle.now.rows.matrix.height) }
+{
+    let mut made = no_rows(alloc, triangle, deal.kept, triangle.rows().height())?;
+    for j in 0..deal.count {
+        match &shares[j % deal.workers] {
+            Ok(parts) => join(alloc, &mut made, &parts[j / deal.workers])?,
+            Err(e) => return Err(*e),
+        }
+    }
+    Ok(made)
+}
+
+// Puts a part below what there is.
+fn join(alloc: Global, made: &mut SchurRows, part: &SchurRows) -> Result<(), AllocError>
+    requires modulus { made.old.rows.modulus ≡ part.now.rows.modulus }
+    requires width { made.old.rows.matrix.width ≡ part.now.rows.matrix.width }
+    requires coefficient_modulus { made.old.coefficients.modulus ≡ part.now.coefficients.modulus }
+    requires coefficient_width { made.old.coefficients.matrix.width ≡ part.now.coefficients.matrix.width }
+    requires height { made.old.rows.matrix.height + part.now.rows.matrix.height ≤ LARGEST_SIZE }
+    requires heights { made.old.coefficients.matrix.height + part.now.coefficients.matrix.height ≤ LARGEST_SIZE }
+    ensures { OnOk result (Joins part.now made.old made.new) }
+{
+    append_all(alloc, &mut made.rows, &part.rows)?;
+    append_all(alloc, &mut made.coefficients, &part.coefficients)?;
+    Ok(())
+}

@@ -1,0 +1,208 @@
+// The pivot rows of a triangle on the columns in which they have an entry.
+ghost use Rattle.std.specs.Prelude.{◌≡◌, ◌≢◌, ◌<◌, ◌≤◌, ℕ, List, length, map, slice_index, slice_set, IfOk, OnOk, IfSome, IfNone};
+ghost use Rattle.residue_words.specs.Residues.{IsPrime};
+ghost use Rattle.residue_words.specs.Matrix.{IsVector, entry, zeros};
+ghost use Rattle.row_space.specs.Factors.{row_at, col_at};
+ghost use Rattle.sparse_rows.specs.ColumnSet.{AllZero};
+ghost use Rattle.sparse_rows.specs.Rows.{AreBelow, AreOccupied, selected};
+ghost use Rattle.sparse_rows.specs.Stored.{IsSparse, spread};
+ghost use Rattle.sparse_rows.specs.declared.rows.TheConstants.{LARGEST_SIZE};
+ghost use Rattle.pivot_table.specs.Order.{Triangular};
+ghost use Rattle.triangular_solve.specs.Accumulator.{IsClear};
+ghost use Rattle.triangular_solve.specs.PivotRows.{AreDistinct, AreInverses, ArePivotRows, ArePlaced, AreSums, AreUpper, Eliminates, HasPivotsFirst, IsAlike, IsEliminated, IsEliminating, rows_on};
+
+use crate::accumulator::Accumulator;
+use crate::column_order::ColumnOrder;
+use pivot_table::Pair;
+use sparse_rows::{Rows, Sparse};
+use std::alloc::{AllocError, Global};
+use std::marker::Model;
+
+// The rows of pivots, upper triangular: their columns are numbered by an order that begins with the pivots' columns. So a row of
+// sums is reduced from its first entry on, and nothing is looked up. Contracts see this matrix, and the columns for which its columns
+// stand. It takes 12 bytes an entry, 16 bytes a pivot, and at most 12 bytes a column.
+#[derive(Debug, Drop)]
+pub(crate) struct PivotRows {
+    rows: Rows,
+    // The inverses of the pivots.
+    inverses: Vec<u64>,
+    order: ColumnOrder,
+}
+
+impl Model for PivotRows {
+    ghost use Rattle.triangular_solve.specs.PivotRows.{AreInverses, ArePlaced, PlacedRows, placed_rows};
+
+    ghost Value = { PlacedRows };
+
+    ghost view = { λ p. placed_rows p.rows p.order };
+
+    ghost invariant = { λ p. ArePlaced (placed_rows p.rows p.order) × AreInverses p.rows p.inverses.items };
+}
+
+impl PivotRows {
+    // The rows of these pairs, in time and memory by their entries.
+    pub(crate) fn of(alloc: Global, rows: &Rows, pairs: &[Pair]) -> Result<Self, AllocError>
+        requires { Triangular rows.now.matrix pairs.now }
+        ensures { IfOk result (ArePivotRows rows.now pairs.now) }
+    {
+        let width = rows.width();
+        let columns = occupied_columns(alloc, rows, pairs)?;
+        let order = ColumnOrder::of(alloc, width, pairs, columns)?;
+        let placed = place_rows(alloc, rows, pairs, &order)?;
+        Ok(PivotRows {
+            inverses: invert_pivots(alloc, &placed)?,
+            rows: placed,
+            order,
+        })
+    }
+
+    // The order of the columns.
+    pub(crate) fn order(&self) -> &ColumnOrder
+        ensures columns { result.now ≡ self.now.columns }
+        ensures few { length self.now.columns ≤ LARGEST_SIZE }
+        ensures placed { ArePlaced self.now }
+    {
+        // The call's contract tells that there are few.
+        let _ = self.order.columns();
+        &self.order
+    }
+
+    // Takes the first sum away, if it stands at a pivot, by a multiple of the pivot's row, and answers the pivot's place with the
+    // factor of its row; None where no sum at a pivot is left.
+    fn eliminate_next(&self, sums: &mut Accumulator) -> Option<(u32, u64)>
+        requires sums { AreSums self.now sums.old }
+        ensures sums { AreSums self.now sums.new }
+        ensures some { IfSome result (λ taken. Eliminates self.now sums.old.row sums.new.row taken.0 taken.1) }
+        ensures none { IfNone result (IsEliminated self.now sums.new.row × (sums.new.row ≡ sums.old.row)) }
+    {
+        let Some((place, value)) = sums.pop() else {
+            return None;
+        };
+        if place >= self.rows.height() {
+            sums.add(place, value);
+            return None;
+        }
+        let modulus = self.rows.modulus();
+        let factor = modulus.mul(value, self.inverses[place as usize]);
+        let cols = self.rows.cols(place);
+        let vals = self.rows.vals(place);
+        // The first entry is the pivot.
+        sums.add_multiple(modulus.neg(factor), &cols[1..], &vals[1..]);
+        Some((place, factor))
+    }
+
+    // Takes all sums at pivots away, and appends the factors of their rows to a zero row.
+    pub(crate) fn eliminate(
+        &self,
+        sums: &mut Accumulator,
+        coefficients: &mut Sparse,
+    ) -> Result<(), AllocError>
+        requires sums { AreSums self.now sums.old }
+        requires modulus { coefficients.old.modulus ≡ self.now.rows.modulus }
+        requires none { coefficients.old.row ≡ zeros self.now.rows.matrix.height }
+        ensures sums { AreSums self.now sums.new }
+        ensures coefficients { IsAlike coefficients.old coefficients.new }
+        ensures zero { OnOk result (IsEliminated self.now sums.new.row) }
+        ensures ok { OnOk result (IsEliminating self.now sums.old.row sums.new.row coefficients.new.row) }
+    {
+        // The call's contract tells the range of the modulus.
+        let _ = coefficients.modulus();
+        while let Some((place, factor)) = self.eliminate_next(sums) {
+            // Modulo a number that is no prime, the factor may be 0.
+            if factor > 0 {
+                coefficients.push(place, factor)?;
+            }
+        }
+        Ok(())
+    }
+
+    // Takes all sums at pivots away.
+    pub(crate) fn eliminate_all(&self, sums: &mut Accumulator)
+        requires sums { AreSums self.now sums.old }
+        ensures sums { AreSums self.now sums.new }
+        ensures zero { IsEliminated self.now sums.new.row }
+        ensures some { (coefficients : List ℕ) × IsEliminating self.now sums.old.row sums.new.row coefficients }
+    {
+        // The call's contract tells the range of the modulus.
+        let _ = self.rows.modulus();
+        while self.eliminate_next(sums).is_some() {}
+    }
+}
+
+// The columns in which some row of the pairs has an entry, ascending.
+fn occupied_columns(alloc: Global, rows: &Rows, pairs: &[Pair]) -> Result<Vec<u32>, AllocError>
+    requires few { length pairs.now ≤ LARGEST_SIZE }
+    requires inside { (k : ℕ) → k < length pairs.now → row_at pairs.now k < rows.now.matrix.height }
+    ensures { IfOk result (λ columns. AreOccupied (selected rows.now.matrix (map (λ q. q.row) pairs.now)) columns.items) }
+{
+    rows.select(alloc, &row_numbers(alloc, pairs)?)?
+        .occupied(alloc)
+}
+
+// The rows of the pairs, by their numbers.
+fn row_numbers(alloc: Global, pairs: &[Pair]) -> Result<Vec<u32>, AllocError>
+    ensures { IfOk result (λ numbers. numbers.items ≡ map (λ q. q.row) pairs.now) }
+{
+    let mut numbers = Vec::with_capacity(alloc, pairs.len())?;
+    for pair in pairs {
+        numbers.push(pair.row)?;
+    }
+    Ok(numbers)
+}
+
+// How many entries the rows of the pairs have.
+fn count_entries(rows: &Rows, pairs: &[Pair]) -> usize
+    requires inside { (k : ℕ) → k < length pairs.now → row_at pairs.now k < rows.now.matrix.height }
+{
+    let mut count: usize = 0;
+    for k in 0..pairs.len() {
+        count = count.saturating_add(rows.cols(pairs[k].row).len());
+    }
+    count
+}
+
+// The rows of the pairs, with their columns in this order.
+fn place_rows(
+    alloc: Global,
+    rows: &Rows,
+    pairs: &[Pair],
+    order: &ColumnOrder,
+) -> Result<Rows, AllocError>
+    requires few { length pairs.now ≤ LARGEST_SIZE }
+    requires inside { (k : ℕ) → k < length pairs.now → row_at pairs.now k < rows.now.matrix.height }
+    requires distinct { AreDistinct order.now }
+    requires below { AreBelow rows.now.matrix.width order.now }
+    ensures modulus { IfOk result (λ placed. placed.modulus ≡ rows.now.modulus) }
+    ensures matrix { IfOk result (λ placed. placed.matrix ≡ rows_on rows.now.matrix order.now pairs.now) }
+{
+    let modulus = rows.modulus();
+    let width = order.columns().len() as u32;
+    let entries = count_entries(rows, pairs);
+    let mut placed = Rows::with_room(alloc, modulus, width, pairs.len() as u32, entries)?;
+    let mut sums = Accumulator::new(alloc, width, &modulus)?;
+    let mut passed = Sparse::new(alloc, rows.width(), modulus);
+    let mut row = Sparse::new(alloc, width, modulus);
+    for k in 0..pairs.len() {
+        let i = pairs[k].row;
+        order.split(rows.cols(i), rows.vals(i), &mut sums, &mut passed)?;
+        sums.drain(&mut row)?;
+        placed.append(&row)?;
+        sums.clear();
+        passed.clear();
+        row.clear();
+    }
+    Ok(placed)
+}
+
+// The inverses of the diagonal.
+fn invert_pivots(alloc: Global, placed: &Rows) -> Result<Vec<u64>, AllocError>
+    requires { AreUpper placed.now.matrix }
+    ensures { IfOk result (λ inverses. AreInverses placed.now inverses.items) }
+{
+    let modulus = placed.modulus();
+    let mut inverses = Vec::with_capacity(alloc, placed.height() as usize)?;
+    for k in 0..placed.height() {
+        inverses.push(modulus.inv(placed.vals(k)[0]))?;
+    }
+    Ok(inverses)
+}
