@@ -3,6 +3,8 @@ pub mod Basis
 pub mod Free
 pub mod Inverting
 pub mod Matrices
+pub mod Preparing
 pub mod Read
 pub mod Refuting
 pub mod RightHalf
+pub mod Transforming

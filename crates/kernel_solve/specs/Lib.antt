@@ -1,5 +1,6 @@
 pub mod Column
 pub mod Found
 pub mod Inverted
+pub mod Prepared
 pub mod ReadOff
 pub mod Refuted

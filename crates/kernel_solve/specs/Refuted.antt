@@ -10,6 +10,12 @@ use Rattle.row_space.specs.Solution.{IsRefutingCombination, IsSolution}
 abbrev pub multiple : ℕ → ℕ → List ℕ → List ℕ
 multiple p c v = list_of (length v) (λ j. c * slice_index v j % p)
 
+-- the first number of the list that isn't 0 stands at k
+pub record IsFirstNonzero (xs : List ℕ) (k : ℕ) : Type 0 where
+  pub inside : k < length xs
+  pub nonzero : slice_index xs k ≢ 0
+  pub before : (t : ℕ) → t < k → slice_index xs t ≡ 0
+
 -- row k of K is the first whose product with b isn't 0
 pub record IsFirstHit (p : ℕ) (K : Matrix) (b : List ℕ) (k : ℕ) : Type 0 where
   pub below : k < K.height

@@ -172,7 +172,7 @@ fn first_free(leads: &[u32]) -> u32
 }
 
 // The matrix with the row v alone.
-fn one_row(alloc: Global, v: &Sparse) -> Result<Rows, AllocError>
+pub(crate) fn one_row(alloc: Global, v: &Sparse) -> Result<Rows, AllocError>
     requires { length v.now.row ≤ LARGEST_SIZE }
     ensures modulus { IfOk result (λ rows. rows.modulus ≡ v.now.modulus) }
     ensures sound { IfOk result (λ rows. IsMatrix rows.modulus rows.matrix) }

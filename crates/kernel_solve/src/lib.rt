@@ -9,6 +9,7 @@ mod bases;
 mod columns;
 mod inverses;
 mod outcome;
+mod prepared;
 mod refutations;
 mod systems;
 #[cfg(test)]
@@ -17,5 +18,6 @@ mod tests;
 pub use bases::{kernel, left_kernel};
 pub use inverses::inverse;
 pub use outcome::Inverse;
+pub use prepared::{Prepared, Reply};
 pub use refutations::{first_hit_refutes, unsolvable_is_hit};
 pub use systems::{Found, refuting_system, solution};

@@ -44,7 +44,12 @@ pub fn solution(alloc: Global, form: &Echelon) -> Result<Found, AllocError>
 }
 
 // The column of n entries that are those of `side` at the leads, and 0 elsewhere.
-fn at_leads(alloc: Global, side: &Sparse, leads: &[u32], n: u32) -> Result<Rows, AllocError>
+pub(crate) fn at_leads(
+    alloc: Global,
+    side: &Sparse,
+    leads: &[u32],
+    n: u32,
+) -> Result<Rows, AllocError>
     requires small { n ≤ LARGEST_SIZE }
     requires long { length side.now.row ≡ length leads.now }
     requires inside { (k : ℕ) → k < length leads.now → slice_index leads.now k < n }

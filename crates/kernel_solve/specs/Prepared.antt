@@ -1,0 +1,54 @@
+-- What is kept of a matrix A to answer A x = b for any b without an elimination.
+use Rattle.std.specs.Prelude.{◌≡◌, ◌<◌, ◌≤◌, ℕ, List, length, slice_index}
+use Rattle.residue_words.specs.Residues.{IsPrime}
+use Rattle.residue_words.specs.Matrix.{Matrix, combine, row}
+use Rattle.sparse_rows.specs.declared.rows.TheConstants.{LARGEST_SIZE}
+use Rattle.sparse_rows.specs.Rows.{AreBelow, AreRising, ResidueMatrix, transposed}
+use Rattle.row_space.specs.Echelon.{HasLeads, IsRref}
+use Rattle.row_space.specs.Kernel.{IsKernel}
+use Rattle.row_space.specs.Solution.{IsReducedSolution, IsRefutingCombination}
+use Rattle.kernel_solve.specs.declared.prepared.Reply.{Reply}
+use Rattle.kernel_solve.specs.declared.prepared.Reply.TheVariants.{Solution, Refuted}
+use Rattle.kernel_solve.specs.Column.{column}
+
+-- T, whose rows are combined with A's to the rows of A's echelon form, the leads of the form, and the rows y with y A = 0
+pub record Preparation : Type 0 where
+  pub width : ℕ
+  pub leads : List ℕ
+  pub transformation : ResidueMatrix
+  pub relations : ResidueMatrix
+
+-- T A is the echelon form of A, with these leads
+pub record Transforms (p : ℕ) (A T : Matrix) (leads : List ℕ) : Type 0 where
+  pub form : Matrix
+  pub rref : IsRref p A form
+  pub has : HasLeads form leads
+  pub rows : (k : ℕ) → k < form.height → combine p (row T k) A ≡ row form k
+
+-- it is the preparation of A
+pub record IsPreparedFor (p : ℕ) (A : Matrix) (q : Preparation) : Type 0 where
+  pub modulus : q.transformation.modulus ≡ p
+  pub width : q.width ≡ A.width
+  pub height : q.transformation.matrix.width ≡ A.height
+  pub transforms : IsPrime p → Transforms p A q.transformation.matrix q.leads
+  pub relations : IsPrime p → IsKernel p (transposed A) q.relations.matrix
+
+-- what holds of each preparation: its parts fit
+pub record IsPreparation (q : Preparation) : Type 0 where
+  pub narrow : q.width ≤ LARGEST_SIZE
+  pub modulus : q.relations.modulus ≡ q.transformation.modulus
+  pub long : length q.leads ≡ q.transformation.matrix.height
+  pub same : q.relations.matrix.width ≡ q.transformation.matrix.width
+  pub below : AreBelow q.width q.leads
+  pub rising : AreRising q.leads
+
+-- the first r of the numbers are below n, and the others aren't
+pub record IsSplitAt (numbers : List ℕ) (n r : ℕ) : Type 0 where
+  pub few : r ≤ length numbers
+  pub below : (k : ℕ) → k < r → slice_index numbers k < n
+  pub behind : (k : ℕ) → r ≤ k → k < length numbers → n ≤ slice_index numbers k
+
+-- the reduced solution of A x = b as a column, or the refuting combination as a row
+abbrev pub RepliesTo : ℕ → Matrix → List ℕ → Reply → Type 0
+RepliesTo p A b (Solution x) = (x.matrix.height ≡ A.width) × IsReducedSolution p A b (column x.matrix)
+RepliesTo p A b (Refuted y) = (y.matrix.width ≡ A.height) × IsRefutingCombination p A b (row y.matrix 0)
