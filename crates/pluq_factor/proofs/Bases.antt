@@ -17,7 +17,7 @@ use Rattle.dense_finish.specs.Factors.{IsFactored}
 use Rattle.schur_rows.specs.Round.{above, pivot_rows}
 use Rattle.schur_rows.proofs.Spanning.{round_spanned}
 use Rattle.pluq_factor.specs.Basis.{IsBasis}
-use Rattle.pluq_factor.specs.Taken.{IsLeft}
+use Rattle.pluq_factor.specs.Taken.{IsLeftBy}
 use Rattle.pluq_factor.specs.declared.taken.Left.{Left}
 
 module _ {p : ℕ} {A : Matrix} {ps : List Pair} {L U : Matrix} (prime : IsPrime p) (m : IsMatrix p A) (f : AreFactors p A ps L U) where
@@ -59,7 +59,7 @@ basis_finished m h = record {
   span = λ prime. factor_rows_span prime m (h.factors prime);
 }
 
-pub basis_joined : {R : ResidueMatrix} {r : Left} {V W : ResidueMatrix} → IsLeft R r → IsMatrix V.modulus V.matrix → IsBasis r.rest.modulus r.rest.matrix V → W.modulus ≡ r.top.modulus →
+pub basis_joined : {R : ResidueMatrix} {r : Left} {V W : ResidueMatrix} → IsLeftBy R r → IsMatrix V.modulus V.matrix → IsBasis r.rest.modulus r.rest.matrix V → W.modulus ≡ r.top.modulus →
     W.matrix ≡ above r.top.matrix V.matrix → IsBasis R.modulus R.matrix W
 basis_joined {R} {r} {V} {W} h mv basis modulus is =
     let p : ℕ = R.modulus in
@@ -79,7 +79,7 @@ basis_joined {R} {r} {V} {W} h mv basis modulus is =
     }
 
 -- the pivot rows and the rest are no more than the matrix's rows, so they fit
-pub basis_few : {R : ResidueMatrix} {r : Left} {V : ResidueMatrix} → IsLeft R r → IsMatrix V.modulus V.matrix → IsBasis r.rest.modulus r.rest.matrix V → IsPrime R.modulus → r.top.matrix.height + V.matrix.height ≤ R.matrix.height
+pub basis_few : {R : ResidueMatrix} {r : Left} {V : ResidueMatrix} → IsLeftBy R r → IsMatrix V.modulus V.matrix → IsBasis r.rest.modulus r.rest.matrix V → IsPrime R.modulus → r.top.matrix.height + V.matrix.height ≤ R.matrix.height
 basis_few {R} {r} {V} h mv basis prime =
     let p : ℕ = R.modulus in
     let A : Matrix = R.matrix in
@@ -93,7 +93,7 @@ basis_few {R} {r} {V} h mv basis prime =
     omega (arith, ap (λ (M : Matrix). M.height) h.top, few)
 
 -- where the rows don't fit, which a prime modulus excludes, the pivots' rows alone are answered
-pub basis_top : {R : ResidueMatrix} {r : Left} → IsLeft R r → (IsPrime R.modulus → ⊥) → IsBasis R.modulus R.matrix r.top
+pub basis_top : {R : ResidueMatrix} {r : Left} → IsLeftBy R r → (IsPrime R.modulus → ⊥) → IsBasis R.modulus R.matrix r.top
 basis_top {R} {r} h odd = record {
   modulus = h.modulus;
   width = ap (λ (M : Matrix). M.width) h.top;

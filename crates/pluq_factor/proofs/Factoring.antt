@@ -19,9 +19,9 @@ use Rattle.schur_rows.specs.Round.{FitsRound, IsRound, above, pivot_rows}
 use Rattle.schur_rows.specs.declared.round.SchurRows.{SchurRows}
 use Rattle.schur_rows.proofs.Joining.{joined}
 use Rattle.schur_rows.proofs.Above.{above_matrix, beside_matrix, col_first, col_second, each_of, pivot_height, pivots_matrix, row_first, row_second}
-use Rattle.pluq_factor.specs.Rounds.{AreFactorsOf, HasNoPivot, HaveSizes}
+use Rattle.pluq_factor.specs.Rounds.{AreFactorsOf, AreWithoutPivots, HaveSizes}
 use Rattle.pluq_factor.specs.Staged.{Staged}
-use Rattle.pluq_factor.specs.Taken.{IsTaken, triangle_on}
+use Rattle.pluq_factor.specs.Taken.{IsRoundTaken, triangle_on}
 use Rattle.pluq_factor.specs.declared.taken.Taken.{Taken}
 
 -- no more pivots than rows
@@ -102,7 +102,7 @@ pub record IsMet (t : TriangleState) (s : SchurRows) (workers r : ℕ) (below : 
   pub sound : AreFactorsOf t.rows.modulus s.rows.matrix below
   pub staged : IsPrime t.rows.modulus → Staged t.rows.modulus s.rows.matrix workers r below.pivots
 
-pub met : {R : ResidueMatrix} {workers r : ℕ} {taken : Taken} {below : Factors} → IsTaken R workers taken → AreFactorsOf taken.left.rows.modulus taken.left.rows.matrix below →
+pub met : {R : ResidueMatrix} {workers r : ℕ} {taken : Taken} {below : Factors} → IsRoundTaken R workers taken → AreFactorsOf taken.left.rows.modulus taken.left.rows.matrix below →
     (IsPrime taken.left.rows.modulus → Staged taken.left.rows.modulus taken.left.rows.matrix workers r below.pivots) → IsMet (triangle_on R taken.pivots) taken.left workers r below
 met {R} {workers} {r} {taken} {below} h factored staged = record {
   matrix = h.sound;
@@ -172,7 +172,7 @@ pub met_staged : {t : TriangleState} {s : SchurRows} {workers r rounds : ℕ} {a
 met_staged {t} {s} {workers} {r} {rounds} {all} {below} h count is prime = staged_more below.pivots h.selected (h.round prime) (h.staged prime) count is
 
 -- factors without a pivot, where the modulus isn't prime
-pub nothing_factored : {p : ℕ} {A : Matrix} {f : Factors} {m n : ℕ} → HasNoPivot p m n f → m ≡ A.height → n ≡ A.width → (IsPrime p → ⊥) → AreFactorsOf p A f
+pub nothing_factored : {p : ℕ} {A : Matrix} {f : Factors} {m n : ℕ} → AreWithoutPivots p m n f → m ≡ A.height → n ≡ A.width → (IsPrime p → ⊥) → AreFactorsOf p A f
 nothing_factored {p} {A} {f} {m} {n} h high wide odd =
     let none : length f.pivots ≡ 0 = ap length h.pivots in
     record {

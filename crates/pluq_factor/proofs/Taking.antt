@@ -13,7 +13,7 @@ use Rattle.triangular_solve.specs.Triangle.{TriangleState}
 use Rattle.schur_rows.specs.Round.{FitsRound, IsRound}
 use Rattle.schur_rows.specs.declared.round.SchurRows.{SchurRows}
 use Rattle.schur_rows.proofs.Distinct.{triangular_short}
-use Rattle.pluq_factor.specs.Taken.{IsTaken, triangle_on}
+use Rattle.pluq_factor.specs.Taken.{IsRoundTaken, triangle_on}
 
 -- the rows of the pairs lie in the matrix
 pub rows_inside : (R : ResidueMatrix) {qs ps : List Pair} {xs ys : List ℕ} → Triangular R.matrix qs → ps ≡ qs → xs ≡ ys → ys ≡ map (λ (q : Pair). q.row) ps → (k d : ℕ) → k < length xs → slice_index_or xs k d < R.matrix.height
@@ -30,7 +30,7 @@ rows_few R {qs} {ps} {xs} {ys} {h} tri pairs value listed high bound =
 
 pub taken_of : {R top : ResidueMatrix} {workers : ℕ} {t : TriangleState} {left : SchurRows} {ps pivots : List Pair} {xs ys : List ℕ} → IsMatrix R.modulus R.matrix → t.rows ≡ R → Selected R.matrix workers t.pairs → ps ≡ t.pairs →
     FitsRound t left → (IsPrime t.rows.modulus → IsRound t left) → xs ≡ ys → ys ≡ map (λ (q : Pair). q.row) ps → top.modulus ≡ R.modulus → top.matrix ≡ selected R.matrix xs → pivots ≡ ps →
-    IsTaken R workers (record { pivots = pivots; top = top; left = left })
+    IsRoundTaken R workers (record { pivots = pivots; top = top; left = left })
 taken_of {R} {top} {workers} {t} {left} {ps} {pivots} {xs} {ys} sound same chosen pairs fits round value listed modulus matrix copied =
     let at : pivots ≡ t.pairs = copied ∙ pairs in
     let e : t ≡ triangle_on R pivots = ap₂ triangle_on same (sym at) in

@@ -27,7 +27,7 @@ pub record AreFactorsOf (p : ℕ) (A : Matrix) (f : Factors) : Type 0 where
   pub factors : IsPrime p → AreFactors p A f.pivots f.l.matrix f.u.matrix
 
 -- factors without a pivot, of these sizes
-pub record HasNoPivot (p height width : ℕ) (f : Factors) : Type 0 where
+pub record AreWithoutPivots (p height width : ℕ) (f : Factors) : Type 0 where
   pub pivots : f.pivots ≡ []
   pub left_modulus : f.l.modulus ≡ p
   pub right_modulus : f.u.modulus ≡ p

@@ -17,7 +17,7 @@ abbrev pub triangle_on : ResidueMatrix → List Pair → TriangleState
 triangle_on R qs = record { rows = R; pairs = qs }
 
 -- the pivots that so many workers selected, their rows, and what they leave
-pub record IsTaken (R : ResidueMatrix) (workers : ℕ) (r : Taken) : Type 0 where
+pub record IsRoundTaken (R : ResidueMatrix) (workers : ℕ) (r : Taken) : Type 0 where
   pub sound : IsMatrix R.modulus R.matrix
   pub selected : Selected R.matrix workers r.pivots
   pub modulus : r.top.modulus ≡ R.modulus
@@ -26,7 +26,7 @@ pub record IsTaken (R : ResidueMatrix) (workers : ℕ) (r : Taken) : Type 0 wher
   pub round : IsPrime R.modulus → IsRound (triangle_on R r.pivots) r.left
 
 -- the rows of triangular pivots, and what these leave
-pub record IsLeft (R : ResidueMatrix) (r : Left) : Type 0 where
+pub record IsLeftBy (R : ResidueMatrix) (r : Left) : Type 0 where
   pub sound : IsMatrix R.modulus R.matrix
   pub pairs : List Pair
   pub triangular : Triangular R.matrix pairs

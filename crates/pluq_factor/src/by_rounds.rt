@@ -4,7 +4,7 @@ ghost use Rattle.residue_words.specs.Residues.{IsPrime};
 ghost use Rattle.sparse_rows.specs.Rows.{beside};
 ghost use Rattle.sparse_rows.specs.declared.rows.TheConstants.{LARGEST_SIZE};
 ghost use Rattle.schur_rows.specs.Round.{above};
-ghost use Rattle.pluq_factor.specs.Rounds.{AreFactorsOf, HasNoPivot};
+ghost use Rattle.pluq_factor.specs.Rounds.{AreFactorsOf, AreWithoutPivots};
 ghost use Rattle.pluq_factor.specs.Staged.{Staged};
 
 use crate::plan::Plan;
@@ -97,7 +97,7 @@ fn both(alloc: Global, first: &[Pair], second: &[Pair]) -> Result<List<Pair>, Al
 fn no_factors(alloc: Global, p: Modulus, height: u32, width: u32) -> Result<Factors, AllocError>
     requires height { height ≤ LARGEST_SIZE }
     requires width { width ≤ LARGEST_SIZE }
-    ensures { IfOk result (HasNoPivot p height width) }
+    ensures { IfOk result (AreWithoutPivots p height width) }
 {
     let mut l = Rows::with_room(alloc, p, 0, height, 0)?;
     l.append_zeros(height)?;

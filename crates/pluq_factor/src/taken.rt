@@ -2,7 +2,7 @@
 ghost use Rattle.std.specs.Prelude.{◌≡◌, ◌≤◌, [], IfOk, IfSome};
 ghost use Rattle.std.specs.Option.{MatchOption};
 ghost use Rattle.pivot_table.specs.Selected.{Selected};
-ghost use Rattle.pluq_factor.specs.Taken.{IsLeft, IsTaken};
+ghost use Rattle.pluq_factor.specs.Taken.{IsLeftBy, IsRoundTaken};
 
 use crate::plan::{rows_of, select_pivots};
 use optimistic_search::Gate;
@@ -37,7 +37,7 @@ pub(crate) fn take_round<R: Threads + Sync, G: Gate>(
 ) -> Result<Option<Taken>, AllocError>
     requires some { 1 ≤ workers }
     requires few { workers ≤ 64 }
-    ensures { IfOk result (λ r. MatchOption r (Selected rows.now.matrix workers []) (IsTaken rows.now workers)) }
+    ensures { IfOk result (λ r. MatchOption r (Selected rows.now.matrix workers []) (IsRoundTaken rows.now workers)) }
 {
     // The call's contract tells that the entries are residues.
     let _ = rows.height();
@@ -62,7 +62,7 @@ pub(crate) fn take_left<R: Threads + Sync, G: Gate>(
 ) -> Result<Option<Left>, AllocError>
     requires some { 1 ≤ workers }
     requires few { workers ≤ 64 }
-    ensures { IfOk result (λ r. IfSome r (IsLeft rows.now)) }
+    ensures { IfOk result (λ r. IfSome r (IsLeftBy rows.now)) }
 {
     // The call's contract tells that the entries are residues.
     let _ = rows.height();

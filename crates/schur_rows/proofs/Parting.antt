@@ -20,7 +20,7 @@ use Rattle.pivot_table.specs.Order.{Triangular}
 use Rattle.triangular_solve.specs.Reduced.{FitsReduced, FitsRest, IsPivotRow, IsReduced, IsSchurRow, reduction_of}
 use Rattle.triangular_solve.specs.declared.reduced.Reduced.{Reduced}
 use Rattle.triangular_solve.specs.Triangle.{TriangleState}
-use Rattle.schur_rows.specs.Parts.{AddsLeft, AddsRow, AddsZeros, AreZeroRows, CanTake, IsPart, IsPartTo, IsRowOf, Joins, itself}
+use Rattle.schur_rows.specs.Parts.{AddsLeft, AddsRow, AddsZeros, AreZeroRows, MayTakeRow, IsPart, IsPartTo, IsRowOfRound, Joins, itself}
 use Rattle.schur_rows.specs.PivotRows.{IsRowOfPair}
 use Rattle.schur_rows.specs.Round.{above}
 use Rattle.schur_rows.specs.declared.round.SchurRows.{SchurRows}
@@ -54,20 +54,20 @@ part_join t kept from to s u v h g meet j = record {
   coefficients = subst (IsMatrix t.rows.modulus) (sym j.coefficients) (above_matrix h.coefficients g.coefficients (g.coefficient_width ∙ sym h.coefficient_width));
   coefficient_width = ap (λ (M : Matrix). M.width) j.coefficients ∙ h.coefficient_width;
   height = ap (λ (M : Matrix). M.height) j.coefficients ∙ ap₂ (λ a b. a + b) h.height g.height ∙ ap (λ (M : Matrix). M.height) (sym j.rows);
-  each = λ x l. each_of s.rows.matrix.height u.rows.matrix.height (λ x. IsRowOf t kept (from + x) (record { rest = row v.rows.matrix x; coefficients = row v.coefficients.matrix x }))
+  each = λ x l. each_of s.rows.matrix.height u.rows.matrix.height (λ x. IsRowOfRound t kept (from + x) (record { rest = row v.rows.matrix x; coefficients = row v.coefficients.matrix x }))
       (λ x lx. placed (from + x)
       (sym (ap (λ M. row M x) j.rows ∙ above_first u.rows.matrix h.rest x lx))
       (sym (ap (λ M. row M x) j.coefficients ∙ above_first u.coefficients.matrix h.coefficients x (omega (arith, h.height)))) (h.each x lx))
       (λ x lx. let e : to + x ≡ from + (s.rows.matrix.height + x) = omega arith in
-      subst (λ i. IsRowOf t kept i (record { rest = row v.rows.matrix (s.rows.matrix.height + x); coefficients = row v.coefficients.matrix (s.rows.matrix.height + x) })) e
+      subst (λ i. IsRowOfRound t kept i (record { rest = row v.rows.matrix (s.rows.matrix.height + x); coefficients = row v.coefficients.matrix (s.rows.matrix.height + x) })) e
       (placed (to + x)
       (sym (ap (λ M. row M (s.rows.matrix.height + x)) j.rows ∙ above_second u.rows.matrix h.rest x))
       (sym (ap (λ M. row M (s.rows.matrix.height + x)) j.coefficients ∙ ap (λ h. row (above s.coefficients.matrix u.coefficients.matrix) (h + x)) (sym h.height) ∙ above_second u.coefficients.matrix h.coefficients x)) (g.each x lx)))
       x (omega (arith, ap (λ (M : Matrix). M.height) j.rows));
 }
   where
-    placed : (i : ℕ) {w w' c c' : List ℕ} → w ≡ w' → c ≡ c' → IsRowOf t kept i (record { rest = w; coefficients = c }) → IsRowOf t kept i (record { rest = w'; coefficients = c' })
-    placed i {w} {w'} {c} {c'} e f r = subst (λ w. IsRowOf t kept i (record { rest = w; coefficients = c' })) e (subst (λ c. IsRowOf t kept i (record { rest = w; coefficients = c })) f r)
+    placed : (i : ℕ) {w w' c c' : List ℕ} → w ≡ w' → c ≡ c' → IsRowOfRound t kept i (record { rest = w; coefficients = c }) → IsRowOfRound t kept i (record { rest = w'; coefficients = c' })
+    placed i {w} {w'} {c} {c'} e f r = subst (λ w. IsRowOfRound t kept i (record { rest = w; coefficients = c' })) e (subst (λ c. IsRowOfRound t kept i (record { rest = w; coefficients = c })) f r)
 
 -- one row
 one_row : (p n : ℕ) (v : List ℕ) → IsVector p n v → IsMatrix p (record { height = 1; width = n; rows = v ∷ [] })
@@ -90,7 +90,7 @@ part_more t kept from i s v h meet a =
       height = refl;
       each = λ x l.
           let e : 0 ≡ x = omega arith in
-          subst (λ x. IsRowOf t kept (i + x) (record { rest = row B x; coefficients = row C x })) e (let plain : i ≡ i + 0 = omega arith in subst (λ i. IsRowOf t kept i a.left) plain a.is_row);
+          subst (λ x. IsRowOfRound t kept (i + x) (record { rest = row B x; coefficients = row C x })) e (let plain : i ≡ i + 0 = omega arith in subst (λ i. IsRowOfRound t kept i a.left) plain a.is_row);
     }) meet (record { modulus = a.added.modulus; rows = a.added.rows; coefficient_modulus = a.added.coefficient_modulus; coefficients = a.added.coefficients })
 
 -- the zero row, which is what is left of a row without an entry
@@ -175,7 +175,7 @@ spread_row {R} {S} {i} {cols} {vals} same sound li columns values =
 
 -- a row appended by the call for a pivot's row
 pub left_pivot : {t : TriangleState} {kept : Bool} {i k p : ℕ} {qs : List Pair} {R : ResidueMatrix} {old new : SchurRows} → R ≡ t.rows → p ≡ R.modulus → 2 ≤ p → Triangular t.rows.matrix t.pairs → qs ≡ t.pairs →
-    IsRowOfPair qs i k → CanTake t old → AddsRow (itself old k) old new → AddsLeft t kept i old new
+    IsRowOfPair qs i k → MayTakeRow t old → AddsRow (itself old k) old new → AddsLeft t kept i old new
 left_pivot {t} {kept} {i} {k} {p} {qs} {R} {old} {new} same value two tri pairs here room added =
     let m : ℕ = t.rows.modulus in
     let big : 2 ≤ m = omega (arith, value, ap (λ (R : ResidueMatrix). R.modulus) same) in
@@ -220,7 +220,7 @@ left_kept {t} {kept} {i} {R} {qs} {cols} {vals} {r} {old} {new} same sound li co
 -- by the call that doesn't
 pub left_rest : {t : TriangleState} {kept : Bool} {i : ℕ} {R : ResidueMatrix} {qs : List Pair} {cols vals : List ℕ} {w : ResidueRow} {old new : SchurRows} → kept ≡ false → R ≡ t.rows → IsMatrix R.modulus R.matrix → 2 ≤ R.modulus →
     i < t.rows.matrix.height → cols ≡ support (row R.matrix i) → vals ≡ nonzeros (row R.matrix i) → qs ≡ t.pairs → ¬ IsPivotRow qs i → FitsRest t w →
-    (IsPrime t.rows.modulus → IsSchurRow t.rows.modulus t.rows.matrix t.pairs (spread t.rows.matrix.width cols vals) w.row) → CanTake t old →
+    (IsPrime t.rows.modulus → IsSchurRow t.rows.modulus t.rows.matrix t.pairs (spread t.rows.matrix.width cols vals) w.row) → MayTakeRow t old →
     AddsRow (record { rest = w.row; coefficients = zeros old.coefficients.matrix.width }) old new → AddsLeft t kept i old new
 left_rest {t} {kept} {i} {R} {qs} {cols} {vals} {w} {old} {new} off same sound two li columns values pairs none fits schur room added =
     let free : ¬ IsPivotRow t.pairs i = subst (λ qs. ¬ IsPivotRow qs i) pairs none in
@@ -282,7 +282,7 @@ part_end {t} {kept} {from} {next} {to} {p} {R} {s} {v} same value two sound tri 
     (part_zeros t kept from (to - next) s v big m tri h.0 (omega (arith, h.1)) (λ k a b. subst (λ (T : ResidueMatrix). IsZeroRow T.matrix k) same (none k (omega (arith, h.1)) (omega (arith, h.1)))) z, omega (arith, h.1, zeros_high z))
 
 pub part_takes : {t : TriangleState} {kept : Bool} {from next i h : ℕ} {R : ResidueMatrix} {s u : SchurRows} → R ≡ t.rows → h ≡ R.matrix.height → h ≤ LARGEST_SIZE → i < t.rows.matrix.height → IsPartTo t kept from next s → next ≤ i →
-    AddsZeros (i - next) s u → CanTake t u
+    AddsZeros (i - next) s u → MayTakeRow t u
 part_takes {t} {kept} {from} {next} {i} {h} {R} {s} {u} same value bound li part low z =
     let high : h ≡ t.rows.matrix.height = value ∙ ap (λ (R : ResidueMatrix). R.matrix.height) same in
     record {

@@ -11,7 +11,7 @@ use Rattle.sparse_rows.specs.Rows.{ResidueMatrix}
 use Rattle.pivot_table.specs.Order.{Triangular}
 use Rattle.triangular_solve.specs.Reduced.{IsComplement, IsReduced}
 use Rattle.triangular_solve.specs.Triangle.{TriangleState}
-use Rattle.schur_rows.specs.Parts.{IsPartTo, IsRowOf}
+use Rattle.schur_rows.specs.Parts.{IsPartTo, IsRowOfRound}
 use Rattle.schur_rows.specs.Round.{FitsRound, IsRound}
 use Rattle.schur_rows.specs.declared.round.SchurRows.{SchurRows}
 use Rattle.schur_rows.proofs.Unique.{pivot_or_not}
@@ -38,8 +38,8 @@ module _ {t : TriangleState} {kept : Bool} {s : SchurRows} (tri : Triangular t.r
   abbrev C : Matrix
   C = s.coefficients.matrix
 
-  at : (i : ℕ) → i < A.height → IsRowOf t kept i (record { rest = row B i; coefficients = row C i })
-  at i l = let plain : 0 + i ≡ i = omega arith in subst (λ x. IsRowOf t kept x (record { rest = row B i; coefficients = row C i })) plain (h.0.each i (omega (arith, h.1)))
+  at : (i : ℕ) → i < A.height → IsRowOfRound t kept i (record { rest = row B i; coefficients = row C i })
+  at i l = let plain : 0 + i ≡ i = omega arith in subst (λ x. IsRowOfRound t kept x (record { rest = row B i; coefficients = row C i })) plain (h.0.each i (omega (arith, h.1)))
 
   pivotal : (k j : ℕ) → k < length t.pairs → j < A.width → entry B (row_at t.pairs k) j ≡ 0
   pivotal k j l lj = ap (λ u. slice_index u j) ((at (row_at t.pairs k) (tri.nonzero k l).0).nothing (k, l, refl)) ∙ at_zeros A.width j lj

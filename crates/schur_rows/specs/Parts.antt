@@ -16,7 +16,7 @@ use Rattle.schur_rows.specs.declared.workers.Deal.{Deal}
 
 -- r is row i of a round: a pivot row is itself and leaves nothing, for another row its Schur row is left; where the
 -- coefficients are kept, they split the row
-pub record IsRowOf (t : TriangleState) (kept : Bool) (i : ℕ) (r : Reduction) : Type 0 where
+pub record IsRowOfRound (t : TriangleState) (kept : Bool) (i : ℕ) (r : Reduction) : Type 0 where
   pub nothing : IsPivotRow t.pairs i → r.rest ≡ zeros t.rows.matrix.width
   pub itself : kept ≡ true → (k : ℕ) → k < length t.pairs → row_at t.pairs k ≡ i → r.coefficients ≡ unit (length t.pairs) k
   pub left : IsPrime t.rows.modulus → ¬ IsPivotRow t.pairs i →
@@ -34,7 +34,7 @@ pub record IsPart (t : TriangleState) (kept : Bool) (from : ℕ) (s : SchurRows)
   pub coefficient_width : s.coefficients.matrix.width ≡ length t.pairs
   pub height : s.coefficients.matrix.height ≡ s.rows.matrix.height
   pub each : (x : ℕ) → x < s.rows.matrix.height →
-      IsRowOf t kept (from + x) (record { rest = row s.rows.matrix x; coefficients = row s.coefficients.matrix x })
+      IsRowOfRound t kept (from + x) (record { rest = row s.rows.matrix x; coefficients = row s.coefficients.matrix x })
 
 -- the rows from `from` up to `to`
 abbrev pub IsPartTo : TriangleState → Bool → ℕ → ℕ → SchurRows → Type 0
@@ -71,11 +71,11 @@ pub record AddsLeft (t : TriangleState) (kept : Bool) (i : ℕ) (old new : Schur
   pub left : Reduction
   pub rest : IsVector t.rows.modulus t.rows.matrix.width left.rest
   pub coefficients : IsVector t.rows.modulus (length t.pairs) left.coefficients
-  pub is_row : IsRowOf t kept i left
+  pub is_row : IsRowOfRound t kept i left
   pub added : AddsRow left old new
 
 -- there is room for one row more
-pub record CanTake (t : TriangleState) (part : SchurRows) : Type 0 where
+pub record MayTakeRow (t : TriangleState) (part : SchurRows) : Type 0 where
   pub modulus : part.rows.modulus ≡ t.rows.modulus
   pub width : part.rows.matrix.width ≡ t.rows.matrix.width
   pub coefficient_modulus : part.coefficients.modulus ≡ t.rows.modulus

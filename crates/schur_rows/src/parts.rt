@@ -3,7 +3,7 @@ ghost use Rattle.std.specs.Prelude.{◌≡◌, ◌<◌, ◌≤◌, ◌+◌, ◌-
 ghost use Rattle.std.specs.Option.{MatchOption};
 ghost use Rattle.sparse_rows.specs.declared.rows.TheConstants.{LARGEST_SIZE};
 ghost use Rattle.triangular_solve.specs.Reduced.{workspace_of};
-ghost use Rattle.schur_rows.specs.Parts.{AddsLeft, AddsRow, AddsZeros, AreZeroRows, CanTake, IsNextBelow, IsPartTo, itself};
+ghost use Rattle.schur_rows.specs.Parts.{AddsLeft, AddsRow, AddsZeros, AreZeroRows, MayTakeRow, IsNextBelow, IsPartTo, itself};
 ghost use Rattle.schur_rows.specs.PivotRows.{HasNumbers};
 
 use crate::pivot_rows::PivotRows;
@@ -106,7 +106,7 @@ fn append_left(
     requires row { i < triangle.now.rows.matrix.height }
     requires numbers { HasNumbers triangle.now.pairs pivot_rows.now }
     requires work { work.old ≡ workspace_of triangle.now }
-    requires part { CanTake triangle.now part.old }
+    requires part { MayTakeRow triangle.now part.old }
     ensures work { work.new ≡ work.old }
     ensures added { OnOk result (AddsLeft triangle.now kept i part.old part.new) }
 {

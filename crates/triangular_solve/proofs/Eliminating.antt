@@ -13,7 +13,7 @@ use Rattle.sparse_rows.specs.Rows.{AddsAt, AddsMultiple, ResidueMatrix, ResidueR
 use Rattle.sparse_rows.specs.Stored.{IsSparse, entry_at}
 use Rattle.sparse_rows.proofs.Loops.{length_zeros}
 use Rattle.sparse_rows.proofs.Spread.{entry_cover, entry_support, entry_tail, support_sparse}
-use Rattle.triangular_solve.specs.PivotRows.{AreInverses, AreSums, ArePlaced, Eliminates, IsEliminated, IsEliminating, PlacedRows}
+use Rattle.triangular_solve.specs.PivotRows.{AreInverses, AreColumnSums, ArePlaced, Eliminates, IsEliminated, IsEliminating, PlacedRows}
 use Rattle.triangular_solve.proofs.Draining.{set_vector}
 use Rattle.triangular_solve.proofs.Extent.{extent, extent_falls}
 use Rattle.triangular_solve.proofs.JoinedRows.{support_nonzero, support_place}
@@ -140,7 +140,7 @@ module _ (placed : PlacedRows) {s s1 inverses cs vs : List ℕ} {k v : ℕ} (two
     sums : (i : ℕ) → i < length placed.columns → slice_index b.row i ≡ (slice_index s1 i + g * entry_at (behind_first cs) (behind_first vs) i) % placed.rows.modulus
     sums i l = subst (λ (a : ResidueRow). i < length a.row → slice_index b.row i ≡ (slice_index a.row i + g * entry_at (behind_first cs) (behind_first vs) i) % a.modulus) is_a (added.sums i) (omega (arith, length_same))
 
-    pub eliminated_sums : AreSums placed b
+    pub eliminated_sums : AreColumnSums placed b
     eliminated_sums = record {
       modulus = added.modulus ∙ ap (λ (r : ResidueRow). r.modulus) is_a;
       vector = subst (λ n. IsVector placed.rows.modulus n b.row) length_same (subst (λ (a : ResidueRow). IsVector a.modulus (length a.row) b.row) is_a added.vector);
@@ -184,7 +184,7 @@ module _ (placed : PlacedRows) {s s1 inverses cs vs : List ℕ} {k v : ℕ} (two
     }
 
 -- a sum that does not stand at a pivot is put back
-pub put_back : {placed : PlacedRows} {s : ResidueRow} {a b : ResidueRow} {k v : ℕ} → AreSums placed s → TakesFirst s.row a.row k v → a.modulus ≡ s.modulus → placed.rows.matrix.height ≤ k → AddsAt k v a b →
+pub put_back : {placed : PlacedRows} {s : ResidueRow} {a b : ResidueRow} {k v : ℕ} → AreColumnSums placed s → TakesFirst s.row a.row k v → a.modulus ≡ s.modulus → placed.rows.matrix.height ≤ k → AddsAt k v a b →
     (b ≡ s) × IsEliminated placed s.row
 put_back {placed} {s} {a} {b} {k} {v} sums t m le add =
     let l : k < length placed.columns = omega (arith, t.inside, sums.vector.len) in
@@ -259,7 +259,7 @@ eliminating_skips {placed} {v} {s} {s1} {c} {k} {f} two e step z = eliminating_m
   | inr d ↦ sym (get_or-set_other c k j f 0 d)
 ]))
 
-pub eliminated_falls : {placed : PlacedRows} {s : List ℕ} {b : ResidueRow} {k f : ℕ} → IsVector placed.rows.modulus (length placed.columns) s → AreSums placed b → Eliminates placed s b.row k f → extent b.row < extent s
+pub eliminated_falls : {placed : PlacedRows} {s : List ℕ} {b : ResidueRow} {k f : ℕ} → IsVector placed.rows.modulus (length placed.columns) s → AreColumnSums placed b → Eliminates placed s b.row k f → extent b.row < extent s
 eliminated_falls {placed} {s} {b} {k} {f} vector sums step =
     let inside : k < length s = elim (cases_lt k (length s)) [ inl l ↦ l | inr ge ↦ absurd (step.nonzero (get_or_past s k 0 (omega arith))) ] in
     extent_falls s b.row k (sums.vector.len ∙ sym vector.len) inside step.nonzero step.zero

@@ -8,7 +8,7 @@ use Rattle.residue_words.proofs.Lists.{contains_at}
 use Rattle.sparse_rows.specs.ColumnSet.{AllZero, TakesFirst}
 use Rattle.sparse_rows.specs.Rows.{AreBelow, AreRising, nonzeros, support}
 use Rattle.sparse_rows.proofs.Spread.{entry_cover, entry_here, entry_support, support_sparse}
-use Rattle.triangular_solve.specs.PivotRows.{AppendsBefore, AreDistinct, AscendWhereNonzero, IsSplit}
+use Rattle.triangular_solve.specs.PivotRows.{AppendsBefore, HaveDistinctColumns, AscendWhereNonzero, IsSplitRow}
 use Rattle.triangular_solve.proofs.SplitRows.{distinct_same}
 
 -- the entry in the support's place t is not 0
@@ -108,7 +108,7 @@ joining_none columns s0 outer rest e zero = record {
   coming = λ t a b. omega arith;
 }
 
-module _ {p n : ℕ} {columns s0 outer : List ℕ} (vector : IsVector p n outer) (distinct : AreDistinct columns) (apart : (i : ℕ) → i < length columns → slice_index outer (slice_index columns i) ≡ 0) where
+module _ {p n : ℕ} {columns s0 outer : List ℕ} (vector : IsVector p n outer) (distinct : HaveDistinctColumns columns) (apart : (i : ℕ) → i < length columns → slice_index outer (slice_index columns i) ≡ 0) where
   -- the entries that passed came as far as column c, before which no sum is left
   pub joining_to : {s rest next : List ℕ} {at to : ℕ} (j : IsJoining columns s0 outer s rest at) (c : ℕ) → j.bound ≤ c → c ≤ length outer → ((i : ℕ) → i < length columns → slice_index columns i < c → slice_index s i ≡ 0) →
       AppendsBefore outer at c rest next to → (made : IsJoining columns s0 outer s next to) × (made.bound ≡ c)
@@ -214,7 +214,7 @@ module _ {p n : ℕ} {columns s0 outer : List ℕ} (vector : IsVector p n outer)
       from = elim (cases_lt (slice_index columns i) j.bound) [ inl l ↦ absurd (nonzero (j.taken i li l)) | inr g ↦ omega arith ]
 
   -- where no sum is left, and all entries passed
-  pub joining_all : {s rest : List ℕ} {at : ℕ} (j : IsJoining columns s0 outer s rest at) → length s0 ≡ length columns → AreBelow (length outer) columns → j.bound ≡ length outer → IsSplit columns rest s0 outer
+  pub joining_all : {s rest : List ℕ} {at : ℕ} (j : IsJoining columns s0 outer s rest at) → length s0 ≡ length columns → AreBelow (length outer) columns → j.bound ≡ length outer → IsSplitRow columns rest s0 outer
   joining_all {s} {rest} {at} j long below e = record {
     long = long;
     wide = sym j.long;
@@ -238,7 +238,7 @@ module _ {p n : ℕ} {columns s0 outer : List ℕ} (vector : IsVector p n outer)
       subst (λ w. IsJoining columns s0 outer s1 w to) (sym (is ∙ ap (λ c. slice_set next c v) e)) (joining_put m.0 long t (m.1 ∙ e) (omega (arith, e)))
 
   pub joining_ends : {s rest next : List ℕ} {at to : ℕ} (j : IsJoining columns s0 outer s rest at) → length s0 ≡ length columns → length s ≡ length columns → AllZero s → AreBelow (length outer) columns →
-      (c : ℕ) → c ≡ length outer → AppendsBefore outer at c rest next to → IsSplit columns next s0 outer
+      (c : ℕ) → c ≡ length outer → AppendsBefore outer at c rest next to → IsSplitRow columns next s0 outer
   joining_ends {s} {rest} {next} {at} {to} j long same none below c e a =
       let m = joining_to j c (omega (arith, j.low, e)) (omega (arith, e)) (λ k lk less. none k (omega arith)) a in
       joining_all m.0 long below (m.1 ∙ e)

@@ -10,7 +10,7 @@ use Rattle.sparse_rows.specs.Rows.{ResidueMatrix, ResidueRow}
 use Rattle.sparse_rows.specs.Stored.{spread}
 use Rattle.sparse_rows.proofs.Loops.{length_zeros}
 use Rattle.sparse_rows.proofs.Spread.{length_spread}
-use Rattle.triangular_solve.specs.PivotRows.{ArePivotRows, ArePlaced, AreReduced, AscendWhereNonzero, IsAlike, IsEliminated, IsEliminating, IsRoom, IsSplit, PlacedRows}
+use Rattle.triangular_solve.specs.PivotRows.{ArePivotRows, ArePlaced, ArePivotsReduced, AscendWhereNonzero, IsAlike, IsEliminated, IsEliminating, IsRoom, IsSplitRow, PlacedRows}
 use Rattle.triangular_solve.specs.Reduced.{FitsRest, IsReduced, Workspace}
 use Rattle.triangular_solve.specs.Triangle.{TriangleState}
 use Rattle.triangular_solve.proofs.Accumulating.{as_row}
@@ -23,8 +23,8 @@ ascend_behind {placed} sums P none k t a l nk nt = elim (cases_lt k placed.rows.
   | inr ge ↦ P.ascending k t (omega arith) a l
 ]
 
-pub reduced_parts : {placed : PlacedRows} {v s s1 outer rest coefficients : List ℕ} → ArePlaced placed → IsSplit placed.columns v s outer → IsEliminating placed s s1 coefficients → IsEliminated placed s1 → IsSplit placed.columns rest s1 outer →
-    IsVector placed.rows.modulus (length v) rest → AreReduced placed v rest coefficients
+pub reduced_parts : {placed : PlacedRows} {v s s1 outer rest coefficients : List ℕ} → ArePlaced placed → IsSplitRow placed.columns v s outer → IsEliminating placed s s1 coefficients → IsEliminated placed s1 → IsSplitRow placed.columns rest s1 outer →
+    IsVector placed.rows.modulus (length v) rest → ArePivotsReduced placed v rest coefficients
 reduced_parts {placed} {v} {s} {s1} {outer} {rest} {coefficients} P first e none last vector = record {
   vector = vector;
   residues = e.residues;
@@ -35,7 +35,7 @@ reduced_parts {placed} {v} {s} {s1} {outer} {rest} {coefficients} P first e none
 }
 
 -- so it is by the pivots of the matrix
-pub reduced_by_pivots : {A : ResidueMatrix} {qs : List Pair} {placed : PlacedRows} {v rest coefficients : List ℕ} → ArePivotRows A qs placed → AreReduced placed v rest coefficients → length v ≡ A.matrix.width →
+pub reduced_by_pivots : {A : ResidueMatrix} {qs : List Pair} {placed : PlacedRows} {v rest coefficients : List ℕ} → ArePivotRows A qs placed → ArePivotsReduced placed v rest coefficients → length v ≡ A.matrix.width →
     IsPrime A.modulus → IsReduced A.modulus A.matrix qs v (record { rest = rest; coefficients = coefficients })
 reduced_by_pivots {A} {qs} {placed} {v} {rest} {coefficients} P r long prime = record {
   zero = λ k l. let at = P.first.pivotal k l in ap (slice_index rest) (sym at.1) ∙ r.zero k (omega (arith, P.height));
@@ -89,7 +89,7 @@ pub same_workspace : {m n w a b c : ℕ} → m ≡ a → n ≡ b → w ≡ c →
 same_workspace e f g = λ i. record { modulus = e i; pairs = f i; width = g i }
 
 -- what a triangle promises of a row that was reduced by its pivot rows
-pub triangle_reduces : {t : TriangleState} {placed : PlacedRows} {n : ℕ} (cs vs : List ℕ) {w : ResidueRow} {c : List ℕ} → ArePivotRows t.rows t.pairs placed → n ≡ t.rows.matrix.width → w.modulus ≡ t.rows.modulus → AreReduced placed (spread n cs vs) w.row c →
+pub triangle_reduces : {t : TriangleState} {placed : PlacedRows} {n : ℕ} (cs vs : List ℕ) {w : ResidueRow} {c : List ℕ} → ArePivotRows t.rows t.pairs placed → n ≡ t.rows.matrix.width → w.modulus ≡ t.rows.modulus → ArePivotsReduced placed (spread n cs vs) w.row c →
     FitsRest t w × IsVector t.rows.modulus (length t.pairs) c
     × (IsPrime t.rows.modulus → IsReduced t.rows.modulus t.rows.matrix t.pairs (spread t.rows.matrix.width cs vs) (record { rest = w.row; coefficients = c }))
 triangle_reduces {t} {placed} {n} cs vs {w} {c} P e m r = (
@@ -99,5 +99,5 @@ triangle_reduces {t} {placed} {n} cs vs {w} {c} P e m r = (
     zero = λ k l. let at = P.first.pivotal k l in ap (slice_index w.row) (sym at.1) ∙ r.zero k (omega (arith, P.height));
   },
   subst (λ p. IsVector p (length t.pairs) c) P.modulus (subst (λ k. IsVector placed.rows.modulus k c) P.height r.residues),
-  (λ prime. reduced_by_pivots P (subst (λ k. AreReduced placed (spread k cs vs) w.row c) e r) (length_spread t.rows.matrix.width cs vs) prime),
+  (λ prime. reduced_by_pivots P (subst (λ k. ArePivotsReduced placed (spread k cs vs) w.row c) e r) (length_spread t.rows.matrix.width cs vs) prime),
 )

@@ -13,7 +13,7 @@ use Rattle.sparse_rows.specs.Rows.{AreBelow, AreOccupied, ResidueMatrix, nonzero
 use Rattle.sparse_rows.specs.Stored.{IsSparse, spread, with_row}
 use Rattle.sparse_rows.proofs.Spread.{spread_support, support_sparse}
 use Rattle.pivot_table.specs.Order.{Triangular}
-use Rattle.triangular_solve.specs.PivotRows.{ArePivotRows, AreUpper, HasPivotsFirst, IsSplit, placed_rows, row_on, rows_on}
+use Rattle.triangular_solve.specs.PivotRows.{ArePivotRows, AreUpper, HasPivotsFirst, IsSplitRow, placed_rows, row_on, rows_on}
 use Rattle.triangular_solve.proofs.Eliminating.{AreInversesBelow, first_place}
 use Rattle.triangular_solve.proofs.JoinedRows.{support_value}
 use Rattle.triangular_solve.proofs.Listing.{no_pair}
@@ -59,7 +59,7 @@ rows_on_more A columns qs k w l e =
     sized h w rs = record { height = h; width = w; rows = rs }
 
 -- a row whose entries are split by its columns
-pub split_row : (A : Matrix) (columns : List ℕ) (i : ℕ) {n : ℕ} {cs vs inner outer : List ℕ} → length (row A i) ≡ n → cs ≡ support (row A i) → vs ≡ nonzeros (row A i) → IsSplit columns (spread n cs vs) inner outer → inner ≡ row_on A columns i
+pub split_row : (A : Matrix) (columns : List ℕ) (i : ℕ) {n : ℕ} {cs vs inner outer : List ℕ} → length (row A i) ≡ n → cs ≡ support (row A i) → vs ≡ nonzeros (row A i) → IsSplitRow columns (spread n cs vs) inner outer → inner ≡ row_on A columns i
 split_row A columns i {n} {cs} {vs} {inner} {outer} long e f s =
     list_equal (length columns) inner (row_on A columns i) s.long (length_list_of (length columns) (λ k. entry A i (slice_index columns k))) (λ k l.
     s.inside k l

@@ -12,10 +12,10 @@ use Rattle.sparse_rows.proofs.Expanding.{among_or_not}
 use Rattle.sparse_rows.proofs.Loops.{length_zeros}
 use Rattle.sparse_rows.proofs.Spread.{at_spread, entry_beyond, length_spread, spread_none, spread_push}
 use Rattle.triangular_solve.specs.AscendingColumns.{IsPlaceOf}
-use Rattle.triangular_solve.specs.PivotRows.{AreDistinct, IsSplit}
+use Rattle.triangular_solve.specs.PivotRows.{HaveDistinctColumns, IsSplitRow}
 use Rattle.triangular_solve.proofs.Draining.{set_vector}
 
-pub distinct_same : (xs : List ℕ) → AreDistinct xs → (k t : ℕ) → k < length xs → t < length xs → slice_index xs k ≡ slice_index xs t → k ≡ t
+pub distinct_same : (xs : List ℕ) → HaveDistinctColumns xs → (k t : ℕ) → k < length xs → t < length xs → slice_index xs k ≡ slice_index xs t → k ≡ t
 distinct_same xs distinct k t lk lt e = elim (cases_eq k t) [
   | inl s ↦ s
   | inr d ↦ elim (cases_lt k t) [ inl l ↦ absurd (distinct k t l lt e) | inr g ↦ absurd (distinct t k (omega arith) lk (sym e)) ]
@@ -55,7 +55,7 @@ pub first_zero : {p n : ℕ} {cs vs : List ℕ} → IsSparse p n cs vs → (k : 
 first_zero {p} {n} {cs} {vs} s k l j le lj = at_spread n (take k cs) (take k vs) j lj ∙ entry_beyond (take k cs) (take k vs) (slice_index cs k) j (first_sparse s k l).below le
 
 -- the zero row is split
-pub split_none : (columns : List ℕ) (n : ℕ) → AreBelow n columns → IsSplit columns (zeros n) (zeros (length columns)) (zeros n)
+pub split_none : (columns : List ℕ) (n : ℕ) → AreBelow n columns → IsSplitRow columns (zeros n) (zeros (length columns)) (zeros n)
 split_none columns n below = record {
   long = length_zeros (length columns);
   wide = refl;
@@ -65,8 +65,8 @@ split_none columns n below = record {
 }
 
 -- one entry more in these columns
-pub split_inside : {columns v inner outer : List ℕ} → AreDistinct columns → IsSplit columns v inner outer → (c i x : ℕ) → IsPlaceOf columns c i → c < length v →
-    IsSplit columns (slice_set v c x) (slice_set inner i x) outer
+pub split_inside : {columns v inner outer : List ℕ} → HaveDistinctColumns columns → IsSplitRow columns v inner outer → (c i x : ℕ) → IsPlaceOf columns c i → c < length v →
+    IsSplitRow columns (slice_set v c x) (slice_set inner i x) outer
 split_inside {columns} {v} {inner} {outer} distinct s c i x at l = record {
   long = length-set inner i x ∙ s.long;
   wide = s.wide ∙ sym (length-set v c x);
@@ -80,7 +80,7 @@ split_inside {columns} {v} {inner} {outer} distinct s c i x at l = record {
 }
 
 -- one entry more elsewhere
-pub split_outside : {columns v inner outer : List ℕ} → IsSplit columns v inner outer → (c x : ℕ) → ¬ Contains columns c → c < length v → IsSplit columns (slice_set v c x) inner (slice_set outer c x)
+pub split_outside : {columns v inner outer : List ℕ} → IsSplitRow columns v inner outer → (c x : ℕ) → ¬ Contains columns c → c < length v → IsSplitRow columns (slice_set v c x) inner (slice_set outer c x)
 split_outside {columns} {v} {inner} {outer} s c x not l = record {
   long = s.long;
   wide = length-set outer c x ∙ s.wide ∙ sym (length-set v c x);
@@ -93,7 +93,7 @@ split_outside {columns} {v} {inner} {outer} s c x not l = record {
 }
 
 -- where v is 0 the row outside is
-pub outer_zero : {columns v inner outer : List ℕ} → IsSplit columns v inner outer → (j : ℕ) → j < length v → slice_index v j ≡ 0 → slice_index outer j ≡ 0
+pub outer_zero : {columns v inner outer : List ℕ} → IsSplitRow columns v inner outer → (j : ℕ) → j < length v → slice_index v j ≡ 0 → slice_index outer j ≡ 0
 outer_zero {columns} {v} {inner} {outer} s j l z = elim (placed_or_none columns j) [
   | inl w ↦ ap (slice_index outer) (sym w.2) ∙ s.none w.0 w.1
   | inr not ↦ s.outside j l not ∙ z
@@ -101,14 +101,14 @@ outer_zero {columns} {v} {inner} {outer} s j l z = elim (placed_or_none columns 
 
 -- the first k entries of a row are split
 pub record IsSplitting (p : ℕ) (columns cs vs : List ℕ) (k n : ℕ) (inner outer : List ℕ) : Type 0 where
-  pub split : IsSplit columns (spread n (take k cs) (take k vs)) inner outer
+  pub split : IsSplitRow columns (spread n (take k cs) (take k vs)) inner outer
   pub residues : IsVector p (length columns) inner
 
-pub splitting_inside : {p n k : ℕ} {columns cs vs inner outer : List ℕ} → 0 < p → AreDistinct columns → IsSparse p n cs vs → IsSplitting p columns cs vs k n inner outer → k < length cs →
+pub splitting_inside : {p n k : ℕ} {columns cs vs inner outer : List ℕ} → 0 < p → HaveDistinctColumns columns → IsSparse p n cs vs → IsSplitting p columns cs vs k n inner outer → k < length cs →
     (i : ℕ) → IsPlaceOf columns (slice_index cs k) i → (next : List ℕ) → next ≡ slice_set inner i ((slice_index inner i + slice_index vs k) % p) → IsSplitting p columns cs vs (k + 1) n next outer
 splitting_inside {p} {n} {k} {columns} {cs} {vs} {inner} {outer} pos distinct s d l i at next e = record {
-  split = subst (λ w. IsSplit columns (spread n (take (k + 1) cs) (take (k + 1) vs)) w outer) (sym is)
-      (subst (λ v. IsSplit columns v (slice_set inner i (slice_index vs k)) outer) (sym (first_more s k l))
+  split = subst (λ w. IsSplitRow columns (spread n (take (k + 1) cs) (take (k + 1) vs)) w outer) (sym is)
+      (subst (λ v. IsSplitRow columns v (slice_set inner i (slice_index vs k)) outer) (sym (first_more s k l))
       (split_inside distinct d.split (slice_index cs k) i (slice_index vs k) at (omega (arith, s.below k l, length_spread n (take k cs) (take k vs)))));
   residues = subst (IsVector p (length columns)) (sym is) (set_vector d.residues i (slice_index vs k) (s.residues k (omega (arith, s.long))));
 }
@@ -125,15 +125,15 @@ splitting_inside {p} {n} {k} {columns} {cs} {vs} {inner} {outer} pos distinct s 
 pub splitting_outside : {p n k : ℕ} {columns cs vs inner outer : List ℕ} → IsSparse p n cs vs → IsSplitting p columns cs vs k n inner outer → k < length cs → ¬ Contains columns (slice_index cs k) →
     (next : List ℕ) → next ≡ slice_set outer (slice_index cs k) (slice_index vs k) → IsSplitting p columns cs vs (k + 1) n inner next
 splitting_outside {p} {n} {k} {columns} {cs} {vs} {inner} {outer} s d l not next e = record {
-  split = subst (IsSplit columns (spread n (take (k + 1) cs) (take (k + 1) vs)) inner) (sym e)
-      (subst (λ v. IsSplit columns v inner (slice_set outer (slice_index cs k) (slice_index vs k))) (sym (first_more s k l))
+  split = subst (IsSplitRow columns (spread n (take (k + 1) cs) (take (k + 1) vs)) inner) (sym e)
+      (subst (λ v. IsSplitRow columns v inner (slice_set outer (slice_index cs k) (slice_index vs k))) (sym (first_more s k l))
       (split_outside d.split (slice_index cs k) (slice_index vs k) not (omega (arith, s.below k l, length_spread n (take k cs) (take k vs)))));
   residues = d.residues;
 }
 
 pub splitting_none : (p n : ℕ) (columns cs vs : List ℕ) → AreBelow n columns → 0 < p → IsSplitting p columns cs vs 0 n (zeros (length columns)) (zeros n)
 splitting_none p n columns cs vs below pos = record {
-  split = subst (λ v. IsSplit columns v (zeros (length columns)) (zeros n)) (sym (spread_none n [])) (split_none columns n below);
+  split = subst (λ v. IsSplitRow columns v (zeros (length columns)) (zeros n)) (sym (spread_none n [])) (split_none columns n below);
   residues = record { len = length_zeros (length columns); residues = λ j l. omega (arith, at_zeros (length columns) j l) };
 }
 
@@ -141,6 +141,6 @@ pub splitting_behind : {p n k : ℕ} {columns cs vs inner outer : List ℕ} → 
     (j : ℕ) → slice_index cs k ≤ j → j < n → slice_index outer j ≡ 0
 splitting_behind {p} {n} {k} {columns} {cs} {vs} s d l j le lj = outer_zero d.split j (omega (arith, length_spread n (take k cs) (take k vs))) (first_zero s k l j le lj)
 
-pub splitting_all : {p n k : ℕ} {columns cs vs inner outer : List ℕ} → IsSparse p n cs vs → IsSplitting p columns cs vs k n inner outer → length cs ≤ k → IsSplit columns (spread n cs vs) inner outer
+pub splitting_all : {p n k : ℕ} {columns cs vs inner outer : List ℕ} → IsSparse p n cs vs → IsSplitting p columns cs vs k n inner outer → length cs ≤ k → IsSplitRow columns (spread n cs vs) inner outer
 splitting_all {p} {n} {k} {columns} {cs} {vs} {inner} {outer} s d le =
-    subst (λ v. IsSplit columns v inner outer) (ap₂ (spread n) (take_all k cs le) (take_all k vs (omega (arith, s.long)))) d.split
+    subst (λ v. IsSplitRow columns v inner outer) (ap₂ (spread n) (take_all k cs le) (take_all k vs (omega (arith, s.long)))) d.split

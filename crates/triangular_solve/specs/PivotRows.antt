@@ -23,14 +23,14 @@ pub record IsOrderOf (sorted places columns : List ℕ) : Type 0 where
   pub all : (t : ℕ) → t < length sorted → slice_index places t ≢ 4294967295
 
 -- no column stands twice
-abbrev pub AreDistinct : List ℕ → Type 0
-AreDistinct columns = (k t : ℕ) → k < t → t < length columns → slice_index columns k ≢ slice_index columns t
+abbrev pub HaveDistinctColumns : List ℕ → Type 0
+HaveDistinctColumns columns = (k t : ℕ) → k < t → t < length columns → slice_index columns k ≢ slice_index columns t
 
 -- the columns of the pairs, in order, and then others, ascending
 pub record HasPivotsFirst (qs : List Pair) (columns : List ℕ) : Type 0 where
   pub pivotal : (k : ℕ) → k < length qs → IsPlaceOf columns (col_at qs k) k
   pub ascending : (k t : ℕ) → length qs ≤ k → k < t → t < length columns → slice_index columns k < slice_index columns t
-  pub distinct : AreDistinct columns
+  pub distinct : HaveDistinctColumns columns
 
 -- what is seen of pivot rows: their matrix, and the columns of the whole matrix for which its columns stand
 pub record PlacedRows : Type 0 where
@@ -50,7 +50,7 @@ pub record AreUpper (A : Matrix) : Type 0 where
 pub record ArePlaced (placed : PlacedRows) : Type 0 where
   pub upper : AreUpper placed.rows.matrix
   pub width : placed.rows.matrix.width ≡ length placed.columns
-  pub distinct : AreDistinct placed.columns
+  pub distinct : HaveDistinctColumns placed.columns
   pub ascending : (k t : ℕ) → placed.rows.matrix.height ≤ k → k < t → t < length placed.columns →
       slice_index placed.columns k < slice_index placed.columns t
 
@@ -71,7 +71,7 @@ pub record ArePivotRows (A : ResidueMatrix) (qs : List Pair) (placed : PlacedRow
   pub others : (k j : ℕ) → k < length qs → j < A.matrix.width → ¬ Contains placed.columns j → entry A.matrix (row_at qs k) j ≡ 0
 
 -- sums for the columns of the rows
-pub record AreSums (placed : PlacedRows) (sums : ResidueRow) : Type 0 where
+pub record AreColumnSums (placed : PlacedRows) (sums : ResidueRow) : Type 0 where
   pub modulus : sums.modulus ≡ placed.rows.modulus
   pub vector : IsVector placed.rows.modulus (length placed.columns) sums.row
 
@@ -100,7 +100,7 @@ abbrev pub IsAlike : ResidueRow → ResidueRow → Type 0
 IsAlike old new = (new.modulus ≡ old.modulus) × (length new.row ≡ length old.row)
 
 -- the entries of v in these columns stand in one row, and the others in the other
-pub record IsSplit (columns v inner outer : List ℕ) : Type 0 where
+pub record IsSplitRow (columns v inner outer : List ℕ) : Type 0 where
   pub long : length inner ≡ length columns
   pub wide : length outer ≡ length v
   pub inside : (i : ℕ) → i < length columns → slice_index inner i ≡ slice_index v (slice_index columns i)
@@ -135,7 +135,7 @@ pub record IsRoomFor (placed : PlacedRows) (sums passed : ResidueRow) : Type 0 w
   pub zero : passed.row ≡ zeros (length passed.row)
 
 -- v is the rest and the coefficients times the rows, and the rest is 0 in the columns of pivots; sizes hold for any modulus
-pub record AreReduced (placed : PlacedRows) (v rest coefficients : List ℕ) : Type 0 where
+pub record ArePivotsReduced (placed : PlacedRows) (v rest coefficients : List ℕ) : Type 0 where
   pub vector : IsVector placed.rows.modulus (length v) rest
   pub residues : IsVector placed.rows.modulus placed.rows.matrix.height coefficients
   pub zero : (k : ℕ) → k < placed.rows.matrix.height → slice_index rest (slice_index placed.columns k) ≡ 0

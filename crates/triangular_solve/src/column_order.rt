@@ -9,7 +9,7 @@ ghost use Rattle.sparse_rows.specs.Stored.{IsSparse, spread};
 ghost use Rattle.sparse_rows.specs.declared.rows.TheConstants.{LARGEST_SIZE};
 ghost use Rattle.triangular_solve.specs.AscendingColumns.{IsPlaceOf};
 ghost use Rattle.triangular_solve.specs.Accumulator.{IsClear};
-ghost use Rattle.triangular_solve.specs.PivotRows.{AppendsBefore, AreDistinct, AscendWhereNonzero, HasPivotsFirst, IsAlike, IsOrdering, IsOrderOf, IsSplit};
+ghost use Rattle.triangular_solve.specs.PivotRows.{AppendsBefore, HaveDistinctColumns, AscendWhereNonzero, HasPivotsFirst, IsAlike, IsOrdering, IsOrderOf, IsSplitRow};
 
 use crate::accumulator::Accumulator;
 use crate::ascending_columns::AscendingColumns;
@@ -100,12 +100,12 @@ impl ColumnOrder {
         requires modulus { passed.old.modulus ≡ sums.old.modulus }
         requires clear { IsClear sums.old.modulus (length self.now) sums.old }
         requires none { passed.old.row ≡ zeros (length passed.old.row) }
-        requires distinct { AreDistinct self.now }
+        requires distinct { HaveDistinctColumns self.now }
         requires below { AreBelow (length passed.old.row) self.now }
         ensures sums { IsAlike sums.old sums.new }
         ensures passed { IsAlike passed.old passed.new }
         ensures vector { IsVector sums.old.modulus (length self.now) sums.new.row }
-        ensures split { OnOk result (IsSplit self.now (spread (length passed.old.row) cols.now vals.now)
+        ensures split { OnOk result (IsSplitRow self.now (spread (length passed.old.row) cols.now vals.now)
             sums.new.row passed.new.row) }
     {
         // The call's contract tells the range of the modulus.
@@ -130,13 +130,13 @@ impl ColumnOrder {
         requires alike { IsAlike passed.now rest.old }
         requires modulus { sums.old.modulus ≡ rest.old.modulus }
         requires none { rest.old.row ≡ zeros (length rest.old.row) }
-        requires distinct { AreDistinct self.now }
+        requires distinct { HaveDistinctColumns self.now }
         requires below { AreBelow (length rest.old.row) self.now }
         requires ascending { AscendWhereNonzero self.now sums.old.row }
         requires apart { (i : ℕ) → i < length self.now → slice_index passed.now.row (slice_index self.now i) ≡ 0 }
         ensures sums { IsAlike sums.old sums.new }
         ensures rest { IsAlike rest.old rest.new }
-        ensures joined { OnOk result (IsSplit self.now rest.new.row sums.old.row passed.now.row) }
+        ensures joined { OnOk result (IsSplitRow self.now rest.new.row sums.old.row passed.now.row) }
     {
         let width = passed.width();
         let mut at = 0;

@@ -9,7 +9,7 @@ ghost use Rattle.sparse_rows.specs.Stored.{IsSparse, spread};
 ghost use Rattle.sparse_rows.specs.declared.rows.TheConstants.{LARGEST_SIZE};
 ghost use Rattle.pivot_table.specs.Order.{Triangular};
 ghost use Rattle.triangular_solve.specs.Accumulator.{IsClear};
-ghost use Rattle.triangular_solve.specs.PivotRows.{AreDistinct, AreInverses, ArePivotRows, ArePlaced, AreSums, AreUpper, Eliminates, HasPivotsFirst, IsAlike, IsEliminated, IsEliminating, rows_on};
+ghost use Rattle.triangular_solve.specs.PivotRows.{HaveDistinctColumns, AreInverses, ArePivotRows, ArePlaced, AreColumnSums, AreUpper, Eliminates, HasPivotsFirst, IsAlike, IsEliminated, IsEliminating, rows_on};
 
 use crate::accumulator::Accumulator;
 use crate::column_order::ColumnOrder;
@@ -70,8 +70,8 @@ impl PivotRows {
     // Takes the first sum away, if it stands at a pivot, by a multiple of the pivot's row, and answers the pivot's place with the
     // factor of its row; None where no sum at a pivot is left.
     fn eliminate_next(&self, sums: &mut Accumulator) -> Option<(u32, u64)>
-        requires sums { AreSums self.now sums.old }
-        ensures sums { AreSums self.now sums.new }
+        requires sums { AreColumnSums self.now sums.old }
+        ensures sums { AreColumnSums self.now sums.new }
         ensures some { IfSome result (λ taken. Eliminates self.now sums.old.row sums.new.row taken.0 taken.1) }
         ensures none { IfNone result (IsEliminated self.now sums.new.row × (sums.new.row ≡ sums.old.row)) }
     {
@@ -97,10 +97,10 @@ impl PivotRows {
         sums: &mut Accumulator,
         coefficients: &mut Sparse,
     ) -> Result<(), AllocError>
-        requires sums { AreSums self.now sums.old }
+        requires sums { AreColumnSums self.now sums.old }
         requires modulus { coefficients.old.modulus ≡ self.now.rows.modulus }
         requires none { coefficients.old.row ≡ zeros self.now.rows.matrix.height }
-        ensures sums { AreSums self.now sums.new }
+        ensures sums { AreColumnSums self.now sums.new }
         ensures coefficients { IsAlike coefficients.old coefficients.new }
         ensures zero { OnOk result (IsEliminated self.now sums.new.row) }
         ensures ok { OnOk result (IsEliminating self.now sums.old.row sums.new.row coefficients.new.row) }
@@ -118,8 +118,8 @@ impl PivotRows {
 
     // Takes all sums at pivots away.
     pub(crate) fn eliminate_all(&self, sums: &mut Accumulator)
-        requires sums { AreSums self.now sums.old }
-        ensures sums { AreSums self.now sums.new }
+        requires sums { AreColumnSums self.now sums.old }
+        ensures sums { AreColumnSums self.now sums.new }
         ensures zero { IsEliminated self.now sums.new.row }
         ensures some { (coefficients : List ℕ) × IsEliminating self.now sums.old.row sums.new.row coefficients }
     {
@@ -170,7 +170,7 @@ fn place_rows(
 ) -> Result<Rows, AllocError>
     requires few { length pairs.now ≤ LARGEST_SIZE }
     requires inside { (k : ℕ) → k < length pairs.now → row_at pairs.now k < rows.now.matrix.height }
-    requires distinct { AreDistinct order.now }
+    requires distinct { HaveDistinctColumns order.now }
     requires below { AreBelow rows.now.matrix.width order.now }
     ensures modulus { IfOk result (λ placed. placed.modulus ≡ rows.now.modulus) }
     ensures matrix { IfOk result (λ placed. placed.matrix ≡ rows_on rows.now.matrix order.now pairs.now) }

@@ -5,7 +5,7 @@ ghost use Rattle.sparse_rows.specs.Rows.{AreBelow};
 ghost use Rattle.sparse_rows.specs.Stored.{IsSparse, spread};
 ghost use Rattle.sparse_rows.specs.declared.rows.TheConstants.{LARGEST_SIZE};
 ghost use Rattle.triangular_solve.specs.Accumulator.{IsClear};
-ghost use Rattle.triangular_solve.specs.PivotRows.{AreReduced, IsAlike, IsRoomFor};
+ghost use Rattle.triangular_solve.specs.PivotRows.{ArePivotsReduced, IsAlike, IsRoomFor};
 ghost use Rattle.triangular_solve.specs.Reduced.{workspace_of};
 
 use crate::accumulator::Accumulator;
@@ -74,7 +74,7 @@ impl Work {
         ensures work { self.new ≡ self.old }
         ensures rest { IsAlike rest.old rest.new }
         ensures coefficients { IsAlike coefficients.old coefficients.new }
-        ensures reduced { OnOk result (AreReduced pivots.now (spread self.old.width cols.now vals.now)
+        ensures reduced { OnOk result (ArePivotsReduced pivots.now (spread self.old.width cols.now vals.now)
             rest.new.row coefficients.new.row) }
     {
         fit(alloc, pivots, &mut self.sums)?;
@@ -108,7 +108,7 @@ impl Work {
         ensures work { self.new ≡ self.old }
         ensures rest { IsAlike rest.old rest.new }
         ensures reduced { OnOk result ((coefficients : List ℕ) ×
-            AreReduced pivots.now (spread self.old.width cols.now vals.now) rest.new.row coefficients) }
+            ArePivotsReduced pivots.now (spread self.old.width cols.now vals.now) rest.new.row coefficients) }
     {
         fit(alloc, pivots, &mut self.sums)?;
         let done = rest_by(pivots, cols, vals, &mut self.sums, &mut self.passed, rest);
@@ -152,7 +152,7 @@ fn reduce_by(
     ensures passed { IsAlike passed.old passed.new }
     ensures rest { IsAlike rest.old rest.new }
     ensures coefficients { IsAlike coefficients.old coefficients.new }
-    ensures reduced { OnOk result (AreReduced pivots.now (spread (length passed.old.row) cols.now vals.now)
+    ensures reduced { OnOk result (ArePivotsReduced pivots.now (spread (length passed.old.row) cols.now vals.now)
         rest.new.row coefficients.new.row) }
 {
     pivots.order().split(cols, vals, sums, passed)?;
@@ -180,7 +180,7 @@ fn rest_by(
     ensures passed { IsAlike passed.old passed.new }
     ensures rest { IsAlike rest.old rest.new }
     ensures reduced { OnOk result ((coefficients : List ℕ) ×
-        AreReduced pivots.now (spread (length passed.old.row) cols.now vals.now) rest.new.row coefficients) }
+        ArePivotsReduced pivots.now (spread (length passed.old.row) cols.now vals.now) rest.new.row coefficients) }
 {
     pivots.order().split(cols, vals, sums, passed)?;
     pivots.eliminate_all(sums);

@@ -1,10 +1,10 @@
-use Rattle.triangular_solve.specs.PivotRows.{AreSums, IsAlike, IsEliminating}
+use Rattle.triangular_solve.specs.PivotRows.{AreColumnSums, IsAlike, IsEliminating}
 use Rattle.triangular_solve.proofs.Extent.{extent}
 use Rattle.triangular_solve.proofs.pivot_rows.PivotRows.eliminate.Given as goal
 
 abbrev pub invariant-loop-place : goal.invariant-loop-place
 invariant-loop-place l = record {
-  sums : AreSums l.self l.sums;
+  sums : AreColumnSums l.self l.sums;
   coefficients : IsAlike l.fn.coefficients l.coefficients;
   eliminating : IsEliminating l.self l.fn.sums.row l.sums.row l.coefficients.row;
 }
