@@ -30,6 +30,8 @@ expect 2 '' 'error 2 usage\n' "$answer" rank "$(printf '\377')"
 expect 3 '' 'error 3 line 2 kind 4\n' '2 2 M\n3 1 1\n0 0 0\n' rank
 expect 3 '' 'error 3 line 1 kind 6\n' '' rank
 expect 4 '' 'error 4 shape 1 2\n' '1 2 M\n0 0 0\n' inverse
+expect 0 'yes\n' '' '1 1 M\n0 0 0\ncertificate rank 7 0\n1 0 M\n0 0 0\n0 1 M\n0 0 0\n' check --modulus 7
+expect 1 'no\n' '' '1 1 M\n1 1 1\n0 0 0\ncertificate rank 7 0\n1 0 M\n0 0 0\n0 1 M\n0 0 0\n' check --modulus 7
 
 # A source that fails, and an output and an error stream that take nothing.
 ./spasm rank </ >"$results/out" 2>"$results/err"

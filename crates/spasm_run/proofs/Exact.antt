@@ -16,7 +16,7 @@ use Rattle.spasm_run.specs.Options.{AcceptedIsPlain, AreTaken, RowsSet, IsComman
 use Rattle.spasm_run.specs.Line.{command_line, commands, option_names}
 use Rattle.spasm_run.specs.declared.words.Command.{Command}
 use Rattle.spasm_run.specs.declared.words.Task.{Task}
-use Rattle.spasm_run.specs.declared.words.Task.TheVariants.{Rank, Rref, Kernel, Solve, LeftKernel, Inverse, Pivots, Drill}
+use Rattle.spasm_run.specs.declared.words.Task.TheVariants.{Rank, Rref, Kernel, Solve, LeftKernel, Inverse, Pivots, Check, Drill}
 use Rattle.spasm_run.proofs.Accepting.{differ, fits_first, fits_known, first_of_list, known_fits, later_in_list, rows_set, set_rows}
 use Rattle.spasm_run.proofs.Program.{fault_at, first_is_named, subcommand_at, task_names, tasks}
 use Rattle.spasm_run.proofs.Reading.{ArePlain, Fits, IsName, IsPlainValue, NoDashes, apart_dashes, joined_dashes, level_passes, passes_level, passes_reads, reads_passes, row_of_given}
@@ -84,6 +84,7 @@ are_names Solve = each_name (task_names Solve) refl
 are_names LeftKernel = each_name (task_names LeftKernel) refl
 are_names Inverse = each_name (task_names Inverse) refl
 are_names Pivots = each_name (task_names Pivots) refl
+are_names Check = each_name (task_names Check) refl
 are_names (Drill g) = each_name (task_names (Drill g)) refl
 
 -- ---- given values are digits
@@ -121,6 +122,7 @@ task_dashes Solve = refl
 task_dashes LeftKernel = refl
 task_dashes Inverse = refl
 task_dashes Pivots = refl
+task_dashes Check = refl
 task_dashes (Drill g) = refl
 
 abbrev has_dashes : List Text → Bool
@@ -208,6 +210,7 @@ own_names_of Solve = refl
 own_names_of LeftKernel = refl
 own_names_of Inverse = refl
 own_names_of Pivots = refl
+own_names_of Check = refl
 own_names_of (Drill g) = refl
 
 -- tasks of one name have the same options
@@ -255,6 +258,7 @@ rules_for c = go c.task
     go LeftKernel = refl
     go Inverse = refl
     go Pivots = refl
+    go Check = refl
     go (Drill g) = refl
 
 -- the command of a name with these numbers
@@ -272,6 +276,7 @@ decoded_task Solve = refl
 decoded_task LeftKernel = refl
 decoded_task Inverse = refl
 decoded_task Pivots = refl
+decoded_task Check = refl
 decoded_task (Drill g) = refl
 
 decode : Text → List ℕ → Option Command

@@ -4,7 +4,7 @@ use Rattle.std.specs.Prelude.{unwrap_or}
 use Rattle.residue_words.specs.declared.modulus.TheConstants.{MODULUS_BOUND}
 use Rattle.spasm_run.specs.declared.words.Command.{Command}
 use Rattle.spasm_run.specs.declared.words.Task.{Task}
-use Rattle.spasm_run.specs.declared.words.Task.TheVariants.{Rank, Rref, Kernel, Solve, LeftKernel, Inverse, Pivots, Drill}
+use Rattle.spasm_run.specs.declared.words.Task.TheVariants.{Rank, Rref, Kernel, Solve, LeftKernel, Inverse, Pivots, Check, Drill}
 use Rattle.spasm_run.specs.Computed.{IsOfSizes}
 use Rattle.spasm_run.specs.Words.{Accepted, Given, IsNumber, IsSetBy, Rule, cols_rule, modulus_rule, own_settings, rows_rule, setting, workers_rule}
 
@@ -39,6 +39,7 @@ own_sizes options Solve set = tt
 own_sizes options LeftKernel set = tt
 own_sizes options Inverse set = tt
 own_sizes options Pivots set = tt
+own_sizes options Check set = tt
 own_sizes options (Drill g) set =
     let rows = set 1 (setting rows_rule 0) (omega arith) in
     let cols = set 2 (setting cols_rule 0) (omega arith) in

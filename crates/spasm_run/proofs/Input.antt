@@ -1,20 +1,24 @@
--- From the calls of a reader to the matrices that were read.
-use Rattle.std.proofs.Common.{ℕ, false, ◌≡◌, List, [], ◌∷◌, ◌++◌, None, Result, Ok, Err, refl, sym, ap, ◌∙◌, subst, append-nil}
+-- From the calls of a reader to what was read.
+use Rattle.std.proofs.Common.{ℕ, false, ◌≡◌, List, [], ◌∷◌, ◌++◌, None, Result, Ok, Err, refl, sym, ap, ap₂, ◌∙◌, subst, append-nil}
 use Rattle.residue_words.specs.Matrix.{Matrix}
+use Rattle.sms_text.specs.OuterLines as form
 use Rattle.sms_text.specs.declared.kind.TextError.{TextError}
 use Rattle.sms_text.specs.declared.kind.TextError.TheVariants as error
 use Rattle.sms_text.specs.Lines.{lines}
-use Rattle.sms_text.specs.Parts.{IsReadAs, IsTooShort, IsUnread, PartDid, ReadsPart, wants}
+use Rattle.sms_text.specs.Parts.{IsReadAs, IsTooShort, IsUnread, PartDid, ReadsPart, open_at, wants}
 use Rattle.sms_text.specs.Reading.{InputState, IsShort, ReaderState, input, new_reader, read_on, supply, untouched, with_items}
 use Rattle.sms_text.specs.ReadingRows.{RowsDid, SaysRows}
 use Rattle.sms_text.specs.Stream.{SourceState}
-use Rattle.sms_text.specs.Text.{Due, Header, Got, Item, Request, matrices}
+use Rattle.sms_text.specs.Text.{Due, Header, Outer, Got, Item, Request, matrices, outer_lines}
 use Rattle.sms_text.proofs.Moving.{draws_none, draws_with, stays_at}
-use Rattle.sms_text.proofs.Parts.{ReadSoFar, first_missed, part_sound, so_far_begins, so_far_ends}
+use Rattle.sms_text.proofs.Parts.{ReadSoFar, first_missed, part_missed, part_reads, part_sound, part_taken, so_far_begins, so_far_ends}
 use Rattle.sms_text.proofs.ReadingMatrices.{rows_missed, rows_taken}
 use Rattle.sms_text.proofs.Runs.{with_items_got}
 use Rattle.sparse_rows.specs.Rows.{ResidueMatrix}
-use Rattle.spasm_run.specs.Input.{Input, SaysMatrices, WasRead, one_value}
+use Rattle.certificates.specs.declared.certificate.Certificate.{Certificate}
+use Rattle.certificates.specs.CertificateText.{HasLines, SaysCertificate}
+use Rattle.spasm_run.specs.Contents.{AreToCheck, Contents, contents, matrices_alone}
+use Rattle.spasm_run.specs.Input.{Input, SaysContents, WasRead, WereRead, one_value}
 
 -- what is due from the first line on
 abbrev pub from_start : ℕ → ℕ → List Due → Request
@@ -25,7 +29,7 @@ pub read_nothing : (r : Request) (source : SourceState) → WasRead r (Err error
 read_nothing r source = record { input = record { bytes = []; ended = false }; draws = draws_none (IsShort r) (untouched source); says = tt }
 
 -- where no text is due, all is read
-pub all_read : (p limit : ℕ) (source : SourceState) → WasRead (from_start p limit []) (Ok []) source source
+pub all_read : (p limit : ℕ) (source : SourceState) → WasRead (from_start p limit []) (Ok (matrices_alone [])) source source
 all_read p limit source = record {
   input = record { bytes = []; ended = false };
   draws = draws_none (IsShort (from_start p limit [])) (untouched source);
@@ -52,9 +56,9 @@ module _ {T : Type 0} (p limit : ℕ) (due : List Due) (Means : T → List Item 
       ∙ is.stands.reads new.reader.ended [] [] (stays_at new.reader.ended)
       ∙ ap (λ ds. with_items is.items (read_on p new.reader.ended (ds ++ []) new.reader [])) none ∙ with_items_got is.items (lines (new.reader.kept ++ []))
 
-  found_parts : (x : T) (values : List Matrix) → ((items : List Item) (rest : List Due) → Means x items rest → (rest ≡ []) × (matrices p items ≡ values)) →
-      ReadsPart (wants p due) Means begun new (Ok x) → WasRead (from_start p limit due) (Ok values) source new.source
-  found_parts x values are did =
+  found_parts : (x : T) (said : Contents) → ((items : List Item) (rest : List Due) → Means x items rest → (rest ≡ []) × (contents p items ≡ said)) →
+      ReadsPart (wants p due) Means begun new (Ok x) → WasRead (from_start p limit due) (Ok said) source new.source
+  found_parts x said are did =
       let means = are did.reads.items did.reads.due did.reads.means in
       record {
         input = taken_by did.taken;
@@ -67,7 +71,7 @@ module _ {T : Type 0} (p limit : ℕ) (due : List Due) (Means : T → List Item 
         };
       }
 
-  unread_says : (taken : List ℕ) (e : TextError) → IsUnread (wants p due) (new_reader limit) new.reader taken e → SaysMatrices (from_start p limit due) (taken_by taken) (Err e)
+  unread_says : (taken : List ℕ) (e : TextError) → IsUnread (wants p due) (new_reader limit) new.reader taken e → SaysContents (from_start p limit due) (taken_by taken) (Err e)
   unread_says taken (error.Bad line k) why = ap (λ ds. read_on p new.reader.ended ds (new_reader limit) taken) (sym (append-nil due)) ∙ why.1 []
   unread_says taken error.Read why = ap (λ ds. read_on p new.reader.ended ds (new_reader limit) taken) (sym (append-nil due)) ∙ why.1 []
   unread_says taken error.Memory why = tt
@@ -79,64 +83,112 @@ module _ {T : Type 0} (p limit : ℕ) (due : List Due) (Means : T → List Item 
     says = unread_says did.taken e did.reads;
   }
 
--- parts were read from a new reader on, and mean these matrices; or they weren't
-pub parts_read : {T : Type 0} (p limit : ℕ) (due : List Due) (Means : T → List Item → List Due → Type 0) (reader : ReaderState) (source : SourceState) (new : InputState) (x : T) (values : List Matrix) → reader ≡ new_reader limit →
-    ((items : List Item) (rest : List Due) → Means x items rest → (rest ≡ []) × (matrices p items ≡ values)) →
-    PartDid (wants p due) Means (input reader source) new (Ok x) → WasRead (from_start p limit due) (Ok values) source new.source
-parts_read p limit due Means reader source new x values begins are did =
-    let P : ReaderState → Type 0 = λ o. PartDid (wants p due) Means (input o source) new (Ok x) in found_parts p limit due Means source new x values are (subst P begins did)
+-- parts were read from a new reader on, and mean these contents; or they weren't
+pub parts_read : {T : Type 0} (p limit : ℕ) (due : List Due) (Means : T → List Item → List Due → Type 0) (reader : ReaderState) (source : SourceState) (new : InputState) (x : T) (said : Contents) → reader ≡ new_reader limit →
+    ((items : List Item) (rest : List Due) → Means x items rest → (rest ≡ []) × (contents p items ≡ said)) →
+    PartDid (wants p due) Means (input reader source) new (Ok x) → WasRead (from_start p limit due) (Ok said) source new.source
+parts_read p limit due Means reader source new x said begins are did =
+    let P : ReaderState → Type 0 = λ o. PartDid (wants p due) Means (input o source) new (Ok x) in found_parts p limit due Means source new x said are (subst P begins did)
 
 pub parts_unread : {T : Type 0} (p limit : ℕ) (due : List Due) (Means : T → List Item → List Due → Type 0) (reader : ReaderState) (source : SourceState) (new : InputState) (e : TextError) → reader ≡ new_reader limit →
     PartDid (wants p due) Means (input reader source) new (Err e) → WasRead (from_start p limit due) (Err e) source new.source
 parts_unread p limit due Means reader source new e begins did =
     let P : ReaderState → Type 0 = λ o. PartDid (wants p due) Means (input o source) new (Err e) in failed_parts p limit due Means source new e (subst P begins did)
 
+-- items say these matrices and these lines
+contents_are : (p : ℕ) (items : List Item) (values : List Matrix) (ls : List (List (List ℕ))) → matrices p items ≡ values → outer_lines items ≡ ls → contents p items ≡ record { matrices = values; lines = ls }
+contents_are p items values ls m l = ap₂ said m l
+  where
+    said : List Matrix → List (List (List ℕ)) → Contents
+    said values ls = record { matrices = values; lines = ls }
+
 -- a text is one matrix
-one_matrix : (p : ℕ) (A : ResidueMatrix) (items : List Item) (rest : List Due) → SaysRows p A items rest → (rest ≡ []) × (matrices p items ≡ A.matrix ∷ [])
-one_matrix p A items rest is = (is.whole, ap (matrices p) (sym (append-nil items)) ∙ is.matrix [])
+one_matrix : (p : ℕ) (A : ResidueMatrix) (items : List Item) (rest : List Due) → SaysRows p A items rest → (rest ≡ []) × (contents p items ≡ matrices_alone (A.matrix ∷ []))
+one_matrix p A items rest is = (
+  is.whole,
+  contents_are p items (A.matrix ∷ []) [] (ap (matrices p) (sym (append-nil items)) ∙ is.matrix []) (ap outer_lines (sym (append-nil items)) ∙ is.inside []),
+)
 
 -- one text was read, or not
 pub one_read : (p limit : ℕ) (reader : ReaderState) (source : SourceState) (new : InputState) (result : Result ResidueMatrix TextError) → reader ≡ new_reader limit →
     RowsDid p (input reader source) new result → WasRead (from_start p limit (Header ∷ [])) (one_value result) source new.source
-one_read p limit reader source new (Ok A) begins did = parts_read p limit (Header ∷ []) (SaysRows p) reader source new A (A.matrix ∷ []) begins (one_matrix p A) did
+one_read p limit reader source new (Ok A) begins did = parts_read p limit (Header ∷ []) (SaysRows p) reader source new A (matrices_alone (A.matrix ∷ [])) begins (one_matrix p A) did
 one_read p limit reader source new (Err e) begins did = parts_unread p limit (Header ∷ []) (SaysRows p) reader source new e begins did
-
--- two texts
-abbrev both : List Due
-both = Header ∷ Header ∷ []
-
--- these items are two texts, of these matrices
-abbrev AreTwo : ℕ → (ResidueMatrix × ResidueMatrix) → List Item → List Due → Type 0
-AreTwo p both items rest = (rest ≡ []) × (matrices p items ≡ both.0.matrix ∷ both.1.matrix ∷ [])
 
 closed_at_first : (limit : ℕ) (reader : ReaderState) → reader ≡ new_reader limit → reader.open_text ≡ None
 closed_at_first limit reader begins = ap (λ r. r.open_text) begins
 
--- of two texts the first was not read
-pub first_unread : (p limit : ℕ) (reader : ReaderState) (source : SourceState) (new : InputState) (e : TextError) → reader ≡ new_reader limit →
-    RowsDid p (input reader source) new (Err e) → WasRead (from_start p limit both) (Err e) source new.source
-first_unread p limit reader source new e begins did =
-    parts_unread p limit both (AreTwo p) reader source new e begins
-    (first_missed p (Header ∷ []) (Header ∷ []) (SaysRows p) (AreTwo p) (input reader source) new e (closed_at_first limit reader begins) refl did)
+-- a matrix was not read, whatever is due behind it
+pub first_unread : (p limit : ℕ) (due : List Due) (reader : ReaderState) (source : SourceState) (new : InputState) (e : TextError) → open_at due ≡ None → reader ≡ new_reader limit →
+    RowsDid p (input reader source) new (Err e) → WasRead (from_start p limit (Header ∷ due)) (Err e) source new.source
+first_unread p limit due reader source new e closed begins did =
+    parts_unread p limit (Header ∷ due) (SaysRows p) reader source new e begins
+    (first_missed p (Header ∷ []) due (SaysRows p) (SaysRows p) (input reader source) new e (closed_at_first limit reader begins) closed did)
 
--- behind a first text
+-- these items are two texts, of these matrices
+abbrev AreTwo : ℕ → (ResidueMatrix × ResidueMatrix) → List Item → List Due → Type 0
+AreTwo p both items rest = (rest ≡ []) × (contents p items ≡ matrices_alone (both.0.matrix ∷ both.1.matrix ∷ []))
+
+-- a matrix, and a certificate behind it
+abbrev pub to_check : List Due
+to_check = Header ∷ Outer form.Certificate ∷ []
+
+-- these items say these contents
+abbrev AreSaid : ℕ → Contents → List Item → List Due → Type 0
+AreSaid p said items rest = (rest ≡ []) × (contents p items ≡ said)
+
+all_matrices : (p : ℕ) (items : List Item) (ls : List (List (List ℕ))) (values : List Matrix) → HasLines p items ls values → matrices p items ≡ values
+all_matrices p items ls values has = ap (matrices p) (sym (append-nil items)) ∙ has.matrices [] ∙ append-nil values
+
+all_lines : (p : ℕ) (items : List Item) (ls : List (List (List ℕ))) (values : List Matrix) → HasLines p items ls values → outer_lines items ≡ ls
+all_lines p items ls values has = ap outer_lines (sym (append-nil items)) ∙ has.words [] ∙ append-nil ls
+
+-- behind a first matrix
 module _ (p limit : ℕ) (reader : ReaderState) (source : SourceState) (mid new : InputState) (A : ResidueMatrix) (begins : reader ≡ new_reader limit) (first : RowsDid p (input reader source) mid (Ok A)) where
-  behind_first : (items : List Item) × SaysRows p A items [] × ReadSoFar (wants p both) (input reader source) mid items (Header ∷ [])
-  behind_first = rows_taken (wants p both) (Header ∷ []) (input reader source) (input reader source) mid [] A
-      (so_far_begins (wants p both) (input reader source) (part_sound (wants p (Header ∷ [])) (SaysRows p) (input reader source) mid A first) (closed_at_first limit reader begins)) refl first
+  behind_first : (due : List Due) → open_at due ≡ None → (items : List Item) × SaysRows p A items [] × ReadSoFar (wants p (Header ∷ due)) (input reader source) mid items due
+  behind_first due closed = rows_taken (wants p (Header ∷ due)) due (input reader source) (input reader source) mid [] A
+      (so_far_begins (wants p (Header ∷ due)) (input reader source) (part_sound (wants p (Header ∷ [])) (SaysRows p) (input reader source) mid A first) (closed_at_first limit reader begins)) closed first
 
-  -- both were read
-  pub two_read : (B : ResidueMatrix) → RowsDid p mid new (Ok B) → WasRead (from_start p limit both) (Ok (A.matrix ∷ B.matrix ∷ [])) source new.source
+  -- a second one was read
+  pub two_read : (B : ResidueMatrix) → RowsDid p mid new (Ok B) → WasRead (from_start p limit (Header ∷ Header ∷ [])) (Ok (matrices_alone (A.matrix ∷ B.matrix ∷ []))) source new.source
   two_read B second =
-      let s = behind_first in
-      let t = rows_taken (wants p both) [] (input reader source) mid new s.0 B s.2 refl second in
-      parts_read p limit both (AreTwo p) reader source new (A, B) (A.matrix ∷ B.matrix ∷ []) begins (λ items rest is. is)
-      (so_far_ends (wants p both) (AreTwo p) (input reader source) new (s.0 ++ t.0) [] (A, B) t.2
-      (refl, s.1.matrix t.0 ∙ ap (λ ms. A.matrix ∷ ms) (one_matrix p B t.0 [] t.1).1))
+      let s = behind_first (Header ∷ []) refl in
+      let t = rows_taken (wants p (Header ∷ Header ∷ [])) [] (input reader source) mid new s.0 B s.2 refl second in
+      let last = t.1 in
+      parts_read p limit (Header ∷ Header ∷ []) (AreTwo p) reader source new (A, B) (matrices_alone (A.matrix ∷ B.matrix ∷ [])) begins (λ items rest is. is)
+      (so_far_ends (wants p (Header ∷ Header ∷ [])) (AreTwo p) (input reader source) new (s.0 ++ t.0) [] (A, B) t.2 (
+        refl,
+        contents_are p (s.0 ++ t.0) (A.matrix ∷ B.matrix ∷ []) []
+            (s.1.matrix t.0 ∙ ap (λ ms. A.matrix ∷ ms) (ap (matrices p) (sym (append-nil t.0)) ∙ last.matrix [])) (s.1.inside t.0 ∙ ap outer_lines (sym (append-nil t.0)) ∙ last.inside []),
+      ))
 
-  -- the second was not
-  pub second_unread : (e : TextError) → RowsDid p mid new (Err e) → WasRead (from_start p limit both) (Err e) source new.source
+  -- or not
+  pub second_unread : (e : TextError) → RowsDid p mid new (Err e) → WasRead (from_start p limit (Header ∷ Header ∷ [])) (Err e) source new.source
   second_unread e second =
-      let s = behind_first in
-      parts_unread p limit both (AreTwo p) reader source new e begins
-      (rows_missed (wants p both) [] (AreTwo p) (input reader source) mid new s.0 e s.2 refl second)
+      let s = behind_first (Header ∷ []) refl in
+      parts_unread p limit (Header ∷ Header ∷ []) (AreTwo p) reader source new e begins
+      (rows_missed (wants p (Header ∷ Header ∷ [])) [] (AreTwo p) (input reader source) mid new s.0 e s.2 refl second)
+
+  -- a certificate was read
+  pub certificate_read : (c : Certificate) → PartDid (wants p (Outer form.Certificate ∷ [])) (SaysCertificate p) mid new (Ok c) → WereRead (from_start p limit to_check) (Ok (A, c)) source new.source
+  certificate_read c second =
+      let s = behind_first (Outer form.Certificate ∷ []) refl in
+      let r = part_reads (wants p (Outer form.Certificate ∷ [])) (SaysCertificate p) mid new (Ok c) s.2.stands.sound second in
+      let m = r.reads.means in
+      let so_far = part_taken (wants p to_check) (Outer form.Certificate ∷ []) [] (SaysCertificate p) (input reader source) mid new s.0 s.2 refl c r in
+      let said : Contents = record { matrices = A.matrix ∷ m.values; lines = m.lines } in
+      let are : contents p (s.0 ++ r.reads.items) ≡ said = contents_are p (s.0 ++ r.reads.items) (A.matrix ∷ m.values) m.lines
+      (s.1.matrix r.reads.items ∙ ap (λ ms. A.matrix ∷ ms) (all_matrices p r.reads.items m.lines m.values m.has))
+      (s.1.inside r.reads.items ∙ all_lines p r.reads.items m.lines m.values m.has) in (
+        said,
+        parts_read p limit to_check (AreSaid p) reader source new said said begins (λ items rest is. is)
+            (so_far_ends (wants p to_check) (AreSaid p) (input reader source) new (s.0 ++ r.reads.items) (r.reads.due ++ []) said so_far (append-nil r.reads.due ∙ m.whole, are)),
+        record { behind = m.values; matrices = refl; says = m.said },
+      )
+
+  -- or not
+  pub certificate_unread : (e : TextError) → PartDid (wants p (Outer form.Certificate ∷ [])) (SaysCertificate p) mid new (Err e) → WasRead (from_start p limit to_check) (Err e) source new.source
+  certificate_unread e second =
+      let s = behind_first (Outer form.Certificate ∷ []) refl in
+      parts_unread p limit to_check (AreSaid p) reader source new e begins
+      (part_missed (wants p to_check) (Outer form.Certificate ∷ []) [] (SaysCertificate p) (input reader source) mid new s.0 s.2 refl (AreSaid p) e second)

@@ -17,6 +17,7 @@ pub mod Spreading
 pub mod Stays
 pub mod Summaries
 pub mod SpelledNumbers
+pub mod Verdicts
 pub mod Walks
 pub mod Whole
 pub mod Written

@@ -19,7 +19,7 @@ use Rattle.spasm_run.specs.Options.{AsksFor, IsTaskOf, RowsSet}
 use Rattle.spasm_run.specs.Words.{IsNumber, Rule, Setting, cols_rule, modulus_rule, own_settings, per_rule, rounds_rule, rows_rule, seed_rule, setting, settings, task_name, workers_rule}
 use Rattle.spasm_run.specs.declared.generator.Generator.{Generator}
 use Rattle.spasm_run.specs.declared.words.Task.{Task}
-use Rattle.spasm_run.specs.declared.words.Task.TheVariants.{Rank, Rref, Kernel, Solve, LeftKernel, Inverse, Pivots, Drill}
+use Rattle.spasm_run.specs.declared.words.Task.TheVariants.{Rank, Rref, Kernel, Solve, LeftKernel, Inverse, Pivots, Check, Drill}
 use Rattle.spasm_run.specs.declared.words.Command.{Command}
 use Rattle.spasm_run.proofs.Accepting.{differ}
 use Rattle.spasm_run.proofs.Program.{line_is_simple}
@@ -126,4 +126,5 @@ no_drill name rows e h Solve (n, all) = differ (codes "drill") (codes "solve") r
 no_drill name rows e h LeftKernel (n, all) = differ (codes "drill") (codes "leftkernel") refl (sym e ∙ n)
 no_drill name rows e h Inverse (n, all) = differ (codes "drill") (codes "inverse") refl (sym e ∙ n)
 no_drill name rows e h Pivots (n, all) = differ (codes "drill") (codes "pivots") refl (sym e ∙ n)
+no_drill name rows e h Check (n, all) = differ (codes "drill") (codes "check") refl (sym e ∙ n)
 no_drill name rows e h (Drill g) (n, all) = h g all

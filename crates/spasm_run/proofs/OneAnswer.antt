@@ -11,8 +11,9 @@ use Rattle.sparse_rows.specs.Rows.{transposed}
 use Rattle.spasm_run.specs.declared.words.Task.TheVariants as task
 use Rattle.spasm_run.specs.declared.words.Command.{Command}
 use Rattle.spasm_run.specs.declared.words.Task.{Task}
+use Rattle.spasm_run.specs.Contents.{Contents}
 use Rattle.spasm_run.specs.Generator.{generated, summary_of}
-use Rattle.spasm_run.specs.Answers.{AnswerTo, InvertsTo, IsOneAnswer, SolvesTo, as_row, misfit, pivots_text, rank_text}
+use Rattle.spasm_run.specs.Answers.{AnswerTo, InvertsTo, IsOneAnswer, MatricesAnswer, SolvesTo, VerdictOn, as_row, misfit, pivots_text, rank_text}
 use Rattle.spasm_run.proofs.OneSelection.{selection_one}
 
 -- a system's answer
@@ -42,8 +43,14 @@ one_kernel p A K L x y same a b = a ∙ ap text_of same ∙ sym b
 squared : (A : Matrix) → misfit task.Inverse (A ∷ []) ≡ None → A.height ≡ A.width
 squared A fits = grind (arith, nat_tests)
 
+one_verdict : (p : ℕ) (said : Contents) (x y : List ℕ) → VerdictOn p said x → VerdictOn p said y → x ≡ y
+one_verdict p said x y (inl s) (inl t) = s.1 ∙ sym t.1
+one_verdict p said x y (inl s) (inr t) = absurd (t.0 s.0)
+one_verdict p said x y (inr s) (inl t) = absurd (s.0 t.0)
+one_verdict p said x y (inr s) (inr t) = s.1 ∙ sym t.1
+
 answers_one : (t : Task) (c : Command) (values : List Matrix) (x y : List ℕ) → 2 ≤ c.modulus → misfit t values ≡ None → (t ≡ task.Pivots → c.workers ≡ 1) →
-    AnswerTo t c values x → AnswerTo t c values y → x ≡ y
+    MatricesAnswer t c values x → MatricesAnswer t c values y → x ≡ y
 answers_one task.Rank c (A ∷ []) x y two fits alone (r, s, a) (q, t, b) = a ∙ ap rank_text (rank_unique c.modulus A r q two s t) ∙ sym b
 answers_one task.Rref c (A ∷ []) x y two fits alone (E, s, a) (F, t, b) = one_kernel c.modulus A E F x y (rref_unique c.modulus A E F two s t) a b
 answers_one task.Kernel c (A ∷ []) x y two fits alone (K, s, a) (L, t, b) = one_kernel c.modulus A K L x y (kernel_unique c.modulus A K L two s t) a b
@@ -71,7 +78,19 @@ answers_one task.Pivots c (A ∷ B ∷ values) x y two fits alone s t = absurd s
 answers_one task.Solve c [] x y two fits alone s t = absurd s
 answers_one task.Solve c (A ∷ []) x y two fits alone s t = absurd s
 answers_one task.Solve c (A ∷ B ∷ C ∷ values) x y two fits alone s t = absurd s
+answers_one task.Check c values x y two fits alone s t = absurd s
 answers_one (task.Drill g) c (A ∷ values) x y two fits alone s t = absurd s
 
 pub one_answer : IsOneAnswer
-one_answer c values x y two fits alone s t = answers_one c.task c values x y two fits alone s t
+one_answer c said x y two fits alone s t = go c.task fits alone s t
+  where
+    go : (t : Task) → misfit t said.matrices ≡ None → (t ≡ task.Pivots → c.workers ≡ 1) → AnswerTo t c said x → AnswerTo t c said y → x ≡ y
+    go task.Rank fits alone s t = answers_one task.Rank c said.matrices x y two fits alone s t
+    go task.Rref fits alone s t = answers_one task.Rref c said.matrices x y two fits alone s t
+    go task.Kernel fits alone s t = answers_one task.Kernel c said.matrices x y two fits alone s t
+    go task.Solve fits alone s t = answers_one task.Solve c said.matrices x y two fits alone s t
+    go task.LeftKernel fits alone s t = answers_one task.LeftKernel c said.matrices x y two fits alone s t
+    go task.Inverse fits alone s t = answers_one task.Inverse c said.matrices x y two fits alone s t
+    go task.Pivots fits alone s t = answers_one task.Pivots c said.matrices x y two fits alone s t
+    go task.Check fits alone s t = one_verdict c.modulus said x y s t
+    go (task.Drill g) fits alone s t = answers_one (task.Drill g) c said.matrices x y two fits alone s t

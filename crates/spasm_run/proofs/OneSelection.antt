@@ -21,6 +21,7 @@ use Rattle.spasm_run.specs.declared.answer.Answer.TheVariants as answer
 use Rattle.spasm_run.specs.declared.words.Task.TheVariants as task
 use Rattle.sms_text.specs.Written.{IsSmallPlace}
 use Rattle.spasm_run.specs.Computed.{IsAnswerTo, asking}
+use Rattle.spasm_run.specs.Contents.{matrices_alone}
 use Rattle.spasm_run.specs.declared.words.Command.{Command}
 use Rattle.triangular_solve.proofs.Listing.{col_is, no_pair, place_of, triangular_order_one}
 
@@ -67,7 +68,7 @@ small_places A qs is high wide = λ k d l.
 pub pivots_answer : (a : ResidueMatrix) (c : Command) (first all : BookState) (listed : List Pair) (pairs : Vec Pair Global) → first.rows ≡ a → IsLeftmost a.matrix first.pairs →
     all.rows ≡ first.rows → StartsWith all.pairs first.pairs → Maximal first.rows.matrix all.pairs → (c.workers ≡ 1 → IsGreedyFrom first all) →
     IsTriangularOrder all.rows.matrix all.pairs listed → pairs.items ≡ listed → a.matrix.height ≤ LARGEST_SIZE → a.matrix.width ≤ LARGEST_SIZE →
-    IsAnswerTo (asking task.Pivots a.modulus c) (a.matrix ∷ []) (answer.Pivots pairs)
+    IsAnswerTo (asking task.Pivots a.modulus c) (matrices_alone (a.matrix ∷ [])) (answer.Pivots pairs)
 pivots_answer a c first all listed pairs rows leftmost same begins maximal greedy order copied high wide =
     let A : Matrix = a.matrix in
     let here : first.rows.matrix ≡ A = ap (λ (r : ResidueMatrix). r.matrix) rows in
@@ -78,5 +79,6 @@ pivots_answer a c first all listed pairs rows leftmost same begins maximal greed
     let first_most : c.workers ≡ 1 → IsGreedy A first.pairs all.pairs = λ one. subst (λ (M : Matrix). IsGreedy M first.pairs all.pairs) here (greedy one) in record {
       small = small_places A pairs.items ordered.triangular high wide;
       fits = refl;
+      ends = refl;
       answers = λ prime. (pairs.items, selected A c.workers first.pairs all.pairs pairs.items leftmost begins most ordered first_most, refl);
     }

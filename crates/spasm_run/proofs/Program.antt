@@ -15,7 +15,7 @@ use Rattle.spasm_run.specs.Words.{names_of, own_settings, task_name}
 use Rattle.spasm_run.specs.Line.{command_line, commands, option_names}
 use Rattle.spasm_run.specs.declared.generator.Generator.{Generator}
 use Rattle.spasm_run.specs.declared.words.Task.{Task}
-use Rattle.spasm_run.specs.declared.words.Task.TheVariants.{Rank, Rref, Kernel, Solve, LeftKernel, Inverse, Pivots, Drill}
+use Rattle.spasm_run.specs.declared.words.Task.TheVariants.{Rank, Rref, Kernel, Solve, LeftKernel, Inverse, Pivots, Check, Drill}
 use Rattle.spasm_run.proofs.Spelled.{Spelled, Joined, Apart, Other, spelled_as}
 use Rattle.spasm_run.proofs.Walks.{Refused, AsPlain, command_of, flags_of, none_first, rules_of}
 
@@ -28,7 +28,7 @@ abbrev anything : Generator
 anything = record { seed = 0; rows = 0; cols = 0; per = 0 }
 
 abbrev pub tasks : List Task
-tasks = Rank ∷ Rref ∷ Kernel ∷ Solve ∷ LeftKernel ∷ Inverse ∷ Pivots ∷ Drill anything ∷ []
+tasks = Rank ∷ Rref ∷ Kernel ∷ Solve ∷ LeftKernel ∷ Inverse ∷ Pivots ∷ Check ∷ Drill anything ∷ []
 
 -- the program as building leaves it
 abbrev top : Shape
@@ -78,6 +78,7 @@ met Solve = refl
 met LeftKernel = refl
 met Inverse = refl
 met Pivots = refl
+met Check = refl
 met (Drill g) = refl
 
 met_turn : (t : Task) → turn_fault top labels start (task_name t) ≡ []
@@ -88,6 +89,7 @@ met_turn Solve = refl
 met_turn LeftKernel = refl
 met_turn Inverse = refl
 met_turn Pivots = refl
+met_turn Check = refl
 met_turn (Drill g) = refl
 
 entered_task : (t : Task) (rest : List Text) → entered program (Some (task_name t, rest)) ≡ Some (task_name t, rows_after (rules_of (task_names t)) [] rest)
@@ -98,6 +100,7 @@ entered_task Solve rest = refl
 entered_task LeftKernel rest = refl
 entered_task Inverse rest = refl
 entered_task Pivots rest = refl
+entered_task Check rest = refl
 entered_task (Drill g) rest = refl
 
 fault_below : (t : Task) (rest : List Text) → entered_fault program (Some (task_name t, rest)) ≡ level_fault (command_of (task_name t) (task_names t)) [] nothing_held rest false []
@@ -108,6 +111,7 @@ fault_below Solve rest = refl
 fault_below LeftKernel rest = refl
 fault_below Inverse rest = refl
 fault_below Pivots rest = refl
+fault_below Check rest = refl
 fault_below (Drill g) rest = refl
 
 walk_of : (t : Task) (rest : List Text) → walk [] labels nothing_held (task_name t ∷ rest) ≡ stopped_at (task_name t) rest

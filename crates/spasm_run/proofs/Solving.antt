@@ -25,6 +25,7 @@ use Rattle.sparse_rows.specs.declared.rows.TheConstants.{LARGEST_SIZE}
 use Rattle.spasm_run.specs.declared.commands.TheConstants.{LARGEST_INVERTED}
 use Rattle.spasm_run.specs.Answers.{as_row, misfit}
 use Rattle.spasm_run.specs.Computed.{IsAnswerTo, AnswersSystem, asking}
+use Rattle.spasm_run.specs.Contents.{matrices_alone}
 use Rattle.spasm_run.specs.declared.words.Command.{Command}
 
 sized : ℕ → ℕ → List (List ℕ) → Matrix
@@ -99,11 +100,12 @@ module _ (p : ℕ) (A B : Matrix) (ma : IsMatrix p A) (mb : IsMatrix p B) (heigh
 
   -- the solution answers, or what refutes the system
   pub solution_answers : (c : Command) (q : ℕ) (S : Matrix) (found : Found) (x : ResidueMatrix) → A.width < LARGEST_SIZE → q ≡ p → S ≡ beside A B → HasShape q S.width found → AnswersSystem q S found → found ≡ Solution x →
-      IsAnswerTo (asking task.Solve p c) (A ∷ B ∷ []) (answer.Solution x)
+      IsAnswerTo (asking task.Solve p c) (matrices_alone (A ∷ B ∷ [])) (answer.Solution x)
   solution_answers c q S found x wide modulus matrix shape tells here =
       let sizes = subst (HasShape q S.width) here shape in record {
         small = (omega (arith, sizes.2, ap (λ m. m.width) matrix), omega (arith, sizes.3));
         fits = side_fits;
+        ends = refl;
         answers = λ prime.
             let told = subst (Answers p A (column B)) here (told_of q S found prime modulus matrix tells) in
             inl (column x.matrix, told.1, ap (λ X. codes "solution\n" ++ text_of X) (column_whole x.matrix sizes.1 sizes.3));
@@ -111,10 +113,11 @@ module _ (p : ℕ) (A B : Matrix) (ma : IsMatrix p A) (mb : IsMatrix p B) (heigh
 
   pub refutation_answers : (c : Command) (q : ℕ) (S : Matrix) (found : Found) (y : ResidueMatrix) → A.height < LARGEST_SIZE → q ≡ p → S ≡ beside A B → AnswersSystem q S found → found ≡ Inconsistent →
       y.matrix ≡ as_row (row y.matrix 0) → y.matrix.width ≡ A.height → (IsPrime p → ((x : List ℕ) → ¬ IsSolution p A (column B) x) → IsRefutingCombination p A (column B) (row y.matrix 0)) →
-      IsAnswerTo (asking task.Solve p c) (A ∷ B ∷ []) (answer.Refutation y)
+      IsAnswerTo (asking task.Solve p c) (matrices_alone (A ∷ B ∷ [])) (answer.Refutation y)
   refutation_answers c q S found y tall modulus matrix tells here one_row width refutes = record {
     small = (omega (arith, ap (λ m. m.height) one_row), omega (arith, width));
     fits = side_fits;
+    ends = refl;
     answers = λ prime.
         let none : (x : List ℕ) → ¬ IsSolution p A (column B) x = subst (Answers p A (column B)) here (told_of q S found prime modulus matrix tells) in
         inr (row y.matrix 0, none, refutes prime none, ap (λ Y. codes "no solution\n" ++ text_of Y) one_row);
@@ -122,11 +125,12 @@ module _ (p : ℕ) (A B : Matrix) (ma : IsMatrix p A) (mb : IsMatrix p B) (heigh
 
 -- where a square matrix has a null vector that is not zero, it has no inverse, and what is told is the first row of its kernel basis
 pub singular_answers : (c : Command) (p : ℕ) (A : Matrix) (found : Inverse) (v : ResidueMatrix) → InverseExcludesNull → A.height ≡ A.width → A.height ≤ LARGEST_INVERTED →
-    HasInverseShape p A.width found → (IsPrime p → Inverts p A found) → found ≡ Singular v → IsAnswerTo (asking task.Inverse p c) (A ∷ []) (answer.Singular v)
+    HasInverseShape p A.width found → (IsPrime p → Inverts p A found) → found ≡ Singular v → IsAnswerTo (asking task.Inverse p c) (matrices_alone (A ∷ [])) (answer.Singular v)
 singular_answers c p A found v law square narrow shape inverts here =
     let sizes = subst (HasInverseShape p A.width) here shape in record {
       small = (omega (arith, sizes.2), omega (arith, sizes.3));
       fits = inverse_fits A square narrow;
+      ends = refl;
       answers = λ prime.
           let (null, nonzero, (K, kernel, some, same)) = subst (Inverts p A) here (inverts prime) in
           inr (

@@ -10,11 +10,12 @@ use Rattle.spasm_run.specs.declared.summary.Summary.{Summary}
 use Rattle.spasm_run.specs.declared.words.Command.{Command}
 use Rattle.spasm_run.specs.declared.words.Task.TheVariants.{Drill}
 use Rattle.spasm_run.specs.Computed.{IsAnswerTo, asking}
+use Rattle.spasm_run.specs.Contents.{matrices_alone}
 use Rattle.spasm_run.specs.Generator.{generated, place_sum, summary_of, summary_text}
 
 pub summary_answers : (c : Command) (g : Generator) (p : ℕ) (a form : ResidueMatrix) (f : Form) (s : Summary) → a.modulus ≡ p → a.matrix ≡ generated p g →
     IsFormOf a.modulus a.matrix f → form.modulus ≡ f.modulus → form.matrix ≡ f.matrix → s.rank ≡ form.matrix.height → s.entries ≡ entry_count form.matrix →
-    s.sum ≡ place_sum form.modulus form.matrix → IsAnswerTo (asking (Drill g) p c) [] (answer.Summary s)
+    s.sum ≡ place_sum form.modulus form.matrix → IsAnswerTo (asking (Drill g) p c) (matrices_alone []) (answer.Summary s)
 summary_answers c g p a form f s modulus matrix is same_modulus same rank entries sum =
     let of_modulus : form.modulus ≡ p = same_modulus ∙ is.modulus ∙ modulus in
     let text : summary_text s.rank s.entries s.sum ≡ summary_of p f.matrix =
@@ -23,6 +24,7 @@ summary_answers c g p a form f s modulus matrix is same_modulus same rank entrie
     record {
       small = tt;
       fits = refl;
+      ends = refl;
       answers = λ prime.
           let rref : IsRref a.modulus a.matrix f.matrix = is.rref (subst IsPrime (sym modulus) prime) in
           (f.matrix, subst (λ A. IsRref p A f.matrix) matrix (subst (λ q. IsRref q a.matrix f.matrix) modulus rref), text);

@@ -2,28 +2,29 @@
 use Rattle.std.proofs.Common.{ℕ, Bool, true, false, ◌≡◌, ◌⊎◌, ◌++◌, List, [], None, Some, Result, Ok, Err, refl, sym, ap, ap₂, ◌∙◌, subst, inl, inr}
 use Rattle.std.specs.Result.{IsErrAnd}
 use Rattle.std.proofs.lemmas.Result.{err_from_is_err_and}
-use Rattle.residue_words.specs.Matrix.{Matrix}
 use Rattle.sms_text.specs.declared.kind.Kind.{Kind}
 use Rattle.sms_text.specs.declared.kind.TextError.{TextError}
 use Rattle.sms_text.specs.declared.kind.TextError.TheVariants as error
 use Rattle.sms_text.specs.declared.write.WriteFault.{WriteFault}
 use Rattle.sms_text.specs.Reading.{Draws, IsShort, untouched}
 use Rattle.sms_text.specs.Stream.{SinkState, SourceState, Gained, Rose}
-use Rattle.sms_text.specs.Text.{Got, Fault, FirstFault, Reading, Request, matrices, reading}
+use Rattle.sms_text.specs.Text.{Got, Fault, FirstFault, Reading, Request, reading}
 use Rattle.sms_text.specs.Writing.{Writes}
 use Rattle.sms_text.proofs.Moving.{draws_none, draws_with}
 use Rattle.spasm_run.specs.declared.answer.Answer.{Answer}
+use Rattle.spasm_run.specs.declared.answer.Answer.TheVariants as answer
 use Rattle.spasm_run.specs.declared.status.Status.{Status}
 use Rattle.spasm_run.specs.declared.status.Status.TheVariants as status
 use Rattle.spasm_run.specs.declared.words.Command.{Command}
 use Rattle.spasm_run.specs.declared.generator.Generator.{Generator}
 use Rattle.spasm_run.specs.declared.words.Task.{Task}
 use Rattle.spasm_run.specs.declared.words.Task.TheVariants as task
-use Rattle.spasm_run.specs.Answers.{misfit, wanted}
-use Rattle.spasm_run.specs.Computed.{ComesOf, IsFoundIn, WasFound, answer_text, asking, is_unread_in}
-use Rattle.spasm_run.specs.Input.{HasMatrices, Input, WasRead, supply_behind}
-use Rattle.spasm_run.specs.Ran.{AreTooFew, HasAnswer, Explains, HasNoAnswer, IsAnswered, IsMisfit, IsOffered, IsOrMemory, Ran, Run, request, whole_input}
-use Rattle.spasm_run.specs.Status.{is_unread, status_of}
+use Rattle.spasm_run.specs.Answers.{EndsWith, misfit, wanted}
+use Rattle.spasm_run.specs.Contents.{Contents, contents, matrices_alone}
+use Rattle.spasm_run.specs.Computed.{ComesOf, ComesOfContents, IsFoundIn, WasFound, answer_text, asking, is_unread_in, status_behind}
+use Rattle.spasm_run.specs.Input.{HasContents, Input, WasRead, supply_behind}
+use Rattle.spasm_run.specs.Ran.{AreTooFew, HasAnswer, EndsOrMemory, Explains, HasNoAnswer, HasWritten, IsAnswered, IsMisfit, IsOffered, IsOrMemory, Ran, Run, request, whole_input}
+use Rattle.spasm_run.specs.Status.{is_unread, is_written, status_of}
 use Rattle.spasm_run.specs.Words.{Accepted, AreRefused}
 use Rattle.spasm_run.proofs.Exact.{one_command}
 use Rattle.spasm_run.proofs.Input.{all_read}
@@ -31,42 +32,42 @@ use Rattle.spasm_run.proofs.Stays.{Keeps, told_of_all}
 
 -- what comes of the matrices that were read for a command is found for the words that ask for it
 module _ (words : List (List ℕ)) (c : Command) (limit : ℕ) (accepted : Accepted words c) (old new : SourceState) where
-  found_in : (values : List Matrix) (result : Result Answer Status) (input : Input) → ComesOf c values result →
-      HasMatrices (request c limit) input values → IsFoundIn words limit input result
-  found_in values (Ok a) input comes reads = (c, accepted, record { values = values; reads = reads; fits = comes.fits; answers = comes.answers })
-  found_in values (Err status.Done) input comes reads = absurd comes
-  found_in values (Err status.No) input comes reads = absurd comes
-  found_in values (Err status.Usage) input comes reads = absurd comes
-  found_in values (Err (status.BadText line k)) input comes reads = absurd comes
-  found_in values (Err (status.Shape h w)) input comes reads = (c, accepted, record { values = values; reads = reads; refused = comes })
-  found_in values (Err status.ReadFault) input comes reads = absurd comes
-  found_in values (Err status.WriteFault) input comes reads = absurd comes
-  found_in values (Err status.Memory) input comes reads = tt
-  found_in values (Err (status.Wide h w)) input comes reads = (c, accepted, record { values = values; reads = reads; refused = comes })
+  found_in : (said : Contents) (result : Result Answer Status) (input : Input) → ComesOfContents c said result →
+      HasContents (request c limit) input said → IsFoundIn words limit input result
+  found_in said (Ok a) input comes reads = (c, accepted, record { said = said; reads = reads; fits = comes.fits; answers = comes.answers; ends = comes.ends })
+  found_in said (Err status.Done) input comes reads = absurd comes
+  found_in said (Err status.No) input comes reads = absurd comes
+  found_in said (Err status.Usage) input comes reads = absurd comes
+  found_in said (Err (status.BadText line k)) input comes reads = absurd comes
+  found_in said (Err (status.Shape h w)) input comes reads = (c, accepted, record { said = said; reads = reads; refused = comes })
+  found_in said (Err status.ReadFault) input comes reads = absurd comes
+  found_in said (Err status.WriteFault) input comes reads = absurd comes
+  found_in said (Err status.Memory) input comes reads = tt
+  found_in said (Err (status.Wide h w)) input comes reads = (c, accepted, record { said = said; reads = reads; refused = comes })
 
-  read_well : (values : List Matrix) (result : Result Answer Status) → ComesOf c values result → false ≡ is_unread_in result
-  read_well values (Ok a) comes = refl
-  read_well values (Err status.Done) comes = refl
-  read_well values (Err status.No) comes = refl
-  read_well values (Err status.Usage) comes = refl
-  read_well values (Err (status.BadText line k)) comes = refl
-  read_well values (Err (status.Shape h w)) comes = refl
-  read_well values (Err status.ReadFault) comes = absurd comes
-  read_well values (Err status.WriteFault) comes = refl
-  read_well values (Err status.Memory) comes = refl
-  read_well values (Err (status.Wide h w)) comes = refl
+  read_well : (said : Contents) (result : Result Answer Status) → ComesOfContents c said result → false ≡ is_unread_in result
+  read_well said (Ok a) comes = refl
+  read_well said (Err status.Done) comes = refl
+  read_well said (Err status.No) comes = refl
+  read_well said (Err status.Usage) comes = refl
+  read_well said (Err (status.BadText line k)) comes = refl
+  read_well said (Err (status.Shape h w)) comes = refl
+  read_well said (Err status.ReadFault) comes = absurd comes
+  read_well said (Err status.WriteFault) comes = refl
+  read_well said (Err status.Memory) comes = refl
+  read_well said (Err (status.Wide h w)) comes = refl
 
   few : (bytes : List ℕ) → IsShort (request c limit) bytes → AreTooFew words limit bytes
   few bytes short = (c, accepted, short)
 
-  found_for : (values : List Matrix) (result : Result Answer Status) → WasRead (request c limit) (Ok values) old new →
-      ComesOf c values result → WasFound words limit result old new
-  found_for values result was comes =
+  found_for : (said : Contents) (result : Result Answer Status) → WasRead (request c limit) (Ok said) old new →
+      ComesOfContents c said result → WasFound words limit result old new
+  found_for said result was comes =
       let moved = draws_with (IsShort (request c limit)) (AreTooFew words limit) false was.input.bytes (untouched old) (supply_behind was.input new) few was.draws in
       let Moves : Bool → Type 0 = λ x. Draws (AreTooFew words limit) x was.input.bytes (untouched old) (supply_behind was.input new) in record {
         input = was.input;
-        draws = subst Moves (read_well values result comes) moved;
-        found = found_in values result was.input comes was.says;
+        draws = subst Moves (read_well said result comes) moved;
+        found = found_in said result was.input comes was.says;
       }
 
   -- the input wasn't read
@@ -91,20 +92,20 @@ module _ (words : List (List ℕ)) (c : Command) (limit : ℕ) (accepted : Accep
 abbrev pub asked : Task → ℕ → ℕ → Request
 asked t p limit = record { modulus = p; limit = limit; due = wanted t }
 
--- the matrices were read, and something came of them
-pub found_given : (words : List (List ℕ)) (c : Command) (t : Task) (p q limit : ℕ) (old new : SourceState) (values : List Matrix) (result : Result Answer Status) →
-    c.task ≡ t → p ≡ c.modulus → q ≡ p → Accepted words c → WasRead (asked t p limit) (Ok values) old new → ComesOf (asking t q c) values result → WasFound words limit result old new
-found_given words c t p q limit old new values result asks modulus same accepted was comes =
-    let at_task : WasRead (asked c.task p limit) (Ok values) old new = subst (λ t. WasRead (asked t p limit) (Ok values) old new) (sym asks) was in
-    let read : WasRead (request c limit) (Ok values) old new = subst (λ p. WasRead (asked c.task p limit) (Ok values) old new) modulus at_task in
-    let of_task : ComesOf (asking c.task q c) values result = subst (λ t. ComesOf (asking t q c) values result) (sym asks) comes in
-    found_for words c limit accepted old new values result read (subst (λ q. ComesOf (asking c.task q c) values result) (same ∙ modulus) of_task)
+-- what is wanted was read, and something came of it
+pub found_given : (words : List (List ℕ)) (c : Command) (t : Task) (p q limit : ℕ) (old new : SourceState) (said : Contents) (result : Result Answer Status) →
+    c.task ≡ t → p ≡ c.modulus → q ≡ p → Accepted words c → WasRead (asked t p limit) (Ok said) old new → ComesOfContents (asking t q c) said result → WasFound words limit result old new
+found_given words c t p q limit old new said result asks modulus same accepted was comes =
+    let at_task : WasRead (asked c.task p limit) (Ok said) old new = subst (λ t. WasRead (asked t p limit) (Ok said) old new) (sym asks) was in
+    let read : WasRead (request c limit) (Ok said) old new = subst (λ p. WasRead (asked c.task p limit) (Ok said) old new) modulus at_task in
+    let of_task : ComesOfContents (asking c.task q c) said result = subst (λ t. ComesOfContents (asking t q c) said result) (sym asks) comes in
+    found_for words c limit accepted old new said result read (subst (λ q. ComesOfContents (asking c.task q c) said result) (same ∙ modulus) of_task)
 
 -- nothing is read for what is generated
 pub found_generated : (words : List (List ℕ)) (c : Command) (g : Generator) (p limit : ℕ) (source : SourceState) (result : Result Answer Status) →
     c.task ≡ task.Drill g → p ≡ c.modulus → Accepted words c → ComesOf (asking (task.Drill g) p c) [] result → WasFound words limit result source source
 found_generated words c g p limit source result asks modulus accepted comes =
-    found_given words c (task.Drill g) p p limit source source [] result asks modulus refl accepted (all_read p limit source) comes
+    found_given words c (task.Drill g) p p limit source source (matrices_alone []) result asks modulus refl accepted (all_read p limit source) comes
 
 -- they weren't
 pub found_unread : (words : List (List ℕ)) (c : Command) (t : Task) (p limit : ℕ) (old new : SourceState) (e : TextError) (result : Result Answer Status) →
@@ -128,15 +129,15 @@ pub found_memory : (words : List (List ℕ)) (limit : ℕ) (source : SourceState
 unfolding nothing
 found_memory words limit source = record { input = nothing; draws = draws_none (AreTooFew words limit) (untouched source); found = tt }
 
--- an input is read as one list of matrices, and then it has no fault
-one_list : (r : Request) (input : Input) (values values' : List Matrix) → HasMatrices r input values → HasMatrices r input values' → values ≡ values'
-one_list r input values values' a b =
+-- an input is read as one thing, and then it has no fault
+one_reading : (r : Request) (input : Input) (said said' : Contents) → HasContents r input said → HasContents r input said' → said ≡ said'
+one_reading r input said said' a b =
     let both : Got a.items a.rest ≡ Got b.items b.rest = sym a.reads ∙ b.reads in
     let same : a.items ≡ b.items = cc in
-    sym a.are ∙ ap (matrices r.modulus) same ∙ b.are
+    sym a.are ∙ ap (contents r.modulus) same ∙ b.are
 
-no_fault : (r : Request) (input : Input) (values : List Matrix) (line : ℕ) (k : Kind) → HasMatrices r input values → FirstFault r input.bytes input.ended line k → ⊥
-no_fault r input values line k a fault =
+no_fault : (r : Request) (input : Input) (said : Contents) (line : ℕ) (k : Kind) → HasContents r input said → FirstFault r input.bytes input.ended line k → ⊥
+no_fault r input said line k a fault =
     let both : Got a.items a.rest ≡ Fault line k = sym a.reads ∙ fault in
     cc
 
@@ -145,8 +146,8 @@ data Outcome (r : Run) (c : Command) (bytes : List ℕ) (s : Status) : Type 0 wh
   Wanting : s ≡ status.Memory → Outcome r c bytes s
   Faulty : (line : ℕ) (k : Kind) → FirstFault (request c r.limit) bytes true line k → s ≡ status.BadText line k → Outcome r c bytes s
   Refused : IsMisfit c r.limit (whole_input bytes) s → Outcome r c bytes s
-  Answered : (values : List Matrix) → HasMatrices (request c r.limit) (whole_input bytes) values → misfit c.task values ≡ None →
-      (s ≡ status.Done) ⊎ Rose r.out.faults r.out_after.faults → Outcome r c bytes s
+  Answered : (said : Contents) → HasContents (request c r.limit) (whole_input bytes) said → misfit c.task said.matrices ≡ None →
+      EndsWith c.task c.modulus said s ⊎ Rose r.out.faults r.out_after.faults → Outcome r c bytes s
 
 module _ (r : Run) (input : Input) where
   abbrev Takes : Status → Type 0
@@ -162,28 +163,34 @@ module _ (r : Run) (input : Input) where
     all_fault s d line k takes accepted fault =
         all_say s (Fault line k) takes (subst (λ d. FirstFault (request d r.limit) input.bytes input.ended line k) (one_command r.words d c accepted offered.accepted) fault)
 
-    all_matrices : (s : Status) (values : List Matrix) → Takes s → HasMatrices (request c r.limit) input values → HasMatrices (request c r.limit) (whole_input bytes) values
-    all_matrices s values takes has =
+    all_contents : (s : Status) (said : Contents) → Takes s → HasContents (request c r.limit) input said → HasContents (request c r.limit) (whole_input bytes) said
+    all_contents s said takes has =
         let all = all_say s (Got has.items has.rest) takes has.reads in record { items = has.items; rest = all.0; reads = all.1; are = has.are }
 
     misfit_outcome : (s : Status) (d : Command) → Takes s → Accepted r.words d → IsMisfit d r.limit input s → Outcome r c bytes s
     misfit_outcome s d takes accepted is =
         let at = subst (λ d. IsMisfit d r.limit input s) (one_command r.words d c accepted offered.accepted) is in
-        Refused (record { values = at.values; reads = all_matrices s at.values takes at.reads; refused = at.refused })
+        Refused (record { said = at.said; reads = all_contents s at.said takes at.reads; refused = at.refused })
 
-    answered_outcome : (s : Status) (text : List ℕ) → Takes s → IsAnswered r.words r.limit input text → (s ≡ status.Done) ⊎ Rose r.out.faults r.out_after.faults → Outcome r c bytes s
-    answered_outcome s text takes (d, accepted, has) ends =
-        let at = subst (λ d. HasAnswer d r.limit input text) (one_command r.words d c accepted offered.accepted) has in
-        Answered at.values (all_matrices s at.values takes at.reads) at.fits ends
+    answered_at : (text : List ℕ) (t : Status) → IsAnswered r.words r.limit input text t → HasAnswer c r.limit input text t
+    answered_at text t (d, accepted, has) = subst (λ d. HasAnswer d r.limit input text t) (one_command r.words d c accepted offered.accepted) has
+
+    written_outcome : (s : Status) → Takes s → HasWritten r input s → Outcome r c bytes s
+    written_outcome s takes (text, answered, gained) =
+        let at = answered_at text s answered in Answered at.said (all_contents s at.said takes at.reads) at.fits (inl at.ends)
+
+    failed_outcome : (s t : Status) (text : List ℕ) → Takes s → IsAnswered r.words r.limit input text t → Rose r.out.faults r.out_after.faults → Outcome r c bytes s
+    failed_outcome s t text takes answered rose =
+        let at = answered_at text t answered in Answered at.said (all_contents s at.said takes at.reads) at.fits (inr rose)
 
     outcome : (s : Status) → Takes s → Explains r input s → Outcome r c bytes s
-    outcome status.Done takes cause = answered_outcome status.Done cause.0 takes cause.1 (inl refl)
-    outcome status.No takes cause = absurd cause.0
+    outcome status.Done takes cause = written_outcome status.Done takes cause
+    outcome status.No takes cause = written_outcome status.No takes cause
     outcome status.Usage takes cause = absurd (cause.0 c offered.accepted)
     outcome (status.BadText line k) takes cause = Faulty line k (all_fault (status.BadText line k) cause.0.0 line k takes cause.0.1 cause.0.2) refl
     outcome (status.Shape h w) takes cause = misfit_outcome (status.Shape h w) cause.0.0 takes cause.0.1 cause.0.2
     outcome status.ReadFault takes cause = absurd (offered.steady takes.source.rose)
-    outcome status.WriteFault takes cause = answered_outcome status.WriteFault (cause.0 ++ cause.1) takes cause.2 (inr cause.3.rose)
+    outcome status.WriteFault takes cause = failed_outcome status.WriteFault cause.2 (cause.0 ++ cause.1) takes cause.3 cause.4.rose
     outcome status.Memory takes cause = Wanting refl
     outcome (status.Wide h w) takes cause = misfit_outcome (status.Wide h w) cause.0.0 takes cause.0.1 cause.0.2
 
@@ -195,44 +202,45 @@ module _ (r : Run) (input : Input) where
         let lines : line' ≡ line = cc in
         let kinds : k' ≡ k = cc in
         inl (is ∙ ap₂ status.BadText lines kinds)
-    names_fault s line k fault (Refused m) = absurd (no_fault (request c r.limit) (whole_input bytes) m.values line k m.reads fault)
-    names_fault s line k fault (Answered values has fits ends) = absurd (no_fault (request c r.limit) (whole_input bytes) values line k has fault)
+    names_fault s line k fault (Refused m) = absurd (no_fault (request c r.limit) (whole_input bytes) m.said line k m.reads fault)
+    names_fault s line k fault (Answered said has fits ends) = absurd (no_fault (request c r.limit) (whole_input bytes) said line k has fault)
 
     -- shapes are refused
     refuses_shape : (s t : Status) → IsMisfit c r.limit (whole_input bytes) t → Outcome r c bytes s → IsOrMemory t s
     refuses_shape s t is (Wanting memory) = inr memory
-    refuses_shape s t is (Faulty line k fault e) = absurd (no_fault (request c r.limit) (whole_input bytes) is.values line k is.reads fault)
+    refuses_shape s t is (Faulty line k fault e) = absurd (no_fault (request c r.limit) (whole_input bytes) is.said line k is.reads fault)
     refuses_shape s t is (Refused m) =
-        let same = one_list (request c r.limit) (whole_input bytes) m.values is.values m.reads is.reads in
+        let same = ap (λ (x : Contents). x.matrices) (one_reading (request c r.limit) (whole_input bytes) m.said is.said m.reads is.reads) in
         let both : Some s ≡ Some t = sym m.refused ∙ ap (misfit c.task) same ∙ is.refused in
         let one : s ≡ t = cc in
         inl one
-    refuses_shape s t is (Answered values has fits ends) =
-        let same = one_list (request c r.limit) (whole_input bytes) values is.values has is.reads in
+    refuses_shape s t is (Answered said has fits ends) =
+        let same = ap (λ (x : Contents). x.matrices) (one_reading (request c r.limit) (whole_input bytes) said is.said has is.reads) in
         let both : None ≡ Some t = sym fits ∙ ap (misfit c.task) same ∙ is.refused in
         absurd (let none : ⊥ = cc in none)
 
     -- and what fits is answered
-    answers_whole : (s : Status) (values : List Matrix) → HasMatrices (request c r.limit) (whole_input bytes) values → misfit c.task values ≡ None →
-        (Rose r.out.faults r.out_after.faults → ⊥) → Outcome r c bytes s → IsOrMemory status.Done s
-    answers_whole s values has fits calm (Wanting memory) = inr memory
-    answers_whole s values has fits calm (Faulty line k fault e) = absurd (no_fault (request c r.limit) (whole_input bytes) values line k has fault)
-    answers_whole s values has fits calm (Refused m) =
-        let same = one_list (request c r.limit) (whole_input bytes) values m.values has m.reads in
+    answers_whole : (s : Status) (said : Contents) → HasContents (request c r.limit) (whole_input bytes) said → misfit c.task said.matrices ≡ None →
+        (Rose r.out.faults r.out_after.faults → ⊥) → Outcome r c bytes s → EndsOrMemory c said s
+    answers_whole s said has fits calm (Wanting memory) = inr memory
+    answers_whole s said has fits calm (Faulty line k fault e) = absurd (no_fault (request c r.limit) (whole_input bytes) said line k has fault)
+    answers_whole s said has fits calm (Refused m) =
+        let same = ap (λ (x : Contents). x.matrices) (one_reading (request c r.limit) (whole_input bytes) said m.said has m.reads) in
         let both : None ≡ Some s = sym fits ∙ ap (misfit c.task) same ∙ m.refused in
         absurd (let none : ⊥ = cc in none)
-    answers_whole s values has fits calm (Answered values' has' fits' (inl done)) = inl done
-    answers_whole s values has fits calm (Answered values' has' fits' (inr rose)) = absurd (calm rose)
+    answers_whole s said has fits calm (Answered said' has' fits' (inl ends)) =
+        let same = one_reading (request c r.limit) (whole_input bytes) said' said has' has in inl (subst (λ x. EndsWith c.task c.modulus x s) same ends)
+    answers_whole s said has fits calm (Answered said' has' fits' (inr rose)) = absurd (calm rose)
 
   -- words that no command accepts
   refuses_words : (s : Status) → Explains r input s → AreRefused r.words → IsOrMemory status.Usage s
   refuses_words status.Done cause refused = absurd (refused cause.1.0 cause.1.1)
-  refuses_words status.No cause refused = absurd cause.0
+  refuses_words status.No cause refused = absurd (refused cause.1.0 cause.1.1)
   refuses_words status.Usage cause refused = inl refl
   refuses_words (status.BadText line k) cause refused = absurd (refused cause.0.0 cause.0.1)
   refuses_words (status.Shape h w) cause refused = absurd (refused cause.0.0 cause.0.1)
   refuses_words status.ReadFault cause refused = absurd (refused cause.0.0 cause.0.1)
-  refuses_words status.WriteFault cause refused = absurd (refused cause.2.0 cause.2.1)
+  refuses_words status.WriteFault cause refused = absurd (refused cause.3.0 cause.3.1)
   refuses_words status.Memory cause refused = inr refl
   refuses_words (status.Wide h w) cause refused = absurd (refused cause.0.0 cause.0.1)
 
@@ -246,7 +254,7 @@ module _ (r : Run) (input : Input) where
       usage = refuses_words s cause;
       fault = λ c bytes line k offered fault. names_fault c bytes offered s line k fault (outcome c bytes offered s takes cause);
       shape = λ c bytes t offered is. refuses_shape c bytes offered s t is (outcome c bytes offered s takes cause);
-      done = λ c bytes values offered has fits calm. answers_whole c bytes offered s values has fits calm (outcome c bytes offered s takes cause);
+      done = λ c bytes said offered has fits calm. answers_whole c bytes offered s said has fits calm (outcome c bytes offered s takes cause);
     };
   }
 
@@ -259,7 +267,7 @@ ran_without words limit old new out s was = ran (run_between words limit old new
   where
     unwritten : (s : Status) → HasNoAnswer words limit was.input s → Explains (run_between words limit old new out out) was.input s
     unwritten status.Done none = absurd none
-    unwritten status.No none = (none, refl)
+    unwritten status.No none = absurd none
     unwritten status.Usage none = (none, refl)
     unwritten (status.BadText line k) none = (none, refl)
     unwritten (status.Shape h w) none = (none, refl)
@@ -268,12 +276,45 @@ ran_without words limit old new out s was = ran (run_between words limit old new
     unwritten status.Memory none = (none, refl)
     unwritten (status.Wide h w) none = (none, refl)
 
+-- an answer leaves the run with Done or No
+ends_done_or_no : (a : Answer) → (status_behind a ≡ status.Done) ⊎ (status_behind a ≡ status.No)
+ends_done_or_no (answer.Rank r) = inl refl
+ends_done_or_no (answer.Matrix A) = inl refl
+ends_done_or_no (answer.Solution x) = inl refl
+ends_done_or_no (answer.Refutation y) = inl refl
+ends_done_or_no (answer.Inverse B) = inl refl
+ends_done_or_no (answer.Singular v) = inl refl
+ends_done_or_no (answer.Pivots pairs) = inl refl
+ends_done_or_no (answer.Summary s) = inl refl
+ends_done_or_no (answer.Verdict true) = inl refl
+ends_done_or_no (answer.Verdict false) = inr refl
+
+-- the answer was written
+written : (r : Run) (input : Input) (a : Answer) (s : Status) → status_behind a ≡ s → IsAnswered r.words r.limit input (answer_text a) (status_behind a) → Gained (answer_text a) r.out r.out_after →
+    HasWritten r input s
+written r input a s e found gained = (answer_text a, subst (IsAnswered r.words r.limit input (answer_text a)) e found, gained)
+
+ran_written : (words : List (List ℕ)) (limit : ℕ) (old new : SourceState) (out out' : SinkState) (a : Answer) → WasFound words limit (Ok a) old new → Gained (answer_text a) out out' →
+    (status_behind a ≡ status.Done) ⊎ (status_behind a ≡ status.No) → Ran (run_between words limit old new out out') (status_behind a)
+ran_written words limit old new out out' a was gained (inl e) =
+    let r = run_between words limit old new out out' in
+    subst (Ran r) (sym e) (ran r was.input status.Done was.draws (written r was.input a status.Done e was.found gained))
+ran_written words limit old new out out' a was gained (inr e) =
+    let r = run_between words limit old new out out' in
+    subst (Ran r) (sym e) (ran r was.input status.No was.draws (written r was.input a status.No e was.found gained))
+
 -- an answer was found and written, or a part of it
-pub ran_done : (words : List (List ℕ)) (limit : ℕ) (old new : SourceState) (out out' : SinkState) (a : Answer) → WasFound words limit (Ok a) old new →
-    Gained (answer_text a) out out' → Ran (run_between words limit old new out out') status.Done
-ran_done words limit old new out out' a was gained = ran (run_between words limit old new out out') was.input status.Done was.draws (answer_text a, was.found, gained)
+pub ran_done : (words : List (List ℕ)) (limit : ℕ) (old new : SourceState) (out out' : SinkState) (a : Answer) (s : Status) → s ≡ status_behind a → WasFound words limit (Ok a) old new →
+    Gained (answer_text a) out out' → Ran (run_between words limit old new out out') s
+ran_done words limit old new out out' a s is was gained =
+    subst (Ran (run_between words limit old new out out')) (sym is) (ran_written words limit old new out out' a was gained (ends_done_or_no a))
 
 pub ran_failed : (words : List (List ℕ)) (limit : ℕ) (old new : SourceState) (out out' : SinkState) (a : Answer) (fault : WriteFault) → WasFound words limit (Ok a) old new →
     Writes (Err fault) (answer_text a) out out' → Ran (run_between words limit old new out out') status.WriteFault
 ran_failed words limit old new out out' a fault was (part, rest, cut, gained) =
-    ran (run_between words limit old new out out') was.input status.WriteFault was.draws (part, rest, subst (IsAnswered words limit was.input) cut was.found, gained)
+    ran (run_between words limit old new out out') was.input status.WriteFault was.draws
+    (part, rest, status_behind a, subst (λ t. IsAnswered words limit was.input t (status_behind a)) cut was.found, gained)
+
+-- no run whose answer was written has a status of one that wrote nothing
+pub behind_is_written : (a : Answer) → is_written (status_behind a) ≡ true
+behind_is_written a = elim (ends_done_or_no a) [ inl e ↦ ap is_written e | inr e ↦ ap is_written e ]

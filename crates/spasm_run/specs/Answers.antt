@@ -2,6 +2,7 @@
 use Rattle.std.specs.Prelude.{◌≡◌, ◌<◌, ◌≤◌, ◌⊎◌, ◌==◌, ◌&&◌, nat_lt, not, if◌then◌else◌, ℕ, List, [], ◌∷◌, ◌++◌, Option, None, Some, codes, length}
 use Rattle.std.specs.Fmt.{decimal}
 use Rattle.residue_words.specs.Matrix.{Matrix, row}
+use Rattle.residue_words.specs.Residues.{IsPrime}
 use Rattle.residue_words.specs.declared.plain.Pair.{Pair}
 use Rattle.pivot_table.specs.Selected.{Selected}
 use Rattle.row_space.specs.Echelon.{HasRank, IsRref}
@@ -9,20 +10,23 @@ use Rattle.row_space.specs.Inverse.{IsInverse}
 use Rattle.row_space.specs.Kernel.{IsKernel}
 use Rattle.row_space.specs.Solution.{IsReducedSolution, IsRefutingCombination, IsSolution}
 use Rattle.kernel_solve.specs.Column.{column, column_matrix}
-use Rattle.sms_text.specs.Text.{Due, Header}
+use Rattle.sms_text.specs.OuterLines as form
+use Rattle.sms_text.specs.Text.{Due, Header, Outer}
 use Rattle.sms_text.specs.Written.{pair_lines, text_of}
 use Rattle.sparse_rows.specs.Rows.{transposed}
 use Rattle.spasm_run.specs.declared.commands.TheConstants.{LARGEST_INVERTED}
 use Rattle.spasm_run.specs.declared.status.Status.{Status}
-use Rattle.spasm_run.specs.declared.status.Status.TheVariants.{Shape, Wide}
+use Rattle.spasm_run.specs.declared.status.Status.TheVariants.{Done, No, Shape, Wide}
 use Rattle.spasm_run.specs.declared.words.Command.{Command}
 use Rattle.spasm_run.specs.declared.words.Task.{Task}
-use Rattle.spasm_run.specs.declared.words.Task.TheVariants.{Rank, Rref, Kernel, Solve, LeftKernel, Inverse, Pivots, Drill}
+use Rattle.spasm_run.specs.declared.words.Task.TheVariants.{Rank, Rref, Kernel, Solve, LeftKernel, Inverse, Pivots, Check, Drill}
+use Rattle.spasm_run.specs.Contents.{Contents, IsCertified}
 use Rattle.spasm_run.specs.Generator.{generated, summary_of}
 
--- the lines that are due at first: the headers of the matrices that are read
+-- the lines that are due at first: the headers of the matrices that are read, and the first line of a certificate
 abbrev pub wanted : Task → List Due
 wanted Solve = Header ∷ Header ∷ []
+wanted Check = Header ∷ Outer form.Certificate ∷ []
 wanted (Drill g) = []
 wanted task = Header ∷ []
 
@@ -60,24 +64,46 @@ InvertsTo p A text =
 abbrev pub pivots_text : List Pair → List ℕ
 pivots_text qs = codes "pivots " ++ decimal (length qs) ++ 10 ∷ pair_lines qs
 
--- the text is the answer to the task of this command for these matrices
-abbrev pub AnswerTo : Task → Command → List Matrix → List ℕ → Type 0
-AnswerTo Rank c (A ∷ []) text = (r : ℕ) × HasRank c.modulus A r × (text ≡ rank_text r)
-AnswerTo Rref c (A ∷ []) text = (E : Matrix) × IsRref c.modulus A E × (text ≡ text_of E)
-AnswerTo Kernel c (A ∷ []) text = (K : Matrix) × IsKernel c.modulus A K × (text ≡ text_of K)
-AnswerTo Solve c (A ∷ B ∷ []) text = SolvesTo c.modulus A (column B) text
-AnswerTo LeftKernel c (A ∷ []) text = (K : Matrix) × IsKernel c.modulus (transposed A) K × (text ≡ text_of K)
-AnswerTo Inverse c (A ∷ []) text = InvertsTo c.modulus A text
-AnswerTo Pivots c (A ∷ []) text = (qs : List Pair) × Selected A c.workers qs × (text ≡ pivots_text qs)
-AnswerTo (Drill g) c [] text =
+-- the text is the answer to the task of this command, which reads matrices alone, for these matrices
+abbrev pub MatricesAnswer : Task → Command → List Matrix → List ℕ → Type 0
+MatricesAnswer Rank c (A ∷ []) text = (r : ℕ) × HasRank c.modulus A r × (text ≡ rank_text r)
+MatricesAnswer Rref c (A ∷ []) text = (E : Matrix) × IsRref c.modulus A E × (text ≡ text_of E)
+MatricesAnswer Kernel c (A ∷ []) text = (K : Matrix) × IsKernel c.modulus A K × (text ≡ text_of K)
+MatricesAnswer Solve c (A ∷ B ∷ []) text = SolvesTo c.modulus A (column B) text
+MatricesAnswer LeftKernel c (A ∷ []) text = (K : Matrix) × IsKernel c.modulus (transposed A) K × (text ≡ text_of K)
+MatricesAnswer Inverse c (A ∷ []) text = InvertsTo c.modulus A text
+MatricesAnswer Pivots c (A ∷ []) text = (qs : List Pair) × Selected A c.workers qs × (text ≡ pivots_text qs)
+MatricesAnswer (Drill g) c [] text =
     (E : Matrix) × IsRref c.modulus (generated c.modulus g) E × (text ≡ summary_of c.modulus E)
-AnswerTo task c values text = ⊥
+MatricesAnswer task c values text = ⊥
 
--- the text is the answer to the command for these matrices
-abbrev pub AnswerOf : Command → List Matrix → List ℕ → Type 0
-AnswerOf c values text = AnswerTo c.task c values text
+-- whether the certificate is valid
+abbrev pub VerdictOn : ℕ → Contents → List ℕ → Type 0
+VerdictOn p said text =
+    (IsCertified p said × (text ≡ codes "yes\n"))
+    ⊎ (¬ IsCertified p said × (text ≡ codes "no\n"))
 
--- the answer to a command for matrices of the shapes that are wanted is one text; the pivots where one worker searches
+-- the text is the answer to the task of this command for what was read
+abbrev pub AnswerTo : Task → Command → Contents → List ℕ → Type 0
+AnswerTo Check c said text = VerdictOn c.modulus said text
+AnswerTo task c said text = MatricesAnswer task c said.matrices text
+
+-- the text is the answer to the command for what was read
+abbrev pub AnswerOf : Command → Contents → List ℕ → Type 0
+AnswerOf c said text = AnswerTo c.task c said text
+
+-- what an answer rests on: that the modulus is prime; whether a certificate is valid is told for every modulus
+abbrev pub RestsOn : Task → ℕ → Type 0
+RestsOn Check p = Unit {0}
+RestsOn task p = IsPrime p
+
+-- the status of a run that wrote its answer: No for a certificate that isn't valid, and else Done
+abbrev pub EndsWith : Task → ℕ → Contents → Status → Type 0
+EndsWith Check p said s = (IsCertified p said × (s ≡ Done)) ⊎ (¬ IsCertified p said × (s ≡ No))
+EndsWith task p said s = s ≡ Done
+
+-- the answer to a command for what was read, with matrices of the shapes that are wanted, is one text; the pivots where one worker searches
 abbrev pub IsOneAnswer : Type 0
-IsOneAnswer = (c : Command) (values : List Matrix) (text other : List ℕ) → 2 ≤ c.modulus → misfit c.task values ≡ None →
-    (c.task ≡ Pivots → c.workers ≡ 1) → AnswerOf c values text → AnswerOf c values other → text ≡ other
+IsOneAnswer = (c : Command) (said : Contents) (text other : List ℕ) → 2 ≤ c.modulus →
+    misfit c.task said.matrices ≡ None → (c.task ≡ Pivots → c.workers ≡ 1) →
+    AnswerOf c said text → AnswerOf c said other → text ≡ other

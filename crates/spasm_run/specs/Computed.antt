@@ -1,5 +1,5 @@
 -- What is found for matrices and for words: an answer, or the status with which a run ends.
-use Rattle.std.specs.Prelude.{◌≡◌, ◌<◌, ℕ, List, ◌++◌, Bool, false, Some, None, Result, Ok, Err, All, codes}
+use Rattle.std.specs.Prelude.{◌≡◌, ◌<◌, if◌then◌else◌, ℕ, List, ◌++◌, Bool, false, Some, None, Result, Ok, Err, All, codes}
 use Rattle.residue_words.specs.Residues.{IsPrime}
 use Rattle.residue_words.specs.Matrix.{Matrix, IsMatrix}
 use Rattle.sparse_rows.specs.Rows.{beside}
@@ -16,7 +16,8 @@ use Rattle.spasm_run.specs.declared.status.Status.{Status}
 use Rattle.spasm_run.specs.declared.status.Status.TheVariants as status
 use Rattle.spasm_run.specs.declared.words.Command.{Command}
 use Rattle.spasm_run.specs.declared.words.Task.{Task}
-use Rattle.spasm_run.specs.Answers.{AnswerOf, misfit, pivots_text, rank_text}
+use Rattle.spasm_run.specs.Answers.{AnswerOf, EndsWith, RestsOn, misfit, pivots_text, rank_text}
+use Rattle.spasm_run.specs.Contents.{Contents, matrices_alone}
 use Rattle.spasm_run.specs.declared.words.Task.TheVariants as task
 use Rattle.spasm_run.specs.Generator.{HasSizesInRange, summary_text}
 use Rattle.spasm_run.specs.Input.{Input, supply_behind}
@@ -33,6 +34,12 @@ answer_text (answer.Inverse B) = codes "inverse\n" ++ text_of B.matrix
 answer_text (answer.Singular v) = codes "singular\n" ++ text_of v.matrix
 answer_text (answer.Pivots pairs) = pivots_text pairs.items
 answer_text (answer.Summary s) = summary_text s.rank s.entries s.sum
+answer_text (answer.Verdict valid) = if valid then codes "yes\n" else codes "no\n"
+
+-- the status of a run that wrote this answer
+abbrev pub status_behind : Answer → Status
+status_behind (answer.Verdict valid) = if valid then status.Done else status.No
+status_behind a = status.Done
 
 -- the sizes of its matrix can be written
 abbrev pub HasSmallSizes : Matrix → Type 0
@@ -47,6 +54,7 @@ IsSmall (answer.Inverse B) = HasSmallSizes B.matrix
 IsSmall (answer.Singular v) = HasSmallSizes v.matrix
 IsSmall (answer.Pivots pairs) = All IsSmallPlace pairs.items
 IsSmall (answer.Summary s) = Unit {0}
+IsSmall (answer.Verdict valid) = Unit {0}
 
 -- the command, asking for this task modulo p
 abbrev pub asking : Task → ℕ → Command → Command
@@ -57,11 +65,12 @@ abbrev pub IsOfSizes : Task → Type 0
 IsOfSizes (task.Drill g) = HasSizesInRange g
 IsOfSizes t = Unit {0}
 
--- the answer to a command for these matrices, which are of the shapes that are wanted
-pub record IsAnswerTo (c : Command) (values : List Matrix) (a : Answer) : Type 0 where
+-- the answer to a command for what was read, with matrices of the shapes that are wanted
+pub record IsAnswerTo (c : Command) (said : Contents) (a : Answer) : Type 0 where
   pub small : IsSmall a
-  pub fits : misfit c.task values ≡ None
-  pub answers : IsPrime c.modulus → AnswerOf c values (answer_text a)
+  pub fits : misfit c.task said.matrices ≡ None
+  pub answers : RestsOn c.task c.modulus → AnswerOf c said (answer_text a)
+  pub ends : EndsWith c.task c.modulus said (status_behind a)
 
 -- what is found for the system S: for a prime modulus the solution of A x = b, or that there is none, where S is [A | B]
 -- and b the one column of B
@@ -70,13 +79,17 @@ AnswersSystem p S found =
     IsPrime p → (A B : Matrix) → IsMatrix p A → IsMatrix p B → A.height ≡ B.height → B.width ≡ 1 →
     S ≡ beside A B → Answers p A (column B) found
 
--- what comes of a command for these matrices: its answer; or they are refused for their shapes; or memory was wanted
+-- what comes of a command for what was read: its answer; or its matrices are refused for their shapes; or memory was wanted
+abbrev pub ComesOfContents : Command → Contents → Result Answer Status → Type 0
+ComesOfContents c said (Ok a) = IsAnswerTo c said a
+ComesOfContents c said (Err (status.Shape h w)) = misfit c.task said.matrices ≡ Some (status.Shape h w)
+ComesOfContents c said (Err (status.Wide h w)) = misfit c.task said.matrices ≡ Some (status.Wide h w)
+ComesOfContents c said (Err status.Memory) = Unit {0}
+ComesOfContents c said (Err _) = ⊥
+
+-- the same for matrices alone
 abbrev pub ComesOf : Command → List Matrix → Result Answer Status → Type 0
-ComesOf c values (Ok a) = IsAnswerTo c values a
-ComesOf c values (Err (status.Shape h w)) = misfit c.task values ≡ Some (status.Shape h w)
-ComesOf c values (Err (status.Wide h w)) = misfit c.task values ≡ Some (status.Wide h w)
-ComesOf c values (Err status.Memory) = Unit {0}
-ComesOf c values (Err _) = ⊥
+ComesOf c values result = ComesOfContents c (matrices_alone values) result
 
 -- whether the source failed
 abbrev pub is_unread_in : Result Answer Status → Bool
@@ -85,7 +98,7 @@ is_unread_in (Err s) = is_unread s
 
 -- the answer that was found for these words in an input, or why there is none
 abbrev pub IsFoundIn : List (List ℕ) → ℕ → Input → Result Answer Status → Type 0
-IsFoundIn words limit input (Ok a) = IsAnswered words limit input (answer_text a)
+IsFoundIn words limit input (Ok a) = IsAnswered words limit input (answer_text a) (status_behind a)
 IsFoundIn words limit input (Err s) = HasNoAnswer words limit input s
 
 -- The answer that was found for these words, or why there is none, in the input that was taken from a source, of which nothing was asked

@@ -1,13 +1,14 @@
--- The input of a run, and the matrices that it is read as.
+-- The input of a run, and the contents that it is read as.
 use Rattle.std.specs.Prelude.{◌≡◌, ◌<◌, Bool, ℕ, List, [], ◌∷◌, Result, Ok, Err}
-use Rattle.residue_words.specs.Matrix.{Matrix}
 use Rattle.sms_text.specs.declared.kind.TextError.{TextError}
 use Rattle.sms_text.specs.Lines.{Line}
 use Rattle.sms_text.specs.Reading.{Draws, IsShort, Says, Supply, is_failed, untouched}
 use Rattle.sms_text.specs.Stream.{SourceState}
-use Rattle.sms_text.specs.Text.{Item, Reads, Request, matrices, reading}
+use Rattle.sms_text.specs.Text.{Item, Reads, Request, reading}
 use Rattle.sparse_rows.specs.Rows.{ResidueMatrix}
 use Rattle.sparse_rows.specs.declared.rows.TheConstants.{LARGEST_SIZE}
+use Rattle.certificates.specs.declared.certificate.Certificate.{Certificate}
+use Rattle.spasm_run.specs.Contents.{AreToCheck, Contents, contents, matrices_alone}
 
 -- what was taken from a source: these bytes, and whether the end was found behind them
 pub record Input : Type 0 where
@@ -18,34 +19,39 @@ pub record Input : Type 0 where
 abbrev pub supply_behind : Input → SourceState → Supply
 supply_behind input source = record { ended = input.ended; source = source }
 
--- the input is read as these matrices
-pub record HasMatrices (r : Request) (input : Input) (values : List Matrix) : Type 0 where
+-- the input is read as these contents
+pub record HasContents (r : Request) (input : Input) (said : Contents) : Type 0 where
   pub items : List Item
   pub rest : List Line
   pub reads : Reads r input.bytes input.ended items rest
-  pub are : matrices r.modulus items ≡ values
+  pub are : contents r.modulus items ≡ said
 
--- the input is read as these matrices, or says why it isn't
-abbrev pub SaysMatrices : Request → Input → Result (List Matrix) TextError → Type 0
-SaysMatrices r input (Ok values) = HasMatrices r input values
-SaysMatrices r input (Err e) = Says (Err e) (reading r input.ended input.bytes)
+-- the input is read as these contents, or says why it isn't
+abbrev pub SaysContents : Request → Input → Result Contents TextError → Type 0
+SaysContents r input (Ok said) = HasContents r input said
+SaysContents r input (Err e) = Says (Err e) (reading r input.ended input.bytes)
 
 -- What was asked for was read from a source, of which nothing was asked before: the input that was taken says so. It was not read for a
 -- failure exactly where the source failed, and no more was taken than was needed.
-pub record WasRead (r : Request) (result : Result (List Matrix) TextError)
+pub record WasRead (r : Request) (result : Result Contents TextError)
     (old new : SourceState) : Type 0 where
   pub input : Input
   pub draws : Draws (IsShort r) (is_failed result) input.bytes (untouched old) (supply_behind input new)
-  pub says : SaysMatrices r input result
+  pub says : SaysContents r input result
 
 -- the matrices that one text, and two texts, were read as
-abbrev pub one_value : Result ResidueMatrix TextError → Result (List Matrix) TextError
-one_value (Ok A) = Ok (A.matrix ∷ [])
+abbrev pub one_value : Result ResidueMatrix TextError → Result Contents TextError
+one_value (Ok A) = Ok (matrices_alone (A.matrix ∷ []))
 one_value (Err e) = Err e
 
-abbrev pub two_values : Result (ResidueMatrix × ResidueMatrix) TextError → Result (List Matrix) TextError
-two_values (Ok (A, B)) = Ok (A.matrix ∷ B.matrix ∷ [])
+abbrev pub two_values : Result (ResidueMatrix × ResidueMatrix) TextError → Result Contents TextError
+two_values (Ok (A, B)) = Ok (matrices_alone (A.matrix ∷ B.matrix ∷ []))
 two_values (Err e) = Err e
+
+-- a matrix and a certificate behind it were read, or not
+abbrev pub WereRead : Request → Result (ResidueMatrix × Certificate) TextError → SourceState → SourceState → Type 0
+WereRead r (Ok (A, c)) old new = (said : Contents) × WasRead r (Ok said) old new × AreToCheck A c said
+WereRead r (Err e) old new = WasRead r (Err e) old new
 
 -- what holds of each matrix that was read
 pub record IsOfText (p : ℕ) (A : ResidueMatrix) : Type 0 where

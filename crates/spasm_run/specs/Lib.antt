@@ -1,5 +1,6 @@
 pub mod Answers
 pub mod Computed
+pub mod Contents
 pub mod Generator
 pub mod Input
 pub mod Line

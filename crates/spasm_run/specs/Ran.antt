@@ -1,7 +1,5 @@
 -- What a run did: each status with its cause, and what a run comes to on a whole input.
 use Rattle.std.specs.Prelude.{◌≡◌, ◌⊎◌, true, ℕ, List, [], ◌++◌, Some, None}
-use Rattle.residue_words.specs.Matrix.{Matrix}
-use Rattle.residue_words.specs.Residues.{IsPrime}
 use Rattle.sms_text.specs.declared.kind.Kind.{Kind}
 use Rattle.sms_text.specs.Reading.{Draws, IsShort, untouched}
 use Rattle.sms_text.specs.Stream.{SinkState, SourceState, Gained, GainedAndFailed, Rose}
@@ -9,8 +7,9 @@ use Rattle.sms_text.specs.Text.{FirstFault, Request, Short, reading}
 use Rattle.spasm_run.specs.declared.status.Status.{Status}
 use Rattle.spasm_run.specs.declared.status.Status.TheVariants as status
 use Rattle.spasm_run.specs.declared.words.Command.{Command}
-use Rattle.spasm_run.specs.Answers.{AnswerOf, misfit, wanted}
-use Rattle.spasm_run.specs.Input.{HasMatrices, Input, supply_behind}
+use Rattle.spasm_run.specs.Answers.{AnswerOf, EndsWith, RestsOn, misfit, wanted}
+use Rattle.spasm_run.specs.Contents.{Contents}
+use Rattle.spasm_run.specs.Input.{HasContents, Input, supply_behind}
 use Rattle.spasm_run.specs.Status.{is_unread}
 use Rattle.spasm_run.specs.Words.{Accepted, AreRefused}
 
@@ -31,22 +30,24 @@ request c limit = record { modulus = c.modulus; limit = limit; due = wanted c.ta
 abbrev pub WantNothing : List (List ℕ) → Type 0
 WantNothing words = (c : Command) → Accepted words c → wanted c.task ≡ []
 
--- the input is whole, its matrices are of the shapes that are wanted, and for a prime modulus this text is the answer
-pub record HasAnswer (c : Command) (limit : ℕ) (input : Input) (text : List ℕ) : Type 0 where
-  pub values : List Matrix
-  pub reads : HasMatrices (request c limit) input values
-  pub fits : misfit c.task values ≡ None
-  pub answers : IsPrime c.modulus → AnswerOf c values text
+-- the input is whole, its matrices are of the shapes that are wanted, this text is the answer where it has what it rests on, and with it a
+-- run ends with this status
+pub record HasAnswer (c : Command) (limit : ℕ) (input : Input) (text : List ℕ) (s : Status) : Type 0 where
+  pub said : Contents
+  pub reads : HasContents (request c limit) input said
+  pub fits : misfit c.task said.matrices ≡ None
+  pub answers : RestsOn c.task c.modulus → AnswerOf c said text
+  pub ends : EndsWith c.task c.modulus said s
 
 -- the input is whole, and its matrices are refused for their shapes
 pub record IsMisfit (c : Command) (limit : ℕ) (input : Input) (s : Status) : Type 0 where
-  pub values : List Matrix
-  pub reads : HasMatrices (request c limit) input values
-  pub refused : misfit c.task values ≡ Some s
+  pub said : Contents
+  pub reads : HasContents (request c limit) input said
+  pub refused : misfit c.task said.matrices ≡ Some s
 
--- the words ask for a command, and this text is its answer
-abbrev pub IsAnswered : List (List ℕ) → ℕ → Input → List ℕ → Type 0
-IsAnswered words limit input text = (c : Command) × Accepted words c × HasAnswer c limit input text
+-- the words ask for a command, and this text is its answer, with which a run ends so
+abbrev pub IsAnswered : List (List ℕ) → ℕ → Input → List ℕ → Status → Type 0
+IsAnswered words limit input text s = (c : Command) × Accepted words c × HasAnswer c limit input text s
 
 -- why there is no answer
 abbrev pub HasNoAnswer : List (List ℕ) → ℕ → Input → Status → Type 0
@@ -62,23 +63,32 @@ HasNoAnswer words limit input (status.Wide height width) =
     (c : Command) × Accepted words c × IsMisfit c limit input (status.Wide height width)
 HasNoAnswer words limit input _ = ⊥
 
+-- the output gained the answer, with which the run ends so
+abbrev pub HasWritten : Run → Input → Status → Type 0
+HasWritten r input s =
+    (text : List ℕ) × IsAnswered r.words r.limit input text s × Gained text r.out r.out_after
+
 -- The run and its input explain this status: the output gained the answer; or it gained a part of the answer, and failed; or there is no
 -- answer, and the output is as it was.
 abbrev pub Explains : Run → Input → Status → Type 0
-Explains r input status.Done =
-    (text : List ℕ) × IsAnswered r.words r.limit input text × Gained text r.out r.out_after
+Explains r input status.Done = HasWritten r input status.Done
+Explains r input status.No = HasWritten r input status.No
 Explains r input status.WriteFault =
-    (part : List ℕ) × (rest : List ℕ) × IsAnswered r.words r.limit input (part ++ rest)
+    (part : List ℕ) × (rest : List ℕ) × (s : Status) × IsAnswered r.words r.limit input (part ++ rest) s
     × GainedAndFailed part r.out r.out_after
 Explains r input s = HasNoAnswer r.words r.limit input s × (r.out_after ≡ r.out)
 
--- the words ask for a command, and these bytes are too few to tell its matrices or a fault
+-- the words ask for a command, and these bytes are too few to tell what they say or a fault
 abbrev pub AreTooFew : List (List ℕ) → ℕ → List ℕ → Type 0
 AreTooFew words limit bytes = (c : Command) × Accepted words c × IsShort (request c limit) bytes
 
 -- this is the status, or memory was wanted
 abbrev pub IsOrMemory : Status → Status → Type 0
 IsOrMemory wanted s = (s ≡ wanted) ⊎ (s ≡ status.Memory)
+
+-- this is the status of a run that wrote its answer, or memory was wanted
+abbrev pub EndsOrMemory : Command → Contents → Status → Type 0
+EndsOrMemory c said s = EndsWith c.task c.modulus said s ⊎ (s ≡ status.Memory)
 
 -- the words ask for this command, and the source, which did not fail, told that these bytes are left in it
 pub record IsOffered (r : Run) (c : Command) (bytes : List ℕ) : Type 0 where
@@ -91,16 +101,16 @@ abbrev pub whole_input : List ℕ → Input
 whole_input bytes = record { bytes = bytes; ended = true }
 
 -- What a run comes to if memory isn't wanted: words that aren't accepted are refused; of a whole input the first fault is named, matrices
--- of wrong shapes are refused, and those that fit are answered, unless the output fails.
+-- of wrong shapes are refused, and what fits is answered, unless the output fails: with Done, or with No for a certificate that isn't valid.
 pub record Completes (r : Run) (s : Status) : Type 0 where
   pub usage : AreRefused r.words → IsOrMemory status.Usage s
   pub fault : (c : Command) (bytes : List ℕ) (line : ℕ) (k : Kind) → IsOffered r c bytes →
       FirstFault (request c r.limit) bytes true line k → IsOrMemory (status.BadText line k) s
   pub shape : (c : Command) (bytes : List ℕ) (t : Status) → IsOffered r c bytes →
       IsMisfit c r.limit (whole_input bytes) t → IsOrMemory t s
-  pub done : (c : Command) (bytes : List ℕ) (values : List Matrix) → IsOffered r c bytes →
-      HasMatrices (request c r.limit) (whole_input bytes) values → misfit c.task values ≡ None →
-      ¬ Rose r.out.faults r.out_after.faults → IsOrMemory status.Done s
+  pub done : (c : Command) (bytes : List ℕ) (said : Contents) → IsOffered r c bytes →
+      HasContents (request c r.limit) (whole_input bytes) said → misfit c.task said.matrices ≡ None →
+      ¬ Rose r.out.faults r.out_after.faults → EndsOrMemory c said s
 
 -- What a run did: it took this input from the source, which failed only where the status says so, and no more than was needed; its
 -- status has a cause; and it came to what it had to.

@@ -6,7 +6,7 @@ use Rattle.sms_text.specs.Numbers.{is_number, value}
 use Rattle.spasm_run.specs.declared.generator.TheConstants.{LARGEST_GENERATED, MOST_PER_ROW}
 use Rattle.spasm_run.specs.declared.words.Command.{Command}
 use Rattle.spasm_run.specs.declared.words.Task.{Task}
-use Rattle.spasm_run.specs.declared.words.Task.TheVariants.{Rank, Rref, Kernel, Solve, LeftKernel, Inverse, Pivots, Drill}
+use Rattle.spasm_run.specs.declared.words.Task.TheVariants.{Rank, Rref, Kernel, Solve, LeftKernel, Inverse, Pivots, Check, Drill}
 
 -- the name of a command, its first word
 abbrev pub task_name : Task → List ℕ
@@ -17,6 +17,7 @@ task_name Solve = codes "solve"
 task_name LeftKernel = codes "leftkernel"
 task_name Inverse = codes "inverse"
 task_name Pivots = codes "pivots"
+task_name Check = codes "check"
 task_name (Drill g) = codes "drill"
 
 -- an option that commands have: its name, the least and the largest number that it takes, and the number that stands where it is absent;

@@ -1,11 +1,13 @@
 // What is answered to a command.
+ghost use Rattle.std.specs.Prelude.{◌≡◌};
 ghost use Rattle.sms_text.specs.Writing.{Writes};
 
 use crate::numbered_text::write_line;
+use crate::status::Status;
 use crate::summary::Summary;
 use crate::written_pivots::write_pivots;
 use pivot_table::Pair;
-use sms_text::{Sink, WriteFault, write_rows, write_titled};
+use sms_text::{Sink, WriteFault, write_rows, write_text, write_titled};
 use sparse_rows::Rows;
 
 // What is answered to a command.
@@ -27,10 +29,12 @@ pub(crate) enum Answer {
     Pivots(Vec<Pair>),
     // What is told of the echelon form of a matrix that was generated.
     Summary(Summary),
+    // Whether a certificate is valid.
+    Verdict(bool),
 }
 
 impl Answer {
-    ghost use Rattle.spasm_run.specs.Computed.{IsSmall, answer_text};
+    ghost use Rattle.spasm_run.specs.Computed.{IsSmall, answer_text, status_behind};
 
     // Writes the answer. It takes no memory.
     pub(crate) fn write<K: Sink>(&self, out: &mut K) -> Result<(), WriteFault>
@@ -46,6 +50,18 @@ impl Answer {
             Answer::Singular(v) => write_titled(out, "singular\n", v),
             Answer::Pivots(pairs) => write_pivots(out, pairs),
             Answer::Summary(summary) => summary.write(out),
+            Answer::Verdict(true) => write_text(out, "yes\n"),
+            Answer::Verdict(false) => write_text(out, "no\n"),
+        }
+    }
+
+    // The status of a run that wrote the answer.
+    pub(crate) fn status(&self) -> Status
+        ensures { result ≡ status_behind self.now }
+    {
+        match self {
+            Answer::Verdict(false) => Status::No,
+            _ => Status::Done,
         }
     }
 }

@@ -7,8 +7,11 @@ ghost use Rattle.kernel_solve.specs.Column.{column};
 ghost use Rattle.kernel_solve.specs.Found.{HasShape};
 ghost use Rattle.sparse_rows.specs.declared.rows.TheConstants.{LARGEST_SIZE};
 ghost use Rattle.spasm_run.specs.Answers.{IsOneAnswer, as_row};
-ghost use Rattle.spasm_run.specs.Computed.{AnswersSystem, ComesOf, asking};
+ghost use Rattle.spasm_run.specs.Computed.{AnswersSystem, ComesOf, ComesOfContents, IsSmall, asking};
+ghost use Rattle.spasm_run.specs.Contents.{AreToCheck, Contents};
+ghost use Rattle.certificates.specs.Certificate.{IsFormed};
 ghost use Rattle.spasm_run.specs.Generator.{HasSizesInRange};
+ghost use Rattle.spasm_run.specs.declared.words.Command.{Command};
 ghost use Rattle.spasm_run.specs.declared.words.Task.TheVariants as task;
 
 #[cfg(test)]
@@ -19,6 +22,8 @@ use crate::generator::Generator;
 use crate::status::Status;
 use crate::summary::Summary;
 use crate::words::Command;
+use cert_checker::check;
+use certificates::Certificate;
 use dense_finish::finish;
 use echelon_form::Echelon;
 use fl_pivots::leftmost;
@@ -215,6 +220,21 @@ pub(crate) fn find_solution<R: Threads + Sync>(
             Ok(Answer::Refutation(y))
         }
     }
+}
+
+// Whether a certificate is valid for a matrix, by multiplying: nothing is eliminated.
+pub(crate) fn find_verdict(
+    alloc: Global,
+    a: &Rows,
+    certificate: &Certificate,
+) -> Result<Answer, Status>
+    requires { IsFormed a.now.modulus certificate.now }
+    ensures comes { (c : Command) (said : Contents) → AreToCheck a.now certificate.now said
+        → ComesOfContents (asking task.Check a.now.modulus c) said result }
+    ensures small { IfOk result IsSmall }
+{
+    let valid = check(alloc, a, certificate)?;
+    Ok(Answer::Verdict(valid))
 }
 
 // What the echelon form of a system [A | b] tells of A x = b. The system is let go once its form is made.

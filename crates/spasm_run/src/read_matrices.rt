@@ -1,9 +1,12 @@
-// The matrices of an input.
+// The matrices of an input, and a certificate behind one.
 ghost use Rattle.std.specs.Prelude.{◌≤◌, [], ◌∷◌, IfOk};
-ghost use Rattle.sms_text.specs.Text.{Header};
+ghost use Rattle.sms_text.specs.OuterLines as form;
+ghost use Rattle.sms_text.specs.Text.{Header, Outer};
 ghost use Rattle.sms_text.specs.declared.reader.TheConstants.{LARGEST_INPUT};
-ghost use Rattle.spasm_run.specs.Input.{IsOfText, WasRead, one_value, two_values};
+ghost use Rattle.certificates.specs.Certificate.{IsFormed};
+ghost use Rattle.spasm_run.specs.Input.{IsOfText, WasRead, WereRead, one_value, two_values};
 
+use certificates::Certificate;
 use residue_words::Modulus;
 use sms_text::{Reader, Source, TextError, read_rows};
 use sparse_rows::Rows;
@@ -46,4 +49,26 @@ pub(crate) fn read_two<S: Source>(
     let a = read_rows(&mut reader, alloc, source, p)?;
     let b = read_rows(&mut reader, alloc, source, p)?;
     Ok((a, b))
+}
+
+// Reads a matrix and the certificate behind it, in an input of at most `limit` bytes.
+pub(crate) fn read_to_check<S: Source>(
+    alloc: Global,
+    p: &Modulus,
+    source: &mut S,
+    limit: u64,
+) -> Result<(Rows, Certificate), TextError>
+    requires { limit ≤ LARGEST_INPUT }
+    ensures did { WereRead
+        (record { modulus = p.now; limit = limit; due = Header ∷ Outer form.Certificate ∷ [] })
+        result (S.state source.old) (S.state source.new) }
+    ensures matrix { IfOk result (λ both. IsOfText p.now both.0) }
+    ensures formed { IfOk result (λ both. IsFormed p.now both.1) }
+{
+    let Ok(mut reader) = Reader::new(alloc, limit) else {
+        return Err(TextError::Memory);
+    };
+    let a = read_rows(&mut reader, alloc, source, p)?;
+    let certificate = certificates::read(&mut reader, alloc, source, p)?;
+    Ok((a, certificate))
 }

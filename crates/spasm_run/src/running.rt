@@ -15,9 +15,9 @@ pub(crate) mod tests;
 use crate::answer::Answer;
 use crate::commands::{
     find_form, find_inverse, find_kernel, find_left_kernel, find_pivots, find_rank, find_solution,
-    find_summary,
+    find_summary, find_verdict,
 };
-use crate::read_matrices::{read_one, read_two};
+use crate::read_matrices::{read_one, read_to_check, read_two};
 use crate::status::Status;
 use crate::words::{Command, Task, read_words};
 use optimistic_search::Gate;
@@ -112,7 +112,7 @@ fn answer<'a, R: Threads + Sync, S: Source, K: Sink, G: Gate>(
 {
     match find(rt, alloc, words, source, gate, limit) {
         Ok(answer) => match answer.write(out) {
-            Ok(()) => Status::Done,
+            Ok(()) => answer.status(),
             Err(_) => Status::WriteFault,
         },
         Err(status) => status,
@@ -176,6 +176,10 @@ fn find_for<R: Threads + Sync, S: Source, G: Gate>(
         Task::Pivots => {
             let a = read_one(alloc, &p, source, limit)?;
             find_pivots(rt, alloc, &a, command, gate)
+        }
+        Task::Check => {
+            let (a, certificate) = read_to_check(alloc, &p, source, limit)?;
+            find_verdict(alloc, &a, &certificate)
         }
         Task::Drill(generator) => find_summary(rt, alloc, &p, &generator, command),
     }

@@ -12,7 +12,7 @@ use std::fmt::{self, Display, Formatter};
 pub enum Status {
     /// The answer was written.
     Done,
-    /// What was to be checked isn't valid. No command answers so yet.
+    /// The answer was written, and it is that a certificate isn't valid.
     No,
     /// The words aren't accepted.
     Usage,

@@ -35,6 +35,8 @@ pub enum Task {
     Inverse,
     /// The structural pivots of a matrix.
     Pivots,
+    /// Whether a certificate is valid for a matrix.
+    Check,
     /// A summary of the echelon form of a matrix that is generated.
     Drill(Generator),
 }

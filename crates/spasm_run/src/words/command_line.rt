@@ -10,7 +10,7 @@ use clap::{Arg, ArgAction};
 use std::alloc::{AllocError, Global};
 
 // The commands without options of their own: each one's name, with what it asks for.
-static TASKS: [(&str, Task); 7] = [
+static TASKS: [(&str, Task); 8] = [
     ("rank", Task::Rank),
     ("rref", Task::Rref),
     ("kernel", Task::Kernel),
@@ -18,6 +18,7 @@ static TASKS: [(&str, Task); 7] = [
     ("leftkernel", Task::LeftKernel),
     ("inverse", Task::Inverse),
     ("pivots", Task::Pivots),
+    ("check", Task::Check),
 ];
 
 // The names of the options that each command has.

@@ -46,6 +46,7 @@ const ACCEPTED: &[(&[&str], Task, u64, u32, u32)] = &[
     (&["leftkernel"], Task::LeftKernel, 42_013, 1, 3),
     (&["inverse"], Task::Inverse, 42_013, 1, 3),
     (&["pivots", "--workers=64"], Task::Pivots, 42_013, 64, 3),
+    (&["check", "--modulus=7"], Task::Check, 7, 1, 3),
     (
         &[
             "inverse",

@@ -9,6 +9,7 @@ returns g c =
     let factors = c.in_ok-factors.factors in record {
       small = tt;
       fits = refl;
+      ends = refl;
       answers = λ prime.
           (length factors.pivots, c.factors_give_rank.ensures A.modulus A.matrix factors.pivots factors.l.matrix factors.u.matrix prime c.height.ensures.sound (c.in_ok-factors.ensures.factors prime), ap (λ l. rank_text (length l)) c.items.ensures);
     }

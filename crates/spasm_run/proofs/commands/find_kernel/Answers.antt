@@ -8,5 +8,6 @@ returns g c =
     let basis = c.in_ok-basis in record {
       small = (omega (arith, basis.ensures.height, c.in_ok-form.ensures.width), omega (arith, basis.ensures.width, c.in_ok-form.ensures.width));
       fits = refl;
+      ends = refl;
       answers = λ prime. (basis.basis.matrix, basis.ensures.kernel A.modulus A.matrix prime c.in_ok-form.ensures, refl);
     }

@@ -1,13 +1,15 @@
 -- What is found for the matrices of a command is found for its words.
-use Rattle.std.proofs.Common.{[], ◌∷◌}
+use Rattle.std.proofs.Common.{[], ◌∷◌, subst, sym}
+use Rattle.certificates.specs.Certificate.{IsFormed}
 use Rattle.spasm_run.specs.declared.words.Task.TheVariants as task
+use Rattle.spasm_run.specs.Contents.{matrices_alone}
 use Rattle.spasm_run.proofs.Whole.{found_generated, found_given, found_unread}
 use Rattle.spasm_run.proofs.running.find_for.Goals as goal
 
 pub returns-in_ok-read_one-in-Rank-clause-found : goal.returns-in_ok-read_one-in-Rank-clause-found
 returns-in_ok-read_one-in-Rank-clause-found g c = λ words accepted.
     let a = c.in_ok-read_one-in-Rank in
-    found_given words c.args.command task.Rank c.new-p.result a.field-0.modulus c.args.limit _ _ (a.field-0.matrix ∷ []) _ c.in-Rank.is c.new-p.ensures a.ensures.matrix.modulus accepted a.ensures.did c.find_rank-in-Rank.ensures
+    found_given words c.args.command task.Rank c.new-p.result a.field-0.modulus c.args.limit _ _ (matrices_alone (a.field-0.matrix ∷ [])) _ c.in-Rank.is c.new-p.ensures a.ensures.matrix.modulus accepted a.ensures.did c.find_rank-in-Rank.ensures
 
 pub returns-in_err-read_one-in-Rank-clause-found : goal.returns-in_err-read_one-in-Rank-clause-found
 returns-in_err-read_one-in-Rank-clause-found g c = λ words accepted.
@@ -16,7 +18,7 @@ returns-in_err-read_one-in-Rank-clause-found g c = λ words accepted.
 pub returns-in_ok-read_one-in-Rref-clause-found : goal.returns-in_ok-read_one-in-Rref-clause-found
 returns-in_ok-read_one-in-Rref-clause-found g c = λ words accepted.
     let a = c.in_ok-read_one-in-Rref in
-    found_given words c.args.command task.Rref c.new-p.result a.field-0.modulus c.args.limit _ _ (a.field-0.matrix ∷ []) _ c.in-Rref.is c.new-p.ensures a.ensures.matrix.modulus accepted a.ensures.did c.find_form-in-Rref.ensures
+    found_given words c.args.command task.Rref c.new-p.result a.field-0.modulus c.args.limit _ _ (matrices_alone (a.field-0.matrix ∷ [])) _ c.in-Rref.is c.new-p.ensures a.ensures.matrix.modulus accepted a.ensures.did c.find_form-in-Rref.ensures
 
 pub returns-in_err-read_one-in-Rref-clause-found : goal.returns-in_err-read_one-in-Rref-clause-found
 returns-in_err-read_one-in-Rref-clause-found g c = λ words accepted.
@@ -25,7 +27,7 @@ returns-in_err-read_one-in-Rref-clause-found g c = λ words accepted.
 pub returns-in_ok-read_one-in-Kernel-clause-found : goal.returns-in_ok-read_one-in-Kernel-clause-found
 returns-in_ok-read_one-in-Kernel-clause-found g c = λ words accepted.
     let a = c.in_ok-read_one-in-Kernel in
-    found_given words c.args.command task.Kernel c.new-p.result a.field-0.modulus c.args.limit _ _ (a.field-0.matrix ∷ []) _ c.in-Kernel.is c.new-p.ensures a.ensures.matrix.modulus accepted a.ensures.did c.find_kernel-in-Kernel.ensures
+    found_given words c.args.command task.Kernel c.new-p.result a.field-0.modulus c.args.limit _ _ (matrices_alone (a.field-0.matrix ∷ [])) _ c.in-Kernel.is c.new-p.ensures a.ensures.matrix.modulus accepted a.ensures.did c.find_kernel-in-Kernel.ensures
 
 pub returns-in_err-read_one-in-Kernel-clause-found : goal.returns-in_err-read_one-in-Kernel-clause-found
 returns-in_err-read_one-in-Kernel-clause-found g c = λ words accepted.
@@ -34,7 +36,7 @@ returns-in_err-read_one-in-Kernel-clause-found g c = λ words accepted.
 pub returns-in_ok-read_one-in-LeftKernel-clause-found : goal.returns-in_ok-read_one-in-LeftKernel-clause-found
 returns-in_ok-read_one-in-LeftKernel-clause-found g c = λ words accepted.
     let a = c.in_ok-read_one-in-LeftKernel in
-    found_given words c.args.command task.LeftKernel c.new-p.result a.field-0.modulus c.args.limit _ _ (a.field-0.matrix ∷ []) _ c.in-LeftKernel.is c.new-p.ensures a.ensures.matrix.modulus accepted a.ensures.did c.find_left_kernel-in-LeftKernel.ensures
+    found_given words c.args.command task.LeftKernel c.new-p.result a.field-0.modulus c.args.limit _ _ (matrices_alone (a.field-0.matrix ∷ [])) _ c.in-LeftKernel.is c.new-p.ensures a.ensures.matrix.modulus accepted a.ensures.did c.find_left_kernel-in-LeftKernel.ensures
 
 pub returns-in_err-read_one-in-LeftKernel-clause-found : goal.returns-in_err-read_one-in-LeftKernel-clause-found
 returns-in_err-read_one-in-LeftKernel-clause-found g c = λ words accepted.
@@ -43,7 +45,7 @@ returns-in_err-read_one-in-LeftKernel-clause-found g c = λ words accepted.
 pub returns-in_ok-read_one-in-Inverse-clause-found : goal.returns-in_ok-read_one-in-Inverse-clause-found
 returns-in_ok-read_one-in-Inverse-clause-found g c = λ words accepted.
     let a = c.in_ok-read_one-in-Inverse in
-    found_given words c.args.command task.Inverse c.new-p.result a.field-0.modulus c.args.limit _ _ (a.field-0.matrix ∷ []) _ c.in-Inverse.is c.new-p.ensures a.ensures.matrix.modulus accepted a.ensures.did c.find_inverse-in-Inverse.ensures
+    found_given words c.args.command task.Inverse c.new-p.result a.field-0.modulus c.args.limit _ _ (matrices_alone (a.field-0.matrix ∷ [])) _ c.in-Inverse.is c.new-p.ensures a.ensures.matrix.modulus accepted a.ensures.did c.find_inverse-in-Inverse.ensures
 
 pub returns-in_err-read_one-in-Inverse-clause-found : goal.returns-in_err-read_one-in-Inverse-clause-found
 returns-in_err-read_one-in-Inverse-clause-found g c = λ words accepted.
@@ -52,7 +54,7 @@ returns-in_err-read_one-in-Inverse-clause-found g c = λ words accepted.
 pub returns-in_ok-a-in-Pivots-clause-found : goal.returns-in_ok-a-in-Pivots-clause-found
 returns-in_ok-a-in-Pivots-clause-found g c = λ words accepted.
     let a = c.in_ok-a-in-Pivots in
-    found_given words c.args.command task.Pivots c.new-p.result a.a.modulus c.args.limit _ _ (a.a.matrix ∷ []) _ c.in-Pivots.is c.new-p.ensures a.ensures.matrix.modulus accepted a.ensures.did c.find_pivots.ensures
+    found_given words c.args.command task.Pivots c.new-p.result a.a.modulus c.args.limit _ _ (matrices_alone (a.a.matrix ∷ [])) _ c.in-Pivots.is c.new-p.ensures a.ensures.matrix.modulus accepted a.ensures.did c.find_pivots.ensures
 
 pub returns-in_err-a-in-Pivots-clause-found : goal.returns-in_err-a-in-Pivots-clause-found
 returns-in_err-a-in-Pivots-clause-found g c = λ words accepted.
@@ -61,7 +63,7 @@ returns-in_err-a-in-Pivots-clause-found g c = λ words accepted.
 pub returns-in_ok-a-in-Solve-clause-found : goal.returns-in_ok-a-in-Solve-clause-found
 returns-in_ok-a-in-Solve-clause-found g c = λ words accepted.
     let both = c.in_ok-a-in-Solve in
-    found_given words c.args.command task.Solve c.new-p.result both.a.modulus c.args.limit _ _ (both.a.matrix ∷ both.b.matrix ∷ []) _ c.in-Solve.is c.new-p.ensures both.ensures.first.modulus accepted both.ensures.did c.find_solution.ensures
+    found_given words c.args.command task.Solve c.new-p.result both.a.modulus c.args.limit _ _ (matrices_alone (both.a.matrix ∷ both.b.matrix ∷ [])) _ c.in-Solve.is c.new-p.ensures both.ensures.first.modulus accepted both.ensures.did c.find_solution.ensures
 
 pub returns-in_err-a-in-Solve-clause-found : goal.returns-in_err-a-in-Solve-clause-found
 returns-in_err-a-in-Solve-clause-found g c = λ words accepted.
@@ -70,3 +72,18 @@ returns-in_err-a-in-Solve-clause-found g c = λ words accepted.
 pub returns-in-Drill-clause-found : goal.returns-in-Drill-clause-found
 returns-in-Drill-clause-found g c = λ words accepted.
     found_generated words c.args.command c.in-Drill.generator c.new-p.result c.args.limit _ _ c.in-Drill.is c.new-p.ensures accepted c.find_summary.ensures
+
+pub find_verdict-requires : goal.find_verdict-requires
+find_verdict-requires g c =
+    let both = c.in_ok-a-in-Check in
+    subst (λ q. IsFormed q both.certificate) (sym both.ensures.matrix.modulus) both.ensures.formed
+
+pub returns-in_ok-a-in-Check-clause-found : goal.returns-in_ok-a-in-Check-clause-found
+returns-in_ok-a-in-Check-clause-found g c = λ words accepted.
+    let both = c.in_ok-a-in-Check in
+    let (said, was, are) = both.ensures.did in
+    found_given words c.args.command task.Check c.new-p.result both.a.modulus c.args.limit _ _ said _ c.in-Check.is c.new-p.ensures both.ensures.matrix.modulus accepted was (c.find_verdict.ensures.comes c.args.command said are)
+
+pub returns-in_err-a-in-Check-clause-found : goal.returns-in_err-a-in-Check-clause-found
+returns-in_err-a-in-Check-clause-found g c = λ words accepted.
+    found_unread words c.args.command task.Check c.new-p.result c.args.limit _ _ c.in_err-a-in-Check.field-0.0 _ c.in-Check.is c.new-p.ensures c.from_residual-in_err-a-in-Check.ensures.1 accepted c.in_err-a-in-Check.ensures.did
