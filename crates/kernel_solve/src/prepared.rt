@@ -104,8 +104,8 @@ impl Prepared {
         requires modulus { b.now.modulus ≡ self.now.transformation.modulus }
         requires height { b.now.matrix.height ≡ self.now.transformation.matrix.width }
         requires column { b.now.matrix.width ≡ 1 }
-        ensures { IfOk result (λ reply. (p : ℕ) (A : Matrix) → IsPrime p → IsMatrix p A → IsPreparedFor p A self.now
-            → RepliesTo p A (column b.now.matrix) reply) }
+        ensures { IfOk result (λ reply. (p : ℕ) (A : Matrix) → IsPrime p → IsMatrix p A
+            → IsPreparedFor p A self.now → RepliesTo p A (column b.now.matrix) reply) }
     {
         // The proof wants that all three are matrices of residues, and how high and wide they are.
         let _ = (
