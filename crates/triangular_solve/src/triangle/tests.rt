@@ -1,8 +1,8 @@
-// The triangular order of two pivots, and what they leave of rows.
+// The triangular order of two pivots.
 ghost use Rattle.std.specs.Prelude.{◌≡◌, IfOk};
 ghost use Rattle.pivot_table.specs.Example.{pivot_example};
 
-use crate::{Triangle, Work};
+use crate::Triangle;
 use pivot_table::{Book, Pair};
 use residue_words::Modulus;
 use sparse_rows::Rows;
@@ -36,14 +36,5 @@ fn the_row_with_the_other_column_is_first(rt: HostRuntime) -> Result<(), Fail> {
     let order = [Pair { row: 1, col: 1 }, Pair { row: 0, col: 0 }];
     assert_eq!(rt; triangle.pairs(), order.as_slice());
     assert_eq!(rt; triangle.rows().height(), 3);
-    let mut work = Work::new(rt.alloc(), &triangle)?;
-    let reduced = triangle.reduce(rt.alloc(), &[0, 1, 2], &[1, 1, 2], &mut work)?;
-    assert_eq!(rt; reduced.rest.cols(), [2].as_slice());
-    assert_eq!(rt; reduced.rest.vals(), [1].as_slice());
-    assert_eq!(rt; reduced.coefficients.cols(), [0].as_slice());
-    assert_eq!(rt; reduced.coefficients.vals(), [1].as_slice());
-    let rest = triangle.rest(rt.alloc(), &[0, 2], &[3, 5], &mut work)?;
-    assert_eq!(rt; rest.cols(), [2].as_slice());
-    assert_eq!(rt; rest.vals(), [5].as_slice());
     Ok(())
 }
