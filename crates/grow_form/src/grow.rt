@@ -51,7 +51,8 @@ impl Grow {
     /// The time is that of the entries of the kept rows that are used, and a step for each 4096 columns.
     pub fn append(&mut self, cols: &[u32], vals: &[u64]) -> Result<bool, AllocError>
         requires { IsSparse self.old.modulus self.old.matrix.width cols.now vals.now }
-        ensures ok { IfOk result (AppendsRow self.old self.new (spread self.old.matrix.width cols.now vals.now)) }
+        ensures ok { IfOk result
+            (AppendsRow self.old self.new (spread self.old.matrix.width cols.now vals.now)) }
         ensures err { OnErr result (self.new ≡ self.old) }
     {
         // The call tells what the kept rows promise before they change.

@@ -48,7 +48,8 @@ fn boundary(alloc: Global) -> Result<Rows, AllocError> {
 
 // The rank of a matrix and the basis of its kernel, both read off its reduced row echelon form, which two workers settle.
 fn summary_of<R: Threads + Sync>(rt: &R, alloc: Global, rows: &Rows) -> Result<Summary, AllocError>
-    ensures rank { IfOk result (λ s. IsPrime rows.now.modulus → HasRank rows.now.modulus rows.now.matrix s.rank) }
+    ensures rank { IfOk result (λ s.
+        IsPrime rows.now.modulus → HasRank rows.now.modulus rows.now.matrix s.rank) }
     ensures kernel { IfOk result (λ s.
         IsPrime rows.now.modulus → IsKernel rows.now.modulus rows.now.matrix s.kernel.matrix) }
 {

@@ -95,7 +95,8 @@ pub fn take_row<G: Gate, L: Ledger>(
     ensures idle { IsIdle board.now seat.new walk.new }
     ensures taken { TakesRow board.now.rows.matrix row seat.old.chair result seat.new.chair }
     ensures busy { NoneIfBusy result steps.old steps.new }
-    ensures cost { TakesItsCost board.now.rows.matrix (others_seen result seat.new.chair) row steps.old steps.new }
+    ensures cost { TakesItsCost board.now.rows.matrix
+        (others_seen result seat.new.chair) row steps.old steps.new }
 {
     if !board.claim(seat, row) {
         return Taken::Busy;

@@ -77,8 +77,10 @@ pub fn search_traced<'a, R: Threads + Sync, G: Gate>(
     ensures begins { IfOk result (λ t. StartsWith t.book.pairs book.entry.pairs) }
     ensures maximal { IfOk result (λ t. Maximal book.entry.rows.matrix t.book.pairs) }
     ensures greedy { workers ≡ 1 → IfOk result (λ t. IsGreedyFrom book.entry t.book) }
-    ensures versions { IfOk result (λ t. AreVersions (length book.entry.pairs) (length t.book.pairs) t.versions) }
-    ensures alone { workers ≡ 1 → IfOk result (λ t. AreVersions (length t.book.pairs) (length t.book.pairs) t.versions) }
+    ensures versions { IfOk result (λ t.
+        AreVersions (length book.entry.pairs) (length t.book.pairs) t.versions) }
+    ensures alone { workers ≡ 1 → IfOk result (λ t.
+        AreVersions (length t.book.pairs) (length t.book.pairs) t.versions) }
 {
     if workers == 1 || has_few_entries(book.rows()) {
         let found = search_alone(alloc, book)?;

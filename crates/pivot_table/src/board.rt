@@ -128,7 +128,8 @@ impl<'a> Board<'a> {
         requires row { row < self.now.rows.matrix.height }
         requires idle { seat.old.chair.hand ≡ None }
         ensures seat { IsSeatOf self.now seat.new }
-        ensures chair { MatchBool result (Claims seat.old.chair row seat.new.chair) (seat.new.chair ≡ meeting seat.old.chair row) }
+        ensures chair { MatchBool result (Claims seat.old.chair row seat.new.chair)
+            (seat.new.chair ≡ meeting seat.old.chair row) }
     {
         let word = self.word_of(row);
         let was = self
@@ -231,7 +232,8 @@ impl<'a> Board<'a> {
         ensures begins { StartsWith result.book.pairs self.entry.pairs }
         ensures seen { StartsWith result.book.pairs seat.chair.seen }
         ensures tall { length result.done ≡ self.entry.rows.matrix.height }
-        ensures settled { (r : ℕ) → IsDone result.done r → StandsOrIsDead self.entry.rows.matrix result.book.pairs r }
+        ensures settled { (r : ℕ) → IsDone result.done r
+            → StandsOrIsDead self.entry.rows.matrix result.book.pairs r }
         ensures finished { (r : ℕ) → Contains seat.chair.finished r → IsDone result.done r }
         ensures starts { AreStartsFrom (length self.entry.pairs) (length result.book.pairs) result.starts }
         ensures noted { AreNoted seat.chair.places result.starts }
