@@ -9,16 +9,14 @@ use std::sync::atomic::{AtomicU64, Ordering};
 use std::test::Fail;
 use std::thread::Threads;
 
-// What a run of `pivots` modulo 7 with these options writes, where it is done.
-fn pivots<'a, R: Threads + Sync, G: Gate>(
+// What a run with these words writes, where it is done.
+fn written<'a, R: Threads + Sync, G: Gate>(
     rt: &R,
     alloc: Global,
-    options: &'a [&'a str],
+    words: &'a [&'a str],
     text: &str,
     gate: &G,
 ) -> Result<Option<MemorySink>, AllocError> {
-    let mut words = Vec::from_slice(alloc, &["pivots", "--modulus", "7"])?;
-    words.extend_from_slice(options)?;
     let mut source = MemorySource::new(
         Vec::from_slice(alloc, text.as_bytes())?,
         64,
@@ -26,7 +24,7 @@ fn pivots<'a, R: Threads + Sync, G: Gate>(
     );
     let mut out = MemorySink::new(alloc, 256, 64, Vec::new(alloc))?;
     let mut err = MemorySink::new(alloc, 64, 64, Vec::new(alloc))?;
-    let status = run(rt, alloc, &words, &mut source, &mut out, &mut err, gate);
+    let status = run(rt, alloc, words, &mut source, &mut out, &mut err, gate);
     Ok(if status == Status::Done {
         Some(out)
     } else {
@@ -42,40 +40,56 @@ fn is_among(written: &Option<MemorySink>, texts: &[&str]) -> bool {
     }
 }
 
-// Options of runs, texts, and all that may be answered: by one worker the greedy selection, whatever rounds are asked for; by several
+// Words, texts, and all that may be answered: by one worker the greedy selection, whatever rounds are asked for; by several
 // any pivots that are triangular and maximal.
 const KNOWN: &[(&[&str], &str, &[&str])] = &[
-    (&["--workers=1"], X, &["pivots 2\n1 3\n2 1\n"]),
     (
-        &["--workers", "1", "--rounds", "0"],
+        &["pivots", "--modulus=7", "--workers=1"],
         X,
         &["pivots 2\n1 3\n2 1\n"],
     ),
-    (&[], Y, &["pivots 2\n2 2\n1 1\n"]),
-    (&["--rounds=16"], Y, &["pivots 2\n2 2\n1 1\n"]),
-    (&[], "0 5 M\n0 0 0\n", &["pivots 0\n"]),
-    (&["--workers", "64"], "0 5 M\n0 0 0\n", &["pivots 0\n"]),
     (
-        &["--workers", "2"],
+        &["pivots", "--modulus=7", "--workers", "1", "--rounds", "0"],
+        X,
+        &["pivots 2\n1 3\n2 1\n"],
+    ),
+    (&["pivots", "--modulus=7"], Y, &["pivots 2\n2 2\n1 1\n"]),
+    (
+        &["pivots", "--modulus=7", "--rounds=16"],
+        Y,
+        &["pivots 2\n2 2\n1 1\n"],
+    ),
+    (
+        &["pivots", "--modulus=7"],
+        "0 5 M\n0 0 0\n",
+        &["pivots 0\n"],
+    ),
+    (
+        &["pivots", "--modulus=7", "--workers", "64"],
+        "0 5 M\n0 0 0\n",
+        &["pivots 0\n"],
+    ),
+    (
+        &["pivots", "--modulus=7", "--workers", "2"],
         X,
         &["pivots 2\n1 3\n2 1\n", "pivots 2\n3 3\n2 1\n"],
     ),
     (
-        &["--workers", "2"],
+        &["pivots", "--modulus=7", "--workers", "2"],
         Y,
         &["pivots 2\n2 2\n1 1\n", "pivots 2\n3 2\n1 1\n"],
     ),
     (
-        &["--workers=64", "--rounds=0"],
+        &["pivots", "--modulus=7", "--workers=64", "--rounds=0"],
         Y,
         &["pivots 2\n2 2\n1 1\n", "pivots 2\n3 2\n1 1\n"],
     ),
 ];
 
 fn check_pivots<R: Threads + Sync + Abort>(rt: &R, alloc: Global) -> Result<(), Fail> {
-    for (options, text, answers) in KNOWN {
-        let written = pivots(rt, alloc, options, text, &Open)?;
-        assert!(rt; is_among(&written, answers), "{:?} at {:?}", options, text);
+    for (words, text, answers) in KNOWN {
+        let out = written(rt, alloc, words, text, &Open)?;
+        assert!(rt; is_among(&out, answers), "{:?} at {:?}", words, text);
     }
     Ok(())
 }
@@ -120,8 +134,9 @@ fn is_overtaken<R: Threads + Sync>(rt: &R, alloc: Global) -> Result<bool, AllocE
         owner: AtomicU64::new(0),
         published: AtomicU64::new(0),
     };
-    let written = pivots(rt, alloc, &["--workers", "2"], Y, &gate)?;
-    Ok(is_among(&written, &["pivots 2\n3 2\n1 1\n"]) && gate.published.load(Ordering::SeqCst) == 1)
+    let words = ["pivots", "--modulus=7", "--workers=2"];
+    let out = written(rt, alloc, &words, Y, &gate)?;
+    Ok(is_among(&out, &["pivots 2\n3 2\n1 1\n"]) && gate.published.load(Ordering::SeqCst) == 1)
 }
 
 #[test]
