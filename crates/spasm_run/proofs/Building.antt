@@ -12,7 +12,7 @@ use Rattle.clap.specs.declared.builder.command.Command.TheViews.{out-Command as 
 use Rattle.spasm_run.specs.Options.{IsBareTask}
 use Rattle.spasm_run.specs.Line.{no_commands, command_named, option_rule, with_options}
 use Rattle.spasm_run.specs.declared.words.Task.{Task}
-use Rattle.spasm_run.specs.declared.words.Task.TheVariants.{Rank, Rref, Kernel, Solve, LeftKernel, Inverse, Pivots, Check, Drill}
+use Rattle.spasm_run.specs.declared.words.Task.TheVariants.{Rank, Rref, Kernel, Solve, LeftKernel, Inverse, Pivots, Check, Drill, Certify}
 
 -- ---- the options of a command
 
@@ -62,13 +62,16 @@ command_added items i d old named new lt h n adds =
 pub all_commands : (items : List Named) (i : ℕ) (c : Command) → length items ≤ i → app_of c ≡ commands_so_far (take i items) → app_of c ≡ commands_so_far items
 all_commands items i c le h = h ∙ ap commands_so_far (take_all i items le)
 
--- one more command, behind all of a table
-pub last_added : {E : Type 0} (result : Result Command E) (items : List Named) (i : ℕ) (name : Text) (own : List Text) (old named : Command) → length items ≤ i
-    → app_of old ≡ commands_so_far (take i items) → (app_of named ≡ command_named name own) × ((fields_of named).has_globals ≡ false) → IfOk result (AddsSubcommand old named)
-    → IfOk result (λ c. app_of c ≡ with_subcommand (commands_so_far items) (command_named name own).top)
-last_added (Ok c) items i name own old named le h n adds =
-    adds.shape n.1 ∙ ap₂ with_subcommand (h ∙ ap commands_so_far (take_all i items le)) (ap (λ (a : App). a.top) n.0)
-last_added (Err e) items i name own old named le h n adds = tt
+-- one more command, behind others
+pub one_added : (app : App) (name : Text) (own : List Text) (old named new : Command) → app_of old ≡ app → (app_of named ≡ command_named name own) × ((fields_of named).has_globals ≡ false)
+    → AddsSubcommand old named new → app_of new ≡ with_subcommand app (command_named name own).top
+one_added app name own old named new h n adds = adds.shape n.1 ∙ ap₂ with_subcommand h (ap (λ (a : App). a.top) n.0)
+
+pub last_added : {E : Type 0} (result : Result Command E) (app : App) (name : Text) (own : List Text) (old named : Command) → app_of old ≡ app
+    → (app_of named ≡ command_named name own) × ((fields_of named).has_globals ≡ false) → IfOk result (AddsSubcommand old named)
+    → IfOk result (λ c. app_of c ≡ with_subcommand app (command_named name own).top)
+last_added (Ok c) app name own old named h n adds = one_added app name own old named c h n adds
+last_added (Err e) app name own old named h n adds = tt
 
 -- ---- looking a task up
 
@@ -97,3 +100,4 @@ no_bare_task w h1 h2 h3 h4 h5 h6 h7 h8 Inverse (e, own) = h6 (sym e)
 no_bare_task w h1 h2 h3 h4 h5 h6 h7 h8 Pivots (e, own) = h7 (sym e)
 no_bare_task w h1 h2 h3 h4 h5 h6 h7 h8 Check (e, own) = h8 (sym e)
 no_bare_task w h1 h2 h3 h4 h5 h6 h7 h8 (Drill g) (e, own) = absurd cc
+no_bare_task w h1 h2 h3 h4 h5 h6 h7 h8 (Certify k) (e, own) = absurd cc

@@ -4,6 +4,7 @@ use Rattle.std.specs.Prelude.{option_map, unwrap_or}
 use Rattle.std.specs.List.{Contains, find, flat_map, list_any}
 use Rattle.std.specs.Str.{bytes_eq}
 use Rattle.std.proofs.lemmas.Bool.Decides.{nat_tests}
+use Rattle.std.proofs.lemmas.Slice.Eq.{bytes_eq-Decides}
 use Rattle.clap.specs.Walk.{Row, Text, first_of}
 use Rattle.std.specs.Borrow.{Bor}
 use Rattle.clap.specs.Simple.{subcommand_of, subcommand_rows_of}
@@ -11,12 +12,14 @@ use Rattle.clap.specs.declared.parser.matches.ArgMatches.{ArgMatches}
 use Rattle.clap.specs.Faults.{fault_of}
 use Rattle.clap.proofs.CutLemmas.{Lacks}
 use Rattle.sms_text.specs.Numbers.{are_digits, is_digit, is_number}
-use Rattle.spasm_run.specs.Words.{Accepted, AreKnown, AreRefused, Given, IsInRange, IsNumber, Rule, Setting, cols_rule, modulus_rule, names_of, own_settings, per_rule, rounds_rule, rows_rule, seed_rule, setting, settings, spelling, spelling_of, task_name, workers_rule}
+use Rattle.spasm_run.specs.Words.{Accepted, AreKnown, AreRefused, Given, InRange, IsNumber, IsValue, OneOf, OptionValues, Rule, Setting, cols_rule, kind_rule, modulus_rule, names_of, own_settings, place_among, per_rule, rounds_rule, rows_rule, seed_rule, setting, settings, spelling, spelling_of, task_name, workers_rule}
 use Rattle.spasm_run.specs.Options.{AcceptedIsPlain, AreTaken, RowsSet, IsCommandOf, IsOneCommand, AsksFor}
 use Rattle.spasm_run.specs.Line.{command_line, commands, option_names}
+use Rattle.certificates.specs.declared.certificate.CertKind.{CertKind}
+use Rattle.certificates.specs.declared.certificate.CertKind.TheVariants as kind
 use Rattle.spasm_run.specs.declared.words.Command.{Command}
 use Rattle.spasm_run.specs.declared.words.Task.{Task}
-use Rattle.spasm_run.specs.declared.words.Task.TheVariants.{Rank, Rref, Kernel, Solve, LeftKernel, Inverse, Pivots, Check, Drill}
+use Rattle.spasm_run.specs.declared.words.Task.TheVariants.{Rank, Rref, Kernel, Solve, LeftKernel, Inverse, Pivots, Check, Drill, Certify}
 use Rattle.spasm_run.proofs.Accepting.{differ, fits_first, fits_known, first_of_list, known_fits, later_in_list, rows_set, set_rows}
 use Rattle.spasm_run.proofs.Program.{fault_at, first_is_named, subcommand_at, task_names, tasks}
 use Rattle.spasm_run.proofs.Reading.{ArePlain, Fits, IsName, IsPlainValue, NoDashes, apart_dashes, joined_dashes, level_passes, passes_level, passes_reads, reads_passes, row_of_given}
@@ -42,18 +45,62 @@ and_first : (a b : Bool) → (a && b) ≡ true → a ≡ true
 and_first true b e = refl
 and_first false b e = absurd (let f : false ≡ true = e in cc)
 
-plain_value : (w : Text) → is_number w ≡ true → IsPlainValue w
-plain_value [] e = absurd (let f : false ≡ true = e in cc)
-plain_value (b ∷ bs) e =
-    let digit = and_first (is_digit b) (are_digits bs) e in
-    let other : (b == 45) ≡ false = grind (arith, nat_tests) in
-    (rw other refl, rw other refl, rw other refl)
-
--- ---- the names of the options can be told from their values
-
 and_second : (a b : Bool) → (a && b) ≡ true → b ≡ true
 and_second true b e = e
 and_second false b e = absurd (let f : false ≡ true = e in cc)
+
+not_true : (b : Bool) → not b ≡ true → b ≡ false
+not_true false e = refl
+not_true true e = absurd (let f : false ≡ true = e in cc)
+
+-- a word that begins with something else than a dash
+abbrev begins_plainly : Text → Bool
+begins_plainly [] = false
+begins_plainly (b ∷ bs) = not (b == 45)
+
+plain_value : (w : Text) → begins_plainly w ≡ true → IsPlainValue w
+plain_value [] e = absurd (let f : false ≡ true = e in cc)
+plain_value (b ∷ bs) e =
+    let other : (b == 45) ≡ false = not_true (b == 45) e in
+    (rw other refl, rw other refl, rw other refl)
+
+digits_begin : (w : Text) → is_number w ≡ true → begins_plainly w ≡ true
+digits_begin [] e = e
+digits_begin (b ∷ bs) e =
+    let digit = and_first (is_digit b) (are_digits bs) e in
+    let other : (b == 45) ≡ false = grind (arith, nat_tests) in
+    ap not other
+
+-- each of the words that an option takes begins so
+abbrev begin_plainly : List Text → Bool
+begin_plainly [] = true
+begin_plainly (w ∷ ws) = begins_plainly w && begin_plainly ws
+
+place_begins : (words : List Text) (w : Text) (n : ℕ) → begin_plainly words ≡ true → place_among words w ≡ Some n → begins_plainly w ≡ true
+place_begins [] w n e is = absurd (let g : None ≡ Some n = is in cc)
+place_begins (x ∷ xs) w n e is = go (bytes_eq x w) refl is (λ m. place_begins xs w m (and_second (begins_plainly x) (begin_plainly xs) e))
+  where
+    later : (o : Option ℕ) → place_among xs w ≡ o → option_map suc o ≡ Some n → ((m : ℕ) → place_among xs w ≡ Some m → begins_plainly w ≡ true) → begins_plainly w ≡ true
+    later None f is rest = absurd (let g : None ≡ Some n = is in cc)
+    later (Some m) f is rest = rest m f
+
+    go : (b : Bool) → bytes_eq x w ≡ b → (if b then Some 0 else option_map suc (place_among xs w)) ≡ Some n → ((m : ℕ) → place_among xs w ≡ Some m → begins_plainly w ≡ true) → begins_plainly w ≡ true
+    go true f is rest = subst (λ (v : Text). begins_plainly v ≡ true) ((bytes_eq-Decides x w).0 f) (and_first (begins_plainly x) (begin_plainly xs) e)
+    go false f is rest = later (place_among xs w) refl is rest
+
+abbrev has_plain_values : OptionValues → Bool
+has_plain_values (InRange low high) = true
+has_plain_values (OneOf words) = begin_plainly words
+
+value_begins : (values : OptionValues) (w : Text) (n : ℕ) → has_plain_values values ≡ true → IsValue values w n → begins_plainly w ≡ true
+value_begins (InRange low high) w n e is = digits_begin w is.0
+value_begins (OneOf words) w n e is = place_begins words w n e is
+
+abbrev have_plain_values : List Setting → Bool
+have_plain_values [] = true
+have_plain_values (s ∷ ss) = has_plain_values s.rule.values && have_plain_values ss
+
+-- ---- the names of the options can be told from their values
 
 abbrev is_plain : Text → Bool
 is_plain [] = false
@@ -62,10 +109,6 @@ is_plain (x ∷ xs) = not (list_any (λ y. y == 61) (x ∷ xs))
 abbrev are_plain : List Text → Bool
 are_plain [] = true
 are_plain (n ∷ ns) = is_plain n && are_plain ns
-
-not_true : (b : Bool) → not b ≡ true → b ≡ false
-not_true false e = refl
-not_true true e = absurd (let f : false ≡ true = e in cc)
 
 plain_name : (name : Text) → is_plain name ≡ true → IsName name
 plain_name [] e = absurd (let f : false ≡ true = e in cc)
@@ -86,19 +129,34 @@ are_names Inverse = each_name (task_names Inverse) refl
 are_names Pivots = each_name (task_names Pivots) refl
 are_names Check = each_name (task_names Check) refl
 are_names (Drill g) = each_name (task_names (Drill g)) refl
+are_names (Certify k) = each_name (task_names (Certify k)) refl
 
--- ---- given values are digits
+-- ---- given values are plain
 
--- a given value of which a number is made is digits
-given_digits : (rows : List Row) (s : Setting) (g : Given) → RowsSet rows s → s.rule.name ≡ g.name → first_of g.name rows ≡ Some g.value → is_number g.value ≡ true
-given_digits rows s g h e f =
-    let is : IsInRange s.rule.low s.rule.high g.value s.number = subst (λ (o : Option Text). IsNumber s.rule o s.number) (ap (λ (t : Text). first_of t rows) e ∙ f) h in
-    is.0
+-- a given value that stands for a number
+given_begins : (rows : List Row) (s : Setting) (g : Given) → has_plain_values s.rule.values ≡ true → RowsSet rows s → s.rule.name ≡ g.name → first_of g.name rows ≡ Some g.value → begins_plainly g.value ≡ true
+given_begins rows s g plain h e f =
+    value_begins s.rule.values g.value s.number plain (subst (λ (o : Option Text). IsNumber s.rule o s.number) (ap (λ (t : Text). first_of t rows) e ∙ f) h)
 
-digits_given : (ss : List Setting) (rows : List Row) (g : Given) → All (RowsSet rows) ss → Contains (names_of ss) g.name → first_of g.name rows ≡ Some g.value → is_number g.value ≡ true
-digits_given [] rows g all (k, lt, e) f = absurd (omega arith)
-digits_given (s ∷ ss) rows g all (zero, lt, e) f = given_digits rows s g (all 0 s (omega arith)) e f
-digits_given (s ∷ ss) rows g all (suc k, lt, e) f = digits_given ss rows g (λ i d less. all (suc i) d (omega arith)) (k, omega arith, e) f
+all_begin : (ss : List Setting) (rows : List Row) (g : Given) → have_plain_values ss ≡ true → All (RowsSet rows) ss → Contains (names_of ss) g.name → first_of g.name rows ≡ Some g.value → begins_plainly g.value ≡ true
+all_begin [] rows g plain all (k, lt, e) f = absurd (omega arith)
+all_begin (s ∷ ss) rows g plain all (zero, lt, e) f = given_begins rows s g (and_first (has_plain_values s.rule.values) (have_plain_values ss) plain) (all 0 s (omega arith)) e f
+all_begin (s ∷ ss) rows g plain all (suc k, lt, e) f = all_begin ss rows g (and_second (has_plain_values s.rule.values) (have_plain_values ss) plain) (λ i d less. all (suc i) d (omega arith)) (k, omega arith, e) f
+
+own_values_plain : (t : Task) → have_plain_values (own_settings t) ≡ true
+own_values_plain Rank = refl
+own_values_plain Rref = refl
+own_values_plain Kernel = refl
+own_values_plain Solve = refl
+own_values_plain LeftKernel = refl
+own_values_plain Inverse = refl
+own_values_plain Pivots = refl
+own_values_plain Check = refl
+own_values_plain (Drill g) = refl
+own_values_plain (Certify k) = refl
+
+given_plainly : (c : Command) (rows : List Row) (g : Given) → All (RowsSet rows) (settings c) → Contains (names_of (settings c)) g.name → first_of g.name rows ≡ Some g.value → begins_plainly g.value ≡ true
+given_plainly c rows g all k f = all_begin (settings c) rows g (own_values_plain c.task) all k f
 
 all_plain : (options : List Given) → ((g : Given) → Contains options g → IsPlainValue g.value) → ArePlain options
 all_plain [] h = tt
@@ -124,6 +182,7 @@ task_dashes Inverse = refl
 task_dashes Pivots = refl
 task_dashes Check = refl
 task_dashes (Drill g) = refl
+task_dashes (Certify k) = refl
 
 abbrev has_dashes : List Text → Bool
 has_dashes words = list_any (λ w. bytes_eq w (codes "--")) words
@@ -155,7 +214,7 @@ record Taken (words : List Text) (c : Command) : Type 0 where
 taken_options : (c : Command) (options : List Given) → Fits (task_names c.task) [] options → All (RowsSet (map row_of_given options)) (settings c) → Taken (task_name c.task ∷ flat_map spelling options) c
 taken_options c options f set =
     let names : List Text = task_names c.task in
-    let plain = all_plain options (λ g k. plain_value g.value (digits_given (settings c) (map row_of_given options) g set ((fits_known names options f).known g k) (fits_first names [] options g f k))) in
+    let plain = all_plain options (λ g k. plain_value g.value (given_plainly c (map row_of_given options) g set ((fits_known names options f).known g k) (fits_first names [] options g f k))) in
     let level = passes_level (task_name c.task) names (flat_map spelling options) (map row_of_given options) (reads_passes (task_name c.task) names (are_names c.task) options f plain) in
     record {
       no_fault = fault_at c.task (flat_map spelling options) ∙ level.0;
@@ -182,8 +241,8 @@ accepted_says words c a = (taken words c a).says
 pub accepted_dashes : (words : List Text) (c : Command) → Accepted words c → NoDashes words
 accepted_dashes words c a = (taken words c a).dashes
 
-digits_first : (w : Text) → is_number w ≡ true → (rest : Text) → w ≢ 45 ∷ rest
-digits_first w h rest e = let f : false ≡ true = subst (λ (x : Text). is_number x ≡ true) e h in absurd cc
+plain_first : (w : Text) → begins_plainly w ≡ true → (rest : Text) → w ≢ 45 ∷ rest
+plain_first w h rest e = let f : false ≡ true = subst (λ (x : Text). begins_plainly x ≡ true) e h in absurd cc
 
 pub accepted_plain : AcceptedIsPlain
 accepted_plain words c a =
@@ -191,7 +250,7 @@ accepted_plain words c a =
     let f = accepted_fits words c a in (
       λ w k. differ w (codes "--") (dashes_at words (accepted_dashes words c a) w k),
       λ g k. record {
-        value = digits_first g.value (digits_given (settings c) (map row_of_given a.options) g (accepted_rows words c a) (a.known.known g k) (fits_first names [] a.options g f k));
+        value = plain_first g.value (given_plainly c (map row_of_given a.options) g (accepted_rows words c a) (a.known.known g k) (fits_first names [] a.options g f k));
         name = (are_names c.task g.name (a.known.known g k)).lacks;
       },
     )
@@ -212,6 +271,7 @@ own_names_of Inverse = refl
 own_names_of Pivots = refl
 own_names_of Check = refl
 own_names_of (Drill g) = refl
+own_names_of (Certify k) = refl
 
 -- tasks of one name have the same options
 same_names : (s t : Task) → task_name s ≡ task_name t → task_names s ≡ task_names t
@@ -244,6 +304,7 @@ says_accepted words c d none s =
 rules_of_name : Text → List Rule
 rules_of_name name = if bytes_eq name (codes "drill")
     then modulus_rule ∷ workers_rule ∷ rounds_rule ∷ seed_rule ∷ rows_rule ∷ cols_rule ∷ per_rule ∷ []
+    else if bytes_eq name (codes "certify") then modulus_rule ∷ workers_rule ∷ rounds_rule ∷ kind_rule ∷ []
     else modulus_rule ∷ workers_rule ∷ rounds_rule ∷ []
 
 rules_for : (c : Command) → rules_of_name (task_name c.task) ≡ map (λ s. s.rule) (settings c)
@@ -260,11 +321,19 @@ rules_for c = go c.task
     go Pivots = refl
     go Check = refl
     go (Drill g) = refl
+    go (Certify k) = refl
+
+-- the kind at a place
+abbrev kind_at : ℕ → CertKind
+kind_at zero = kind.Rank
+kind_at (suc zero) = kind.Rref
+kind_at (suc (suc n)) = kind.Kernel
 
 -- the command of a name with these numbers
 decode_task : Text → List ℕ → Option Task
 decode_task name [] = find (λ t. bytes_eq (task_name t) name) tasks
 decode_task name (s ∷ r ∷ c ∷ p ∷ []) = Some (Drill (record { seed = s; rows = r; cols = c; per = p }))
+decode_task name (k ∷ []) = Some (Certify (kind_at k))
 decode_task name ns = None
 
 decoded_task : (t : Task) → decode_task (task_name t) (map (λ s. s.number) (own_settings t)) ≡ Some t
@@ -278,6 +347,9 @@ decoded_task Inverse = refl
 decoded_task Pivots = refl
 decoded_task Check = refl
 decoded_task (Drill g) = refl
+decoded_task (Certify kind.Rank) = refl
+decoded_task (Certify kind.Rref) = refl
+decoded_task (Certify kind.Kernel) = refl
 
 decode : Text → List ℕ → Option Command
 decode name (m ∷ w ∷ r ∷ own) = option_map (λ t. record { task = t; modulus = m; workers = w; rounds = r }) (decode_task name own)
@@ -290,9 +362,13 @@ decoded c = ap (option_map (λ t. record { task = t; modulus = c.modulus; worker
 same_command : (c d : Command) → task_name c.task ≡ task_name d.task → map (λ s. s.number) (settings c) ≡ map (λ s. s.number) (settings d) → c ≡ d
 same_command c d e f = ap (λ (o : Option Command). unwrap_or o c) (sym (decoded c) ∙ ap (λ (n : Text). decode n (map (λ s. s.number) (settings c))) e ∙ ap (decode (task_name d.task)) f ∙ decoded d)
 
+one_value : (values : OptionValues) (w : Text) (m n : ℕ) → IsValue values w m → IsValue values w n → m ≡ n
+one_value (InRange low high) w m n h k = h.1 ∙ sym k.1
+one_value (OneOf words) w m n h k = ap (λ (x : Option ℕ). unwrap_or x m) (sym h ∙ k)
+
 one_number : (rule : Rule) (o : Option Text) (m n : ℕ) → IsNumber rule o m → IsNumber rule o n → m ≡ n
 one_number rule None m n h k = ap (λ (x : Option ℕ). unwrap_or x m) (sym h ∙ k)
-one_number rule (Some w) m n h k = h.1 ∙ sym k.1
+one_number rule (Some w) m n h k = one_value rule.values w m n h k
 
 one_list : (rows : List Row) (ss ts : List Setting) → map (λ s. s.rule) ss ≡ map (λ s. s.rule) ts → All (RowsSet rows) ss → All (RowsSet rows) ts → map (λ s. s.number) ss ≡ map (λ s. s.number) ts
 one_list rows [] [] e h k = refl

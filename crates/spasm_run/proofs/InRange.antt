@@ -2,16 +2,20 @@
 use Rattle.std.proofs.Common.{ℕ, suc, ◌≡◌, ◌-◌, ◌<◌, ◌≤◌, All, List, Option, Some, None, ap, arith}
 use Rattle.std.specs.Prelude.{unwrap_or}
 use Rattle.residue_words.specs.declared.modulus.TheConstants.{MODULUS_BOUND}
+use Rattle.spasm_run.specs.declared.generator.TheConstants.{LARGEST_GENERATED}
 use Rattle.spasm_run.specs.declared.words.Command.{Command}
 use Rattle.spasm_run.specs.declared.words.Task.{Task}
-use Rattle.spasm_run.specs.declared.words.Task.TheVariants.{Rank, Rref, Kernel, Solve, LeftKernel, Inverse, Pivots, Check, Drill}
+use Rattle.spasm_run.specs.declared.words.Task.TheVariants.{Rank, Rref, Kernel, Solve, LeftKernel, Inverse, Pivots, Check, Drill, Certify}
 use Rattle.spasm_run.specs.Computed.{IsOfSizes}
-use Rattle.spasm_run.specs.Words.{Accepted, Given, IsNumber, IsSetBy, Rule, cols_rule, modulus_rule, own_settings, rows_rule, setting, workers_rule}
+use Rattle.spasm_run.specs.Words.{Accepted, Given, InRange, IsNumber, IsSetBy, Rule, cols_rule, modulus_rule, own_settings, rows_rule, setting, workers_rule}
 
 -- a number of an option, where the one that stands for nothing lies in the range too
-number_in_range : (rule : Rule) (text : Option (List ℕ)) (n : ℕ) → ((m : ℕ) → rule.absent ≡ Some m → (rule.low ≤ m) × (m ≤ rule.high)) → IsNumber rule text n → (rule.low ≤ n) × (n ≤ rule.high)
-number_in_range rule None n absent is = absent n is
-number_in_range rule (Some w) n absent is = (is.2, is.3)
+abbrev ranged : List ℕ → ℕ → ℕ → Option ℕ → Rule
+ranged name low high absent = record { name = name; values = InRange low high; absent = absent }
+
+number_in_range : (name : List ℕ) (low high : ℕ) (absent : Option ℕ) (text : Option (List ℕ)) (n : ℕ) → ((m : ℕ) → absent ≡ Some m → (low ≤ m) × (m ≤ high)) → IsNumber (ranged name low high absent) text n → (low ≤ n) × (n ≤ high)
+number_in_range name low high absent None n default is = default n is
+number_in_range name low high absent (Some w) n default is = (is.2, is.3)
 
 by_default : (low high d m : ℕ) → Some d ≡ Some m → low ≤ d → d ≤ high → (low ≤ m) × (m ≤ high)
 by_default low high d m e l h = let same : d ≡ m = ap (λ (o : Option ℕ). unwrap_or o 0) e in (omega (arith, same, l), omega (arith, same, h))
@@ -22,13 +26,13 @@ no_default low high m e = absurd cc
 pub modulus_in_range : (words : List (List ℕ)) (c : Command) → Accepted words c → (2 ≤ c.modulus) × (c.modulus < MODULUS_BOUND)
 modulus_in_range words c a =
     let is = a.set 0 (setting modulus_rule 0) (omega arith) in
-    let range = number_in_range modulus_rule is.0 c.modulus (λ m e. by_default 2 (MODULUS_BOUND - 1) 42013 m e (omega arith) (omega arith)) is.2 in
+    let range = number_in_range modulus_rule.name 2 (MODULUS_BOUND - 1) (Some 42013) is.0 c.modulus (λ m e. by_default 2 (MODULUS_BOUND - 1) 42013 m e (omega arith) (omega arith)) is.2 in
     (range.0, omega (arith, range.1))
 
 pub workers_in_range : (words : List (List ℕ)) (c : Command) → Accepted words c → (1 ≤ c.workers) × (c.workers ≤ 64)
 workers_in_range words c a =
     let is = a.set 1 (setting workers_rule 0) (omega arith) in
-    number_in_range workers_rule is.0 c.workers (λ m e. by_default 1 64 1 m e (omega arith) (omega arith)) is.2
+    number_in_range workers_rule.name 1 64 (Some 1) is.0 c.workers (λ m e. by_default 1 64 1 m e (omega arith) (omega arith)) is.2
 
 -- what a task's own options set
 own_sizes : (options : List Given) (t : Task) → All (IsSetBy options) (own_settings t) → IsOfSizes t
@@ -43,9 +47,10 @@ own_sizes options Check set = tt
 own_sizes options (Drill g) set =
     let rows = set 1 (setting rows_rule 0) (omega arith) in
     let cols = set 2 (setting cols_rule 0) (omega arith) in
-    let height = number_in_range rows_rule rows.0 g.rows (λ m e. no_default rows_rule.low rows_rule.high m e) rows.2 in
-    let width = number_in_range cols_rule cols.0 g.cols (λ m e. no_default cols_rule.low cols_rule.high m e) cols.2 in
+    let height = number_in_range rows_rule.name 1 LARGEST_GENERATED None rows.0 g.rows (λ m e. no_default 1 LARGEST_GENERATED m e) rows.2 in
+    let width = number_in_range cols_rule.name 1 LARGEST_GENERATED None cols.0 g.cols (λ m e. no_default 1 LARGEST_GENERATED m e) cols.2 in
     record { rows = height.1; some = width.0; cols = width.1 }
+own_sizes options (Certify kind) set = tt
 
 pub sizes_in_range : (words : List (List ℕ)) (c : Command) → Accepted words c → IsOfSizes c.task
 sizes_in_range words c a = own_sizes a.options c.task (λ k d lt. a.set (suc (suc (suc k))) d (omega arith))

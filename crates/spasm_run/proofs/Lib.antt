@@ -1,5 +1,6 @@
 pub mod Accepting
 pub mod Building
+pub mod Certifying
 pub mod Elimination
 pub mod Exact
 pub mod Generating

@@ -1,5 +1,5 @@
 -- What the matches say of the words.
-use Rattle.std.proofs.Common.{◌≡◌, ◌≢◌, ◌<◌, inl, inr, ◌∙◌, ℕ, suc, true, All, List, [], ◌∷◌, codes, Option, Some, None, refl, sym, ap, subst, arith}
+use Rattle.std.proofs.Common.{◌≡◌, ◌≢◌, ◌<◌, inl, inr, ◌∙◌, ℕ, suc, true, All, List, [], ◌∷◌, codes, MatchOption, Option, Some, None, refl, sym, ap, subst, arith}
 use Rattle.std.specs.List.{slice_index_or}
 use Rattle.std.proofs.lemmas.List.Elements.{All-cons, All-nil}
 use Rattle.std.specs.Prelude.{Box, option_map, unwrap_or}
@@ -16,10 +16,11 @@ use Rattle.clap.specs.declared.parser.matches.SubCommand.{SubCommand}
 use Rattle.clap.proofs.WalkLemmas.{first_value-rows}
 use Rattle.spasm_run.specs.Line.{command_line}
 use Rattle.spasm_run.specs.Options.{AsksFor, IsTaskOf, RowsSet}
-use Rattle.spasm_run.specs.Words.{IsNumber, Rule, Setting, cols_rule, modulus_rule, own_settings, per_rule, rounds_rule, rows_rule, seed_rule, setting, settings, task_name, workers_rule}
+use Rattle.spasm_run.specs.Words.{IsNumber, IsValue, Rule, Setting, cols_rule, modulus_rule, kind_place, kind_rule, own_settings, per_rule, rounds_rule, rows_rule, seed_rule, setting, settings, task_name, workers_rule}
+use Rattle.certificates.specs.declared.certificate.CertKind.{CertKind}
 use Rattle.spasm_run.specs.declared.generator.Generator.{Generator}
 use Rattle.spasm_run.specs.declared.words.Task.{Task}
-use Rattle.spasm_run.specs.declared.words.Task.TheVariants.{Rank, Rref, Kernel, Solve, LeftKernel, Inverse, Pivots, Check, Drill}
+use Rattle.spasm_run.specs.declared.words.Task.TheVariants.{Rank, Rref, Kernel, Solve, LeftKernel, Inverse, Pivots, Check, Drill, Certify}
 use Rattle.spasm_run.specs.declared.words.Command.{Command}
 use Rattle.spasm_run.proofs.Accepting.{differ}
 use Rattle.spasm_run.proofs.Program.{line_is_simple}
@@ -128,3 +129,32 @@ no_drill name rows e h Inverse (n, all) = differ (codes "drill") (codes "inverse
 no_drill name rows e h Pivots (n, all) = differ (codes "drill") (codes "pivots") refl (sym e ∙ n)
 no_drill name rows e h Check (n, all) = differ (codes "drill") (codes "check") refl (sym e ∙ n)
 no_drill name rows e h (Drill g) (n, all) = h g all
+no_drill name rows e h (Certify k) (n, all) = differ (codes "drill") (codes "certify") refl (sym e ∙ n)
+
+pub no_certify : (name : Text) (rows : List Row) → name ≡ codes "certify" → ((k : CertKind) → ¬ All (RowsSet rows) (own_settings (Certify k))) → (t : Task) → ¬ IsTaskOf name rows t
+no_certify name rows e h Rank (n, all) = differ (codes "certify") (codes "rank") refl (sym e ∙ n)
+no_certify name rows e h Rref (n, all) = differ (codes "certify") (codes "rref") refl (sym e ∙ n)
+no_certify name rows e h Kernel (n, all) = differ (codes "certify") (codes "kernel") refl (sym e ∙ n)
+no_certify name rows e h Solve (n, all) = differ (codes "certify") (codes "solve") refl (sym e ∙ n)
+no_certify name rows e h LeftKernel (n, all) = differ (codes "certify") (codes "leftkernel") refl (sym e ∙ n)
+no_certify name rows e h Inverse (n, all) = differ (codes "certify") (codes "inverse") refl (sym e ∙ n)
+no_certify name rows e h Pivots (n, all) = differ (codes "certify") (codes "pivots") refl (sym e ∙ n)
+no_certify name rows e h Check (n, all) = differ (codes "certify") (codes "check") refl (sym e ∙ n)
+no_certify name rows e h (Drill g) (n, all) = differ (codes "certify") (codes "drill") refl (sym e ∙ n)
+no_certify name rows e h (Certify k) (n, all) = h k all
+
+-- the kind of a certificate isn't given
+pub no_kind : (f : Found) → None ≡ first_value f (codes "kind") → (k : CertKind) → ¬ All (RowsSet (rows_of f)) (own_settings (Certify k))
+no_kind f e k all =
+    let is : None ≡ Some (kind_place k) = subst (λ (o : Option Text). IsNumber kind_rule o (kind_place k)) (sym e) (number_given kind_rule f (kind_place k) (all 0 (setting kind_rule (kind_place k)) (omega arith))) in
+    cc
+
+-- or its word says it, or is none of a kind
+pub kind_told : (f : Found) (w : Text) (result : Option CertKind) → Some w ≡ first_value f (codes "kind")
+    → MatchOption result ((k : CertKind) → ¬ IsValue kind_rule.values w (kind_place k)) (λ k. IsValue kind_rule.values w (kind_place k))
+    → MatchOption result ((k : CertKind) → ¬ All (RowsSet (rows_of f)) (own_settings (Certify k))) (λ k. All (RowsSet (rows_of f)) (own_settings (Certify k)))
+kind_told f w None e h = λ k all.
+    h k (subst (λ (o : Option Text). IsNumber kind_rule o (kind_place k)) (sym e) (number_given kind_rule f (kind_place k) (all 0 (setting kind_rule (kind_place k)) (omega arith))))
+kind_told f w (Some k) e h =
+    let P = RowsSet (rows_of f) in
+    All-cons P (setting kind_rule (kind_place k)) [] (gives_number kind_rule f (kind_place k) (subst (λ (o : Option Text). IsNumber kind_rule o (kind_place k)) e h)) (All-nil P)

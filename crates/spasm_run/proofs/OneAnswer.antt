@@ -1,5 +1,5 @@
 -- A command has one answer: what its text tells is unique, and just one of two things can be told.
-use Rattle.std.proofs.Common.{ℕ, ◌≡◌, ◌≤◌, ◌++◌, inl, inr, List, [], ◌∷◌, None, refl, sym, ap, ◌∙◌, arith}
+use Rattle.std.proofs.Common.{ℕ, ◌≡◌, ◌≢◌, ◌≤◌, ◌++◌, inl, inr, List, [], ◌∷◌, None, refl, sym, ap, ◌∙◌, arith}
 use Rattle.std.specs.Prelude.{codes}
 use Rattle.std.proofs.lemmas.Bool.Decides.{nat_tests}
 use Rattle.residue_words.specs.Matrix.{Matrix, row}
@@ -8,6 +8,7 @@ use Rattle.row_space.proofs.Unique.{kernel_unique, rank_unique, refutation_uniqu
 use Rattle.kernel_solve.specs.Column.{column, column_matrix}
 use Rattle.sms_text.specs.Written.{text_of}
 use Rattle.sparse_rows.specs.Rows.{transposed}
+use Rattle.certificates.specs.declared.certificate.CertKind.{CertKind}
 use Rattle.spasm_run.specs.declared.words.Task.TheVariants as task
 use Rattle.spasm_run.specs.declared.words.Command.{Command}
 use Rattle.spasm_run.specs.declared.words.Task.{Task}
@@ -49,48 +50,50 @@ one_verdict p said x y (inl s) (inr t) = absurd (t.0 s.0)
 one_verdict p said x y (inr s) (inl t) = absurd (s.0 t.0)
 one_verdict p said x y (inr s) (inr t) = s.1 ∙ sym t.1
 
-answers_one : (t : Task) (c : Command) (values : List Matrix) (x y : List ℕ) → 2 ≤ c.modulus → misfit t values ≡ None → (t ≡ task.Pivots → c.workers ≡ 1) →
+answers_one : (t : Task) (c : Command) (values : List Matrix) (x y : List ℕ) → 2 ≤ c.modulus → misfit t values ≡ None → (t ≡ task.Pivots → c.workers ≡ 1) → ((k : CertKind) → t ≢ task.Certify k) →
     MatricesAnswer t c values x → MatricesAnswer t c values y → x ≡ y
-answers_one task.Rank c (A ∷ []) x y two fits alone (r, s, a) (q, t, b) = a ∙ ap rank_text (rank_unique c.modulus A r q two s t) ∙ sym b
-answers_one task.Rref c (A ∷ []) x y two fits alone (E, s, a) (F, t, b) = one_kernel c.modulus A E F x y (rref_unique c.modulus A E F two s t) a b
-answers_one task.Kernel c (A ∷ []) x y two fits alone (K, s, a) (L, t, b) = one_kernel c.modulus A K L x y (kernel_unique c.modulus A K L two s t) a b
-answers_one task.Solve c (A ∷ B ∷ []) x y two fits alone s t = one_solution c.modulus A (column B) x y two s t
-answers_one task.LeftKernel c (A ∷ []) x y two fits alone (K, s, a) (L, t, b) =
+answers_one task.Rank c (A ∷ []) x y two fits alone other (r, s, a) (q, t, b) = a ∙ ap rank_text (rank_unique c.modulus A r q two s t) ∙ sym b
+answers_one task.Rref c (A ∷ []) x y two fits alone other (E, s, a) (F, t, b) = one_kernel c.modulus A E F x y (rref_unique c.modulus A E F two s t) a b
+answers_one task.Kernel c (A ∷ []) x y two fits alone other (K, s, a) (L, t, b) = one_kernel c.modulus A K L x y (kernel_unique c.modulus A K L two s t) a b
+answers_one task.Solve c (A ∷ B ∷ []) x y two fits alone other s t = one_solution c.modulus A (column B) x y two s t
+answers_one task.LeftKernel c (A ∷ []) x y two fits alone other (K, s, a) (L, t, b) =
     one_kernel c.modulus A K L x y (kernel_unique c.modulus (transposed A) K L two s t) a b
-answers_one task.Inverse c (A ∷ []) x y two fits alone s t = one_inverse c.modulus A x y two (squared A fits) s t
-answers_one task.Pivots c (A ∷ []) x y two fits alone (qs, s, a) (rs, t, b) =
+answers_one task.Inverse c (A ∷ []) x y two fits alone other s t = one_inverse c.modulus A x y two (squared A fits) s t
+answers_one task.Pivots c (A ∷ []) x y two fits alone other (qs, s, a) (rs, t, b) =
     let one : c.workers ≡ 1 = alone refl in
     a ∙ ap pivots_text (selection_one A qs rs (s.alone one) (t.alone one)) ∙ sym b
-answers_one (task.Drill g) c [] x y two fits alone (E, s, a) (F, t, b) =
+answers_one (task.Drill g) c [] x y two fits alone other (E, s, a) (F, t, b) =
     a ∙ ap (summary_of c.modulus) (rref_unique c.modulus (generated c.modulus g) E F two s t) ∙ sym b
-answers_one task.Rank c [] x y two fits alone s t = absurd s
-answers_one task.Rank c (A ∷ B ∷ values) x y two fits alone s t = absurd s
-answers_one task.Rref c [] x y two fits alone s t = absurd s
-answers_one task.Rref c (A ∷ B ∷ values) x y two fits alone s t = absurd s
-answers_one task.Kernel c [] x y two fits alone s t = absurd s
-answers_one task.Kernel c (A ∷ B ∷ values) x y two fits alone s t = absurd s
-answers_one task.LeftKernel c [] x y two fits alone s t = absurd s
-answers_one task.LeftKernel c (A ∷ B ∷ values) x y two fits alone s t = absurd s
-answers_one task.Inverse c [] x y two fits alone s t = absurd s
-answers_one task.Inverse c (A ∷ B ∷ values) x y two fits alone s t = absurd s
-answers_one task.Pivots c [] x y two fits alone s t = absurd s
-answers_one task.Pivots c (A ∷ B ∷ values) x y two fits alone s t = absurd s
-answers_one task.Solve c [] x y two fits alone s t = absurd s
-answers_one task.Solve c (A ∷ []) x y two fits alone s t = absurd s
-answers_one task.Solve c (A ∷ B ∷ C ∷ values) x y two fits alone s t = absurd s
-answers_one task.Check c values x y two fits alone s t = absurd s
-answers_one (task.Drill g) c (A ∷ values) x y two fits alone s t = absurd s
+answers_one task.Rank c [] x y two fits alone other s t = absurd s
+answers_one task.Rank c (A ∷ B ∷ values) x y two fits alone other s t = absurd s
+answers_one task.Rref c [] x y two fits alone other s t = absurd s
+answers_one task.Rref c (A ∷ B ∷ values) x y two fits alone other s t = absurd s
+answers_one task.Kernel c [] x y two fits alone other s t = absurd s
+answers_one task.Kernel c (A ∷ B ∷ values) x y two fits alone other s t = absurd s
+answers_one task.LeftKernel c [] x y two fits alone other s t = absurd s
+answers_one task.LeftKernel c (A ∷ B ∷ values) x y two fits alone other s t = absurd s
+answers_one task.Inverse c [] x y two fits alone other s t = absurd s
+answers_one task.Inverse c (A ∷ B ∷ values) x y two fits alone other s t = absurd s
+answers_one task.Pivots c [] x y two fits alone other s t = absurd s
+answers_one task.Pivots c (A ∷ B ∷ values) x y two fits alone other s t = absurd s
+answers_one task.Solve c [] x y two fits alone other s t = absurd s
+answers_one task.Solve c (A ∷ []) x y two fits alone other s t = absurd s
+answers_one task.Solve c (A ∷ B ∷ C ∷ values) x y two fits alone other s t = absurd s
+answers_one task.Check c values x y two fits alone other s t = absurd s
+answers_one (task.Certify k) c values x y two fits alone other s t = absurd (other k refl)
+answers_one (task.Drill g) c (A ∷ values) x y two fits alone other s t = absurd s
 
 pub one_answer : IsOneAnswer
-one_answer c said x y two fits alone s t = go c.task fits alone s t
+one_answer c said x y two fits alone other s t = go c.task fits alone other s t
   where
-    go : (t : Task) → misfit t said.matrices ≡ None → (t ≡ task.Pivots → c.workers ≡ 1) → AnswerTo t c said x → AnswerTo t c said y → x ≡ y
-    go task.Rank fits alone s t = answers_one task.Rank c said.matrices x y two fits alone s t
-    go task.Rref fits alone s t = answers_one task.Rref c said.matrices x y two fits alone s t
-    go task.Kernel fits alone s t = answers_one task.Kernel c said.matrices x y two fits alone s t
-    go task.Solve fits alone s t = answers_one task.Solve c said.matrices x y two fits alone s t
-    go task.LeftKernel fits alone s t = answers_one task.LeftKernel c said.matrices x y two fits alone s t
-    go task.Inverse fits alone s t = answers_one task.Inverse c said.matrices x y two fits alone s t
-    go task.Pivots fits alone s t = answers_one task.Pivots c said.matrices x y two fits alone s t
-    go task.Check fits alone s t = one_verdict c.modulus said x y s t
-    go (task.Drill g) fits alone s t = answers_one (task.Drill g) c said.matrices x y two fits alone s t
+    go : (t : Task) → misfit t said.matrices ≡ None → (t ≡ task.Pivots → c.workers ≡ 1) → ((k : CertKind) → t ≢ task.Certify k) → AnswerTo t c said x → AnswerTo t c said y → x ≡ y
+    go task.Rank fits alone other s t = answers_one task.Rank c said.matrices x y two fits alone other s t
+    go task.Rref fits alone other s t = answers_one task.Rref c said.matrices x y two fits alone other s t
+    go task.Kernel fits alone other s t = answers_one task.Kernel c said.matrices x y two fits alone other s t
+    go task.Solve fits alone other s t = answers_one task.Solve c said.matrices x y two fits alone other s t
+    go task.LeftKernel fits alone other s t = answers_one task.LeftKernel c said.matrices x y two fits alone other s t
+    go task.Inverse fits alone other s t = answers_one task.Inverse c said.matrices x y two fits alone other s t
+    go task.Pivots fits alone other s t = answers_one task.Pivots c said.matrices x y two fits alone other s t
+    go task.Check fits alone other s t = one_verdict c.modulus said x y s t
+    go (task.Certify k) fits alone other s t = absurd (other k refl)
+    go (task.Drill g) fits alone other s t = answers_one (task.Drill g) c said.matrices x y two fits alone other s t

@@ -11,11 +11,12 @@ use Rattle.clap.specs.Faults.{bundle_fault, defaults_fault, entered_fault, fault
 use Rattle.clap.specs.declared.error.kind.ErrorKind.{ErrorKind}
 use Rattle.clap.specs.declared.error.kind.ErrorKind.TheVariants.{InvalidSubcommand, UnknownArgument}
 use Rattle.clap.proofs.OnLiterals.{clap_on_literals}
+use Rattle.certificates.specs.declared.certificate.CertKind.TheVariants as kind
 use Rattle.spasm_run.specs.Words.{names_of, own_settings, task_name}
 use Rattle.spasm_run.specs.Line.{command_line, commands, option_names}
 use Rattle.spasm_run.specs.declared.generator.Generator.{Generator}
 use Rattle.spasm_run.specs.declared.words.Task.{Task}
-use Rattle.spasm_run.specs.declared.words.Task.TheVariants.{Rank, Rref, Kernel, Solve, LeftKernel, Inverse, Pivots, Check, Drill}
+use Rattle.spasm_run.specs.declared.words.Task.TheVariants.{Rank, Rref, Kernel, Solve, LeftKernel, Inverse, Pivots, Check, Drill, Certify}
 use Rattle.spasm_run.proofs.Spelled.{Spelled, Joined, Apart, Other, spelled_as}
 use Rattle.spasm_run.proofs.Walks.{Refused, AsPlain, command_of, flags_of, none_first, rules_of}
 
@@ -28,7 +29,7 @@ abbrev anything : Generator
 anything = record { seed = 0; rows = 0; cols = 0; per = 0 }
 
 abbrev pub tasks : List Task
-tasks = Rank ∷ Rref ∷ Kernel ∷ Solve ∷ LeftKernel ∷ Inverse ∷ Pivots ∷ Check ∷ Drill anything ∷ []
+tasks = Rank ∷ Rref ∷ Kernel ∷ Solve ∷ LeftKernel ∷ Inverse ∷ Pivots ∷ Check ∷ Drill anything ∷ Certify kind.Rank ∷ []
 
 -- the program as building leaves it
 abbrev top : Shape
@@ -80,6 +81,7 @@ met Inverse = refl
 met Pivots = refl
 met Check = refl
 met (Drill g) = refl
+met (Certify k) = refl
 
 met_turn : (t : Task) → turn_fault top labels start (task_name t) ≡ []
 met_turn Rank = refl
@@ -91,6 +93,7 @@ met_turn Inverse = refl
 met_turn Pivots = refl
 met_turn Check = refl
 met_turn (Drill g) = refl
+met_turn (Certify k) = refl
 
 entered_task : (t : Task) (rest : List Text) → entered program (Some (task_name t, rest)) ≡ Some (task_name t, rows_after (rules_of (task_names t)) [] rest)
 entered_task Rank rest = refl
@@ -102,6 +105,7 @@ entered_task Inverse rest = refl
 entered_task Pivots rest = refl
 entered_task Check rest = refl
 entered_task (Drill g) rest = refl
+entered_task (Certify k) rest = refl
 
 fault_below : (t : Task) (rest : List Text) → entered_fault program (Some (task_name t, rest)) ≡ level_fault (command_of (task_name t) (task_names t)) [] nothing_held rest false []
 fault_below Rank rest = refl
@@ -113,6 +117,7 @@ fault_below Inverse rest = refl
 fault_below Pivots rest = refl
 fault_below Check rest = refl
 fault_below (Drill g) rest = refl
+fault_below (Certify k) rest = refl
 
 walk_of : (t : Task) (rest : List Text) → walk [] labels nothing_held (task_name t ∷ rest) ≡ stopped_at (task_name t) rest
 walk_of t rest = ap (λ (w : Walk). fold (walked [] labels) w rest) (met t) ∙ walked_on (task_name t) [] rest

@@ -1,11 +1,13 @@
 -- What each command reads, and what it answers.
-use Rattle.std.specs.Prelude.{◌≡◌, ◌<◌, ◌≤◌, ◌⊎◌, ◌==◌, ◌&&◌, nat_lt, not, if◌then◌else◌, ℕ, List, [], ◌∷◌, ◌++◌, Option, None, Some, codes, length}
+use Rattle.std.specs.Prelude.{◌≡◌, ◌≢◌, ◌<◌, ◌≤◌, ◌⊎◌, ◌==◌, ◌&&◌, nat_lt, not, if◌then◌else◌, ℕ, List, [], ◌∷◌, ◌++◌, Option, None, Some, codes, length}
 use Rattle.std.specs.Fmt.{decimal}
 use Rattle.residue_words.specs.Matrix.{Matrix, row}
 use Rattle.residue_words.specs.Residues.{IsPrime}
 use Rattle.residue_words.specs.declared.plain.Pair.{Pair}
 use Rattle.pivot_table.specs.Selected.{Selected}
 use Rattle.row_space.specs.Echelon.{HasRank, IsRref}
+use Rattle.row_space.specs.Factors as plain
+use Rattle.row_space.specs.Factors.{IsValid}
 use Rattle.row_space.specs.Inverse.{IsInverse}
 use Rattle.row_space.specs.Kernel.{IsKernel}
 use Rattle.row_space.specs.Solution.{IsReducedSolution, IsRefutingCombination, IsSolution}
@@ -14,12 +16,15 @@ use Rattle.sms_text.specs.OuterLines as form
 use Rattle.sms_text.specs.Text.{Due, Header, Outer}
 use Rattle.sms_text.specs.Written.{pair_lines, text_of}
 use Rattle.sparse_rows.specs.Rows.{transposed}
+use Rattle.pluq_factor.specs.Staged.{Staged}
+use Rattle.certificates.specs.declared.certificate.CertKind.{CertKind}
+use Rattle.certificates.specs.CertificateText.{certificate_text, claim_word, kind_word}
 use Rattle.spasm_run.specs.declared.commands.TheConstants.{LARGEST_INVERTED}
 use Rattle.spasm_run.specs.declared.status.Status.{Status}
 use Rattle.spasm_run.specs.declared.status.Status.TheVariants.{Done, No, Shape, Wide}
 use Rattle.spasm_run.specs.declared.words.Command.{Command}
 use Rattle.spasm_run.specs.declared.words.Task.{Task}
-use Rattle.spasm_run.specs.declared.words.Task.TheVariants.{Rank, Rref, Kernel, Solve, LeftKernel, Inverse, Pivots, Check, Drill}
+use Rattle.spasm_run.specs.declared.words.Task.TheVariants.{Rank, Rref, Kernel, Solve, LeftKernel, Inverse, Pivots, Check, Drill, Certify}
 use Rattle.spasm_run.specs.Contents.{Contents, IsCertified}
 use Rattle.spasm_run.specs.Generator.{generated, summary_of}
 
@@ -64,6 +69,11 @@ InvertsTo p A text =
 abbrev pub pivots_text : List Pair → List ℕ
 pivots_text qs = codes "pivots " ++ decimal (length qs) ++ 10 ∷ pair_lines qs
 
+-- the text of a certificate of this kind that is valid, the pivots of which were chosen in so many rounds by so many workers
+abbrev pub CertifiesAs : CertKind → Command → Matrix → List ℕ → Type 0
+CertifiesAs kind c A text = (s : plain.Certificate) × (claim_word s.claim ≡ kind_word kind) × IsValid c.modulus A s
+    × Staged c.modulus A c.workers c.rounds s.pivots × (text ≡ certificate_text s)
+
 -- the text is the answer to the task of this command, which reads matrices alone, for these matrices
 abbrev pub MatricesAnswer : Task → Command → List Matrix → List ℕ → Type 0
 MatricesAnswer Rank c (A ∷ []) text = (r : ℕ) × HasRank c.modulus A r × (text ≡ rank_text r)
@@ -75,6 +85,7 @@ MatricesAnswer Inverse c (A ∷ []) text = InvertsTo c.modulus A text
 MatricesAnswer Pivots c (A ∷ []) text = (qs : List Pair) × Selected A c.workers qs × (text ≡ pivots_text qs)
 MatricesAnswer (Drill g) c [] text =
     (E : Matrix) × IsRref c.modulus (generated c.modulus g) E × (text ≡ summary_of c.modulus E)
+MatricesAnswer (Certify kind) c (A ∷ []) text = CertifiesAs kind c A text
 MatricesAnswer task c values text = ⊥
 
 -- whether the certificate is valid
@@ -102,8 +113,9 @@ abbrev pub EndsWith : Task → ℕ → Contents → Status → Type 0
 EndsWith Check p said s = (IsCertified p said × (s ≡ Done)) ⊎ (¬ IsCertified p said × (s ≡ No))
 EndsWith task p said s = s ≡ Done
 
--- the answer to a command for what was read, with matrices of the shapes that are wanted, is one text; the pivots where one worker searches
+-- the answer to a command for what was read, with matrices of the shapes that are wanted, is one text: the pivots where one worker searches,
+-- and a certificate, of which a matrix has many, apart
 abbrev pub IsOneAnswer : Type 0
 IsOneAnswer = (c : Command) (said : Contents) (text other : List ℕ) → 2 ≤ c.modulus →
-    misfit c.task said.matrices ≡ None → (c.task ≡ Pivots → c.workers ≡ 1) →
+    misfit c.task said.matrices ≡ None → (c.task ≡ Pivots → c.workers ≡ 1) → ((kind : CertKind) → c.task ≢ Certify kind) →
     AnswerOf c said text → AnswerOf c said other → text ≡ other

@@ -1,8 +1,13 @@
 -- What is found for matrices and for words: an answer, or the status with which a run ends.
-use Rattle.std.specs.Prelude.{◌≡◌, ◌<◌, if◌then◌else◌, ℕ, List, ◌++◌, Bool, false, Some, None, Result, Ok, Err, All, codes}
+use Rattle.std.specs.Prelude.{◌≡◌, ◌<◌, if◌then◌else◌, ℕ, List, ◌++◌, Bool, false, Option, Some, None, Result, Ok, Err, All, codes, length}
 use Rattle.residue_words.specs.Residues.{IsPrime}
 use Rattle.residue_words.specs.Matrix.{Matrix, IsMatrix}
-use Rattle.sparse_rows.specs.Rows.{beside}
+use Rattle.residue_words.specs.declared.plain.Pair.{Pair}
+use Rattle.row_space.specs.Factors.{AreFactors, Shows}
+use Rattle.sparse_rows.specs.Rows.{ResidueMatrix, beside}
+use Rattle.certificates.specs.declared.certificate.CertKind.{CertKind}
+use Rattle.certificates.specs.Certificate.{HasExtra, IsFormed, certificate_of, claim_of}
+use Rattle.certificates.specs.CertificateText.{ClaimFitsText, HasText, certificate_text}
 use Rattle.sparse_rows.specs.declared.rows.TheConstants.{LARGEST_SIZE}
 use Rattle.kernel_solve.specs.Column.{column}
 use Rattle.kernel_solve.specs.declared.systems.Found.{Found}
@@ -34,6 +39,7 @@ answer_text (answer.Inverse B) = codes "inverse\n" ++ text_of B.matrix
 answer_text (answer.Singular v) = codes "singular\n" ++ text_of v.matrix
 answer_text (answer.Pivots pairs) = pivots_text pairs.items
 answer_text (answer.Summary s) = summary_text s.rank s.entries s.sum
+answer_text (answer.Certificate c) = certificate_text (certificate_of c)
 answer_text (answer.Verdict valid) = if valid then codes "yes\n" else codes "no\n"
 
 -- the status of a run that wrote this answer
@@ -41,7 +47,7 @@ abbrev pub status_behind : Answer → Status
 status_behind (answer.Verdict valid) = if valid then status.Done else status.No
 status_behind a = status.Done
 
--- the sizes of its matrix can be written
+-- the sizes of a matrix can be written
 abbrev pub HasSmallSizes : Matrix → Type 0
 HasSmallSizes A = (A.height < LARGEST_SIZE) × (A.width < LARGEST_SIZE)
 
@@ -54,7 +60,15 @@ IsSmall (answer.Inverse B) = HasSmallSizes B.matrix
 IsSmall (answer.Singular v) = HasSmallSizes v.matrix
 IsSmall (answer.Pivots pairs) = All IsSmallPlace pairs.items
 IsSmall (answer.Summary s) = Unit {0}
+IsSmall (answer.Certificate c) = IsFormed c.l.modulus c × HasText (certificate_of c)
 IsSmall (answer.Verdict valid) = Unit {0}
+
+-- the matrix that a certificate of this kind claims of A: one that can be written, and that shows it to any factors of A
+pub record IsClaimed (p : ℕ) (A : Matrix) (kind : CertKind) (extra : Option ResidueMatrix) : Type 0 where
+  pub has : HasExtra p kind extra
+  pub fits : ClaimFitsText (claim_of kind extra)
+  pub shows : (pivots : List Pair) (L U : Matrix) → IsPrime p → AreFactors p A pivots L U →
+      Shows p A (length pivots) U (claim_of kind extra)
 
 -- the command, asking for this task modulo p
 abbrev pub asking : Task → ℕ → Command → Command

@@ -13,7 +13,7 @@ abbrev pub commands : List (List ℕ × List (List ℕ))
 commands =
     (codes "rank", []) ∷ (codes "rref", []) ∷ (codes "kernel", []) ∷ (codes "solve", []) ∷ (codes "leftkernel", [])
     ∷ (codes "inverse", []) ∷ (codes "pivots", []) ∷ (codes "check", [])
-    ∷ (codes "drill", codes "seed" ∷ codes "rows" ∷ codes "cols" ∷ codes "per" ∷ []) ∷ []
+    ∷ (codes "drill", codes "seed" ∷ codes "rows" ∷ codes "cols" ∷ codes "per" ∷ []) ∷ (codes "certify", codes "kind" ∷ []) ∷ []
 
 -- an option that takes one value
 abbrev pub option_rule : List ℕ → Rule

@@ -1,12 +1,16 @@
 -- The words of the command line that are accepted.
-use Rattle.std.specs.Prelude.{◌≡◌, ◌≢◌, ◌≤◌, ◌-◌, ◌^◌, ℕ, All, Bool, true, false, List, [], ◌∷◌, ◌++◌, Option, Some, None, codes, IsTrue, map}
+use Rattle.std.specs.Prelude.{◌≡◌, ◌≢◌, ◌≤◌, ◌-◌, ◌^◌, if◌then◌else◌, ℕ, suc, All, Bool, true, false, List, [], ◌∷◌, ◌++◌, Option, Some, None, codes, IsTrue, map, option_map}
 use Rattle.std.specs.List.{Contains, flat_map}
+use Rattle.std.specs.Str.{bytes_eq}
 use Rattle.residue_words.specs.declared.modulus.TheConstants.{MODULUS_BOUND}
 use Rattle.sms_text.specs.Numbers.{is_number, value}
+use Rattle.certificates.specs.declared.certificate.CertKind.{CertKind}
+use Rattle.certificates.specs.declared.certificate.CertKind.TheVariants as kind
+use Rattle.certificates.specs.CertificateText.{kind_word}
 use Rattle.spasm_run.specs.declared.generator.TheConstants.{LARGEST_GENERATED, MOST_PER_ROW}
 use Rattle.spasm_run.specs.declared.words.Command.{Command}
 use Rattle.spasm_run.specs.declared.words.Task.{Task}
-use Rattle.spasm_run.specs.declared.words.Task.TheVariants.{Rank, Rref, Kernel, Solve, LeftKernel, Inverse, Pivots, Check, Drill}
+use Rattle.spasm_run.specs.declared.words.Task.TheVariants.{Rank, Rref, Kernel, Solve, LeftKernel, Inverse, Pivots, Check, Drill, Certify}
 
 -- the name of a command, its first word
 abbrev pub task_name : Task → List ℕ
@@ -19,35 +23,53 @@ task_name Inverse = codes "inverse"
 task_name Pivots = codes "pivots"
 task_name Check = codes "check"
 task_name (Drill g) = codes "drill"
+task_name (Certify k) = codes "certify"
 
--- an option that commands have: its name, the least and the largest number that it takes, and the number that stands where it is absent;
--- where there is none, the option is required
+-- the values that an option takes: the numbers from the least to the largest; or some words, each of which stands for its place among them,
+-- counted from 0
+pub data OptionValues : Type 0 where
+  InRange : ℕ → ℕ → OptionValues
+  OneOf : List (List ℕ) → OptionValues
+
+-- an option that commands have: its name, its values, and the number that stands where it is absent; where there is none, it is required
 pub record Rule : Type 0 where
   pub name : List ℕ
-  pub low : ℕ
-  pub high : ℕ
+  pub values : OptionValues
   pub absent : Option ℕ
 
 abbrev pub modulus_rule : Rule
-modulus_rule = record { name = codes "modulus"; low = 2; high = MODULUS_BOUND - 1; absent = Some 42013 }
+modulus_rule = record { name = codes "modulus"; values = InRange 2 (MODULUS_BOUND - 1); absent = Some 42013 }
 
 abbrev pub workers_rule : Rule
-workers_rule = record { name = codes "workers"; low = 1; high = 64; absent = Some 1 }
+workers_rule = record { name = codes "workers"; values = InRange 1 64; absent = Some 1 }
 
 abbrev pub rounds_rule : Rule
-rounds_rule = record { name = codes "rounds"; low = 0; high = 16; absent = Some 3 }
+rounds_rule = record { name = codes "rounds"; values = InRange 0 16; absent = Some 3 }
 
 abbrev pub seed_rule : Rule
-seed_rule = record { name = codes "seed"; low = 0; high = 2 ^ 64 - 1; absent = None }
+seed_rule = record { name = codes "seed"; values = InRange 0 (2 ^ 64 - 1); absent = None }
 
 abbrev pub rows_rule : Rule
-rows_rule = record { name = codes "rows"; low = 1; high = LARGEST_GENERATED; absent = None }
+rows_rule = record { name = codes "rows"; values = InRange 1 LARGEST_GENERATED; absent = None }
 
 abbrev pub cols_rule : Rule
-cols_rule = record { name = codes "cols"; low = 1; high = LARGEST_GENERATED; absent = None }
+cols_rule = record { name = codes "cols"; values = InRange 1 LARGEST_GENERATED; absent = None }
 
 abbrev pub per_rule : Rule
-per_rule = record { name = codes "per"; low = 0; high = MOST_PER_ROW; absent = None }
+per_rule = record { name = codes "per"; values = InRange 0 MOST_PER_ROW; absent = None }
+
+-- the kinds of certificates by their words
+abbrev pub kind_rule : Rule
+kind_rule = record {
+  name = codes "kind";
+  values = OneOf (kind_word kind.Rank ∷ kind_word kind.Rref ∷ kind_word kind.Kernel ∷ []);
+  absent = None;
+}
+
+abbrev pub kind_place : CertKind → ℕ
+kind_place kind.Rank = 0
+kind_place kind.Rref = 1
+kind_place kind.Kernel = 2
 
 -- an option, and the number that a command carries for it
 pub record Setting : Type 0 where
@@ -61,6 +83,7 @@ setting rule n = record { rule = rule; number = n }
 abbrev pub own_settings : Task → List Setting
 own_settings (Drill g) =
     setting seed_rule g.seed ∷ setting rows_rule g.rows ∷ setting cols_rule g.cols ∷ setting per_rule g.per ∷ []
+own_settings (Certify k) = setting kind_rule (kind_place k) ∷ []
 own_settings task = []
 
 -- what is set for a command: the options of all commands, and those of its task
@@ -96,9 +119,19 @@ IsGivenAs options name (Some w) =
     (joined : Bool) × Contains options (record { name = name; value = w; joined = joined })
 IsGivenAs options name None = (g : Given) → Contains options g → g.name ≢ name
 
--- n is the number that the option's text spells, in its range; or the one that stands where there is no text
+-- the place of a word among these words, the first one that is it
+abbrev pub place_among : List (List ℕ) → List ℕ → Option ℕ
+place_among [] w = None
+place_among (x ∷ xs) w = if bytes_eq x w then Some 0 else option_map suc (place_among xs w)
+
+-- the word is a value, and stands for n
+abbrev pub IsValue : OptionValues → List ℕ → ℕ → Type 0
+IsValue (InRange low high) w n = IsInRange low high w n
+IsValue (OneOf words) w n = place_among words w ≡ Some n
+
+-- n is the number that the option's text stands for; or the one that stands where there is no text
 abbrev pub IsNumber : Rule → Option (List ℕ) → ℕ → Type 0
-IsNumber rule (Some w) n = IsInRange rule.low rule.high w n
+IsNumber rule (Some w) n = IsValue rule.values w n
 IsNumber rule None n = rule.absent ≡ Some n
 
 -- the options set this number
@@ -113,7 +146,7 @@ pub record AreKnown (options : List Given) (names : List (List ℕ)) : Type 0 wh
       options ≡ before ++ g ∷ between ++ h ∷ after → g.name ≢ h.name
 
 -- The words are the command's name and its options, each known and given at most once, and each number is set by them: those that are
--- required are given, and each is in range. So no value begins with a dash, and no word is --.
+-- required are given, and each has a value of its own. So no value begins with a dash, and no word is --.
 pub record Accepted (words : List (List ℕ)) (c : Command) : Type 0 where
   pub options : List Given
   pub spelled : words ≡ task_name c.task ∷ flat_map spelling options

@@ -6,6 +6,7 @@ use crate::numbered_text::write_line;
 use crate::status::Status;
 use crate::summary::Summary;
 use crate::written_pivots::write_pivots;
+use certificates::Certificate;
 use pivot_table::Pair;
 use sms_text::{Sink, WriteFault, write_rows, write_text, write_titled};
 use sparse_rows::Rows;
@@ -29,6 +30,8 @@ pub(crate) enum Answer {
     Pivots(Vec<Pair>),
     // What is told of the echelon form of a matrix that was generated.
     Summary(Summary),
+    // A certificate of a matrix.
+    Certificate(Certificate),
     // Whether a certificate is valid.
     Verdict(bool),
 }
@@ -50,6 +53,7 @@ impl Answer {
             Answer::Singular(v) => write_titled(out, "singular\n", v),
             Answer::Pivots(pairs) => write_pivots(out, pairs),
             Answer::Summary(summary) => summary.write(out),
+            Answer::Certificate(certificate) => certificates::write(out, certificate),
             Answer::Verdict(true) => write_text(out, "yes\n"),
             Answer::Verdict(false) => write_text(out, "no\n"),
         }

@@ -7,7 +7,7 @@ ghost use Rattle.kernel_solve.specs.Column.{column};
 ghost use Rattle.kernel_solve.specs.Found.{HasShape};
 ghost use Rattle.sparse_rows.specs.declared.rows.TheConstants.{LARGEST_SIZE};
 ghost use Rattle.spasm_run.specs.Answers.{IsOneAnswer, as_row};
-ghost use Rattle.spasm_run.specs.Computed.{AnswersSystem, ComesOf, ComesOfContents, IsSmall, asking};
+ghost use Rattle.spasm_run.specs.Computed.{AnswersSystem, ComesOf, ComesOfContents, IsClaimed, IsSmall, asking};
 ghost use Rattle.spasm_run.specs.Contents.{AreToCheck, Contents};
 ghost use Rattle.certificates.specs.Certificate.{IsFormed};
 ghost use Rattle.spasm_run.specs.Generator.{HasSizesInRange};
@@ -23,12 +23,13 @@ use crate::status::Status;
 use crate::summary::Summary;
 use crate::words::Command;
 use cert_checker::check;
-use certificates::Certificate;
+use certificates::{CertKind, Certificate};
 use dense_finish::finish;
 use echelon_form::Echelon;
 use fl_pivots::leftmost;
 use kernel_solve::{Found, Inverse, refuting_system, solution};
 use optimistic_search::{Gate, search};
+use pluq_factor::{Factors, Plan, factor};
 use residue_words::Modulus;
 use sparse_rows::{Rows, Sparse};
 use std::alloc::{AllocError, Global};
@@ -218,6 +219,67 @@ pub(crate) fn find_solution<R: Threads + Sync>(
         Found::Inconsistent => {
             let y = refutation(rt, alloc, a, b, command.workers)?;
             Ok(Answer::Refutation(y))
+        }
+    }
+}
+
+// A certificate of this kind, by factors.
+pub(crate) fn find_certificate<R: Threads + Sync, G: Gate>(
+    rt: &R,
+    alloc: Global,
+    a: &Rows,
+    kind: CertKind,
+    command: Command,
+    gate: &G,
+) -> Result<Answer, Status>
+    requires some { 1 ≤ command.workers }
+    requires few { command.workers ≤ 64 }
+    requires height { a.now.matrix.height < LARGEST_SIZE }
+    requires width { a.now.matrix.width < LARGEST_SIZE }
+    ensures { ComesOf (asking (task.Certify kind) a.now.modulus command) (a.now.matrix ∷ []) result }
+{
+    let plan = Plan {
+        workers: command.workers,
+        rounds: command.rounds,
+    };
+    let Factors { pivots, l, u } = factor(rt, alloc, a, plan, gate)?;
+    let extra = claimed(rt, alloc, a, kind, command.workers)?;
+    Ok(Answer::Certificate(Certificate {
+        kind,
+        p: a.modulus().p(),
+        rank: pivots.items().len() as u32,
+        pivots,
+        l,
+        u,
+        extra,
+    }))
+}
+
+// The matrix that a certificate of this kind claims, if it claims one: the echelon form of a matrix, or its kernel basis.
+fn claimed<R: Threads + Sync>(
+    rt: &R,
+    alloc: Global,
+    a: &Rows,
+    kind: CertKind,
+    workers: u32,
+) -> Result<Option<Rows>, AllocError>
+    requires some { 1 ≤ workers }
+    requires few { workers ≤ 64 }
+    requires width { a.now.matrix.width < LARGEST_SIZE }
+    ensures { IfOk result (IsClaimed a.now.modulus a.now.matrix kind) }
+{
+    // The call's contract tells that the entries are residues.
+    let _ = a.height();
+    match kind {
+        CertKind::Rank => Ok(None),
+        CertKind::Rref => {
+            let form = Echelon::of(rt, alloc, a, workers)?;
+            Ok(Some(form.into_rows()))
+        }
+        CertKind::Kernel => {
+            let form = Echelon::of(rt, alloc, a, workers)?;
+            let basis = kernel_solve::kernel(alloc, &form)?;
+            Ok(Some(basis))
         }
     }
 }

@@ -14,8 +14,8 @@ pub(crate) mod tests;
 
 use crate::answer::Answer;
 use crate::commands::{
-    find_form, find_inverse, find_kernel, find_left_kernel, find_pivots, find_rank, find_solution,
-    find_summary, find_verdict,
+    find_certificate, find_form, find_inverse, find_kernel, find_left_kernel, find_pivots,
+    find_rank, find_solution, find_summary, find_verdict,
 };
 use crate::read_matrices::{read_one, read_to_check, read_two};
 use crate::status::Status;
@@ -182,5 +182,9 @@ fn find_for<R: Threads + Sync, S: Source, G: Gate>(
             find_verdict(alloc, &a, &certificate)
         }
         Task::Drill(generator) => find_summary(rt, alloc, &p, &generator, command),
+        Task::Certify(kind) => {
+            let a = read_one(alloc, &p, source, limit)?;
+            find_certificate(rt, alloc, &a, kind, command, gate)
+        }
     }
 }

@@ -1,4 +1,5 @@
-// The pivots that one worker finds and those that several may find, and two workers that a gate holds apart.
+// The pivots that one worker finds and those that several may find, two workers that a gate holds apart, and certificates that are
+// checked.
 use crate::running::run;
 use crate::running::tests::{X, Y};
 use crate::{Gate, Open, Point, Status};
@@ -14,15 +15,11 @@ fn written<'a, R: Threads + Sync, G: Gate>(
     rt: &R,
     alloc: Global,
     words: &'a [&'a str],
-    text: &str,
+    text: &[u8],
     gate: &G,
 ) -> Result<Option<MemorySink>, AllocError> {
-    let mut source = MemorySource::new(
-        Vec::from_slice(alloc, text.as_bytes())?,
-        64,
-        Vec::new(alloc),
-    );
-    let mut out = MemorySink::new(alloc, 256, 64, Vec::new(alloc))?;
+    let mut source = MemorySource::new(Vec::from_slice(alloc, text)?, 64, Vec::new(alloc));
+    let mut out = MemorySink::new(alloc, 512, 64, Vec::new(alloc))?;
     let mut err = MemorySink::new(alloc, 64, 64, Vec::new(alloc))?;
     let status = run(rt, alloc, words, &mut source, &mut out, &mut err, gate);
     Ok(if status == Status::Done {
@@ -88,7 +85,7 @@ const KNOWN: &[(&[&str], &str, &[&str])] = &[
 
 fn check_pivots<R: Threads + Sync + Abort>(rt: &R, alloc: Global) -> Result<(), Fail> {
     for (words, text, answers) in KNOWN {
-        let out = written(rt, alloc, words, text, &Open)?;
+        let out = written(rt, alloc, words, text.as_bytes(), &Open)?;
         assert!(rt; is_among(&out, answers), "{:?} at {:?}", words, text);
     }
     Ok(())
@@ -135,7 +132,7 @@ fn is_overtaken<R: Threads + Sync>(rt: &R, alloc: Global) -> Result<bool, AllocE
         published: AtomicU64::new(0),
     };
     let words = ["pivots", "--modulus=7", "--workers=2"];
-    let out = written(rt, alloc, &words, Y, &gate)?;
+    let out = written(rt, alloc, &words, Y.as_bytes(), &gate)?;
     Ok(is_among(&out, &["pivots 2\n3 2\n1 1\n"]) && gate.published.load(Ordering::SeqCst) == 1)
 }
 
@@ -143,4 +140,113 @@ fn is_overtaken<R: Threads + Sync>(rt: &R, alloc: Global) -> Result<bool, AllocE
 fn two_workers_go_at_once(rt: HostRuntime) -> Result<(), Fail> {
     assert!(rt; is_overtaken(&rt, rt.alloc())?);
     Ok(())
+}
+
+// Words, matrices, and the lines that the certificate begins with.
+const CERTIFIED: &[(&[&str], &str, &str)] = &[
+    (
+        &["certify", "--modulus=7", "--kind=rank"],
+        Y,
+        "certificate rank 7 3\n2 2\n1 1\n3 3\n",
+    ),
+    (
+        &["certify", "--modulus=7", "--kind=rank", "--rounds=0"],
+        Y,
+        "certificate rank 7 3\n",
+    ),
+    (
+        &["certify", "--modulus=7", "--kind=rref"],
+        Y,
+        "certificate rref 7 3\n2 2\n1 1\n3 3\n",
+    ),
+    (
+        &["certify", "--modulus=7", "--kind=rref", "--rounds=0"],
+        Y,
+        "certificate rref 7 3\n",
+    ),
+    (
+        &["certify", "--modulus=7", "--kind=kernel"],
+        Y,
+        "certificate kernel 7 3\n2 2\n1 1\n3 3\n",
+    ),
+    (
+        &["certify", "--modulus=7", "--kind=kernel", "--rounds=0"],
+        Y,
+        "certificate kernel 7 3\n",
+    ),
+    (
+        &["certify", "--modulus=7", "--kind=rank"],
+        X,
+        "certificate rank 7 2\n1 3\n2 1\n",
+    ),
+    (
+        &["certify", "--modulus=7", "--kind=rank", "--rounds=0"],
+        X,
+        "certificate rank 7 2\n",
+    ),
+    (
+        &["certify", "--modulus=7", "--kind=rref"],
+        X,
+        "certificate rref 7 2\n1 3\n2 1\n",
+    ),
+    (
+        &["certify", "--modulus=7", "--kind=rref", "--rounds=0"],
+        X,
+        "certificate rref 7 2\n",
+    ),
+    (
+        &["certify", "--modulus=7", "--kind=kernel"],
+        X,
+        "certificate kernel 7 2\n1 3\n2 1\n",
+    ),
+    (
+        &["certify", "--modulus=7", "--kind=kernel", "--rounds=0"],
+        X,
+        "certificate kernel 7 2\n",
+    ),
+    (
+        &["certify", "--modulus=7", "--kind=kernel", "--workers=2"],
+        X,
+        "certificate kernel 7 2\n",
+    ),
+    (
+        &["certify", "--modulus=7", "--kind=rref"],
+        "0 5 M\n0 0 0\n",
+        "certificate rref 7 0\n0 0 M\n0 0 0\n0 5 M\n0 0 0\n0 5 M\n0 0 0\n",
+    ),
+];
+
+// Whether a certificate is written that begins so, and is valid for the matrix before it.
+fn is_certified<'a, R: Threads + Sync>(
+    rt: &R,
+    alloc: Global,
+    words: &'a [&'a str],
+    text: &str,
+    begins: &str,
+) -> Result<bool, AllocError> {
+    let Some(certificate) = written(rt, alloc, words, text.as_bytes(), &Open)? else {
+        return Ok(false);
+    };
+    let mut both = Vec::from_slice(alloc, text.as_bytes())?;
+    both.extend_from_slice(certificate.content())?;
+    let words = ["check", "--modulus=7"];
+    let verdict = written(rt, alloc, &words, both.as_slice(), &Open)?;
+    Ok(certificate.content().starts_with(begins.as_bytes()) && is_among(&verdict, &["yes\n"]))
+}
+
+fn check_certified<R: Threads + Sync + Abort>(rt: &R, alloc: Global) -> Result<(), Fail> {
+    for (words, text, begins) in CERTIFIED {
+        assert!(rt;
+            is_certified(rt, alloc, words, text, begins)?,
+            "{:?} at {:?}",
+            words,
+            text
+        );
+    }
+    Ok(())
+}
+
+#[test]
+fn what_is_certified_is_valid(rt: HostRuntime) -> Result<(), Fail> {
+    check_certified(&rt, rt.alloc())
 }

@@ -3,7 +3,7 @@ ghost use Rattle.std.specs.Prelude.{◌≡◌, ℕ, All, true, false, codes, IfO
 ghost use Rattle.std.specs.List.{list_any};
 ghost use Rattle.std.specs.Str.{bytes_eq};
 ghost use Rattle.clap.specs.Words.{first_value, found_of, rows_of, subcommand_rows_of};
-ghost use Rattle.spasm_run.specs.Words.{IsInRange, own_settings};
+ghost use Rattle.spasm_run.specs.Words.{InRange, IsInRange, IsValue, kind_place, kind_rule, own_settings};
 ghost use Rattle.spasm_run.specs.Options.{AcceptedIsPlain, IsCommandOf, IsNumberOf, IsOneCommand, IsTaskOf};
 ghost use Rattle.spasm_run.specs.Options.{AreTaken, AsksFor, RowsSet, bytes_of};
 ghost use Rattle.spasm_run.specs.declared.words.Task.TheVariants as task;
@@ -13,6 +13,7 @@ pub mod command_line;
 mod tests;
 
 use crate::generator::{Generator, LARGEST_GENERATED, MOST_PER_ROW};
+use certificates::CertKind;
 use clap::ArgMatches;
 use clap::error::ErrorKind;
 use residue_words::MODULUS_BOUND;
@@ -39,6 +40,8 @@ pub enum Task {
     Check,
     /// A summary of the echelon form of a matrix that is generated.
     Drill(Generator),
+    /// A certificate of a matrix.
+    Certify(CertKind),
 }
 
 /// What is asked for, modulo what, and how it is to be worked out.
@@ -50,8 +53,8 @@ pub struct Command {
     pub modulus: u64,
     /// How many workers share the elimination, from 1 to 64.
     pub workers: u32,
-    /// How many structural rounds may come first, from 0 to 16: with 0 the rank is counted by the dense elimination, and no other
-    /// number makes a difference yet.
+    /// How many structural rounds may come first, from 0 to 16: so the pivots of a certificate are chosen. With 0 the rank is counted by
+    /// the dense elimination; to other commands no number makes a difference.
     pub rounds: u32,
 }
 
@@ -131,6 +134,10 @@ fn task_of(name: &str, options: &ArgMatches<'_>) -> Option<Task>
         let generator = generator_of(options)?;
         return Some(Task::Drill(generator));
     }
+    if name == "certify" {
+        let kind = kind_of(options)?;
+        return Some(Task::Certify(kind));
+    }
     command_line::bare_task(name)
 }
 
@@ -152,6 +159,32 @@ fn generator_of(options: &ArgMatches<'_>) -> Option<Generator>
     })
 }
 
+// The kind of the certificate that is asked for.
+fn kind_of(options: &ArgMatches<'_>) -> Option<CertKind>
+    ensures { MatchOption result
+        ((k : CertKind) → ¬ All (RowsSet (rows_of (found_of options.now))) (own_settings (task.Certify k)))
+        (λ k. All (RowsSet (rows_of (found_of options.now))) (own_settings (task.Certify k))) }
+{
+    let word = options.get_str("kind")?;
+    kind_named(word)
+}
+
+// The kind that a word names.
+fn kind_named(word: &str) -> Option<CertKind>
+    ensures { MatchOption result ((k : CertKind) → ¬ IsValue kind_rule.values word.now (kind_place k))
+        (λ k. IsValue kind_rule.values word.now (kind_place k)) }
+{
+    if word == "rank" {
+        Some(CertKind::Rank)
+    } else if word == "rref" {
+        Some(CertKind::Rref)
+    } else if word == "kernel" {
+        Some(CertKind::Kernel)
+    } else {
+        None
+    }
+}
+
 // The number that the option of this name gives, or the one that stands where it is absent.
 fn number_of(
     options: &ArgMatches<'_>,
@@ -160,7 +193,7 @@ fn number_of(
     high: u64,
     absent: Option<u64>,
 ) -> Option<u64>
-    ensures { IsNumberOf (record { name = name.now; low = low; high = high; absent = absent })
+    ensures { IsNumberOf (record { name = name.now; values = InRange low high; absent = absent })
         (first_value (found_of options.now) name.now) result }
 {
     match options.get_str(name) {

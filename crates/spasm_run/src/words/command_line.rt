@@ -27,6 +27,9 @@ static OPTIONS: [&str; 3] = ["modulus", "workers", "rounds"];
 // The names of the options of `drill` alone.
 static DRILL_OPTIONS: [&str; 4] = ["seed", "rows", "cols", "per"];
 
+// The name of the option of `certify` alone.
+static CERTIFY_OPTIONS: [&str; 1] = ["kind"];
+
 /// The command line: one level of commands, each with options that take one value each and come once at most. There is no help
 /// and no version, and the words begin behind the program's name.
 pub fn command<'a>(alloc: Global) -> Result<clap::Command<'a>, AllocError>
@@ -43,7 +46,9 @@ pub fn command<'a>(alloc: Global) -> Result<clap::Command<'a>, AllocError>
         line = line.subcommand(named)?;
     }
     let drill = named_command(alloc, "drill", &DRILL_OPTIONS)?;
-    line.subcommand(drill)
+    let line = line.subcommand(drill)?;
+    let certify = named_command(alloc, "certify", &CERTIFY_OPTIONS)?;
+    line.subcommand(certify)
 }
 
 // The command of this name, with the options of all commands and its own.

@@ -1,6 +1,7 @@
 //! The words that are accepted, with the command that they ask for, and words that are refused.
 use crate::generator::Generator;
 use crate::words::{Command, Task, command_line, read_words};
+use certificates::CertKind;
 
 const ACCEPTED: &[(&[&str], Task, u64, u32, u32)] = &[
     (&["rank"], Task::Rank, 42_013, 1, 3),
@@ -47,6 +48,27 @@ const ACCEPTED: &[(&[&str], Task, u64, u32, u32)] = &[
     (&["inverse"], Task::Inverse, 42_013, 1, 3),
     (&["pivots", "--workers=64"], Task::Pivots, 42_013, 64, 3),
     (&["check", "--modulus=7"], Task::Check, 7, 1, 3),
+    (
+        &["certify", "--kind", "rank"],
+        Task::Certify(CertKind::Rank),
+        42_013,
+        1,
+        3,
+    ),
+    (
+        &["certify", "--rounds=0", "--kind=rref", "--modulus", "7"],
+        Task::Certify(CertKind::Rref),
+        7,
+        1,
+        0,
+    ),
+    (
+        &["certify", "--workers", "64", "--kind=kernel"],
+        Task::Certify(CertKind::Kernel),
+        42_013,
+        64,
+        3,
+    ),
     (
         &[
             "inverse",
@@ -164,6 +186,21 @@ const REFUSED: &[&[&str]] = &[
     &["rank", "--workers", "4294967297"],
     &["rank", "--seed", "1"],
     &["pivots", "--rows=1"],
+    &["certify"],
+    &["certify", "--kind="],
+    &["certify", "--kind", ""],
+    &["certify", "--kind=Rank"],
+    &["certify", "--kind=ran"],
+    &["certify", "--kind=ranks"],
+    &["certify", "--kind", "leftkernel"],
+    &["certify", "--kind", "0"],
+    &["certify", "--kind", "-rank"],
+    &["certify", "--kind=rank", "--kind=rank"],
+    &["certify", "--kind=rank", "--kind", "rref"],
+    &["certify", "--kind=rank", "--seed=1"],
+    &["certify", "--kind=rank", "--rounds=17"],
+    &["certify", "rank"],
+    &["check", "--kind=rank"],
     &["drill"],
     &["drill", "--rows=1", "--cols=1", "--per=1"],
     &["drill", "--seed=1", "--cols=1", "--per=1"],

@@ -87,3 +87,12 @@ returns-in_ok-a-in-Check-clause-found g c = λ words accepted.
 pub returns-in_err-a-in-Check-clause-found : goal.returns-in_err-a-in-Check-clause-found
 returns-in_err-a-in-Check-clause-found g c = λ words accepted.
     found_unread words c.args.command task.Check c.new-p.result c.args.limit _ _ c.in_err-a-in-Check.field-0.0 _ c.in-Check.is c.new-p.ensures c.from_residual-in_err-a-in-Check.ensures.1 accepted c.in_err-a-in-Check.ensures.did
+
+pub returns-in_ok-a-in-Certify-clause-found : goal.returns-in_ok-a-in-Certify-clause-found
+returns-in_ok-a-in-Certify-clause-found g c = λ words accepted.
+    let a = c.in_ok-a-in-Certify in
+    found_given words c.args.command (task.Certify c.in-Certify.kind) c.new-p.result a.a.modulus c.args.limit _ _ (matrices_alone (a.a.matrix ∷ [])) _ c.in-Certify.is c.new-p.ensures a.ensures.matrix.modulus accepted a.ensures.did c.find_certificate.ensures
+
+pub returns-in_err-a-in-Certify-clause-found : goal.returns-in_err-a-in-Certify-clause-found
+returns-in_err-a-in-Certify-clause-found g c = λ words accepted.
+    found_unread words c.args.command (task.Certify c.in-Certify.kind) c.new-p.result c.args.limit _ _ c.in_err-a-in-Certify.field-0.0 _ c.in-Certify.is c.new-p.ensures c.from_residual-in_err-a-in-Certify.ensures.1 accepted c.in_err-a-in-Certify.ensures.did
