@@ -14,6 +14,7 @@ use Rattle.row_space.proofs.Triangular.{upper_zero}
 use Rattle.sparse_rows.specs.Rows.{ResidueMatrix}
 use Rattle.dense_finish.specs.declared.factors.Factors.{Factors}
 use Rattle.dense_finish.specs.Factors.{IsFactored}
+use Rattle.echelon_form.specs.Form.{Form, IsFormOf}
 use Rattle.schur_rows.specs.Round.{above, pivot_rows}
 use Rattle.schur_rows.proofs.Spanning.{round_spanned}
 use Rattle.pluq_factor.specs.Basis.{IsBasis}
@@ -58,6 +59,18 @@ basis_finished m h = record {
   independent = λ prime. factor_rows_independent prime m (h.factors prime);
   span = λ prime. factor_rows_span prime m (h.factors prime);
 }
+
+-- the rows of an echelon form are a basis
+pub basis_form : {p : ℕ} {A : Matrix} {f : Form} {U : ResidueMatrix} → IsFormOf p A f → U.modulus ≡ f.modulus → U.matrix ≡ f.matrix → IsBasis p A U
+basis_form {p} {A} {f} {U} h modulus same =
+    let at : IsBasis p A (record { modulus = U.modulus; matrix = f.matrix }) = record {
+      modulus = modulus ∙ h.modulus;
+      width = h.width;
+      independent = λ prime. let two = prime.two_or_more in
+          places_independent p (λ j lead. j < lead) f.matrix (slice_index f.leads) (omega arith) h.leads.1;
+      span = λ prime. (h.rref prime).span;
+    } in
+    subst (λ M. IsBasis p A (record { modulus = U.modulus; matrix = M })) (sym same) at
 
 pub basis_joined : {R : ResidueMatrix} {r : Left} {V W : ResidueMatrix} → IsLeftBy R r → IsMatrix V.modulus V.matrix → IsBasis r.rest.modulus r.rest.matrix V → W.modulus ≡ r.top.modulus →
     W.matrix ≡ above r.top.matrix V.matrix → IsBasis R.modulus R.matrix W

@@ -24,16 +24,20 @@ use Rattle.pluq_factor.specs.Staged.{Staged}
 use Rattle.pluq_factor.specs.Taken.{IsRoundTaken, triangle_on}
 use Rattle.pluq_factor.specs.declared.taken.Taken.{Taken}
 
--- no more pivots than rows
-fit_few : {p : ℕ} {A : Matrix} {ps : List Pair} {L U : Matrix} → FitAsFactors p A ps L U → length ps ≤ A.height
-fit_few {p} {A} {ps} {L} {U} fit = pigeonhole (length ps) A.height (row_at ps) fit.rows_below (λ k t lk lt same.
+-- places below n that differ are no more than n
+few_places : (m n : ℕ) (place : ℕ → ℕ) → ((k : ℕ) → k < m → place k < n) → ((k t : ℕ) → k < t → t < m → place k ≢ place t) → m ≤ n
+few_places m n place inside apart = pigeonhole m n place inside (λ k t lk lt same.
     elim (cases_eq k t) [
       | inl e ↦ e
-      | inr d ↦ elim (cases_lt k t) [
-        | inl less ↦ absurd (fit.rows_distinct k t less lt same)
-        | inr more ↦ absurd (fit.rows_distinct t k (omega arith) lk (sym same))
-      ]
+      | inr d ↦ elim (cases_lt k t) [ inl less ↦ absurd (apart k t less lt same) | inr more ↦ absurd (apart t k (omega arith) lk (sym same)) ]
     ])
+
+-- no more pivots than rows, and than columns
+pub fit_few : {p : ℕ} {A : Matrix} {ps : List Pair} {L U : Matrix} → FitAsFactors p A ps L U → length ps ≤ A.height
+fit_few {p} {A} {ps} {L} {U} fit = few_places (length ps) A.height (row_at ps) fit.rows_below fit.rows_distinct
+
+pub fit_narrow : {p : ℕ} {A : Matrix} {ps : List Pair} {L U : Matrix} → FitAsFactors p A ps L U → length ps ≤ A.width
+fit_narrow {p} {A} {ps} {L} {U} fit = few_places (length ps) A.width (col_at ps) fit.columns_below fit.columns_distinct
 
 -- a dense finish gives factors
 pub finished : {p : ℕ} {A : Matrix} {f : Factors} → IsFactored p A f → AreFactorsOf p A f

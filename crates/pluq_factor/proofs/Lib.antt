@@ -1,5 +1,6 @@
 pub mod Bases
 pub mod Factoring
+pub mod Ranking
 pub mod Selecting
 pub mod Staging
 pub mod Taking

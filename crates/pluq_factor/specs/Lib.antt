@@ -1,4 +1,5 @@
 pub mod Basis
+pub mod Counted
 pub mod Laws
 pub mod Rounds
 pub mod Staged

@@ -2,9 +2,11 @@
 ghost use Rattle.std.specs.Prelude.{◌≡◌, ◌≤◌, IfOk};
 ghost use Rattle.pluq_factor.specs.Basis.{IsBasis};
 
+use crate::extent::Extent;
 use crate::plan::Plan;
 use crate::taken::{Left, take_left};
 use dense_finish::{Factors, finish};
+use echelon_form::Echelon;
 use optimistic_search::Gate;
 use schur_rows::append_all;
 use sparse_rows::{LARGEST_SIZE, Rows};
@@ -12,7 +14,10 @@ use std::alloc::{AllocError, Global};
 use std::thread::Threads;
 
 /// Rows of a matrix's row space: for a prime modulus they are independent and span it. They are the pivots' rows of each round,
-/// and those of the dense finish; no coefficients are kept. For a modulus that is not prime they are some rows of that width.
+/// and those of the finish; no coefficients are kept. For a modulus that is not prime they are some rows of that width.
+///
+/// The rounds end as those of `rank` do, and what is left is eliminated densely where it is small and dense, and else by the
+/// rows of its echelon form. With no round there is the dense elimination alone.
 pub fn row_basis<R: Threads + Sync, G: Gate>(
     rt: &R,
     alloc: Global,
@@ -24,13 +29,35 @@ pub fn row_basis<R: Threads + Sync, G: Gate>(
     requires few { plan.workers ≤ 64 }
     ensures { IfOk result (IsBasis rows.now.modulus rows.now.matrix) }
 {
+    if plan.rounds == 0 {
+        let basis = dense_basis(rt, alloc, rows, plan.workers)?;
+        return Ok(basis);
+    }
     let copy = rows.copy(alloc)?;
     let basis = basis_from(rt, alloc, copy, plan.workers, plan.rounds, gate)?;
     Ok(basis)
 }
 
-// The rows of a dense finish.
+// The rows of a finish.
 fn finished<R: Threads + Sync>(
+    rt: &R,
+    alloc: Global,
+    rows: &Rows,
+    workers: u32,
+) -> Result<Rows, AllocError>
+    requires some { 1 ≤ workers }
+    requires few { workers ≤ 64 }
+    ensures { IfOk result (IsBasis rows.now.modulus rows.now.matrix) }
+{
+    if Extent::of(alloc, rows)?.is_block() {
+        dense_basis(rt, alloc, rows, workers)
+    } else {
+        form_basis(rt, alloc, rows, workers)
+    }
+}
+
+// The rows of a dense elimination.
+fn dense_basis<R: Threads + Sync>(
     rt: &R,
     alloc: Global,
     rows: &Rows,
@@ -44,6 +71,33 @@ fn finished<R: Threads + Sync>(
     let _ = rows.height();
     let Factors { u, .. } = finish(rt, alloc, rows, workers)?;
     Ok(u)
+}
+
+// The rows of the echelon form.
+fn form_basis<R: Threads + Sync>(
+    rt: &R,
+    alloc: Global,
+    rows: &Rows,
+    workers: u32,
+) -> Result<Rows, AllocError>
+    requires some { 1 ≤ workers }
+    requires few { workers ≤ 64 }
+    ensures { IfOk result (IsBasis rows.now.modulus rows.now.matrix) }
+{
+    let form = Echelon::of(rt, alloc, rows, workers)?;
+    let basis = form.into_rows();
+    Ok(basis)
+}
+
+// How many of so many further rounds are worth their time.
+fn rounds_behind(alloc: Global, rest: &Rows, rounds: u32) -> Result<u32, AllocError>
+    ensures { IfOk result (λ n. n ≤ rounds) }
+{
+    if Extent::of(alloc, rest)?.is_dense() {
+        Ok(0)
+    } else {
+        Ok(rounds)
+    }
 }
 
 // The rows by so many rounds and the finish. The matrix is given up before the next round begins.
@@ -71,7 +125,8 @@ fn basis_from<R: Threads + Sync, G: Gate>(
     };
     drop(rows);
     let Left { top, rest } = left;
-    let below = basis_from(rt, alloc, rest, workers, rounds - 1, gate)?;
+    let more = rounds_behind(alloc, &rest, rounds - 1)?;
+    let below = basis_from(rt, alloc, rest, workers, more, gate)?;
     let mut basis = top;
     // Only where the modulus isn't prime are there more rows than a matrix has.
     if below.height() > LARGEST_SIZE - basis.height() {

@@ -1,13 +1,15 @@
-//! Factors, row space and rank of a sparse matrix, by structural rounds and a dense finish.
+//! Factors, row space and rank of a sparse matrix, by structural rounds and a finish.
 //!
 //! A round finds pivots without any arithmetic and leaves the complement, on which the next one works; what the last one leaves
-//! is eliminated densely. The method is that of Bouillaguet, Delaplace and Voge, 'Parallel Sparse PLUQ Factorization modulo p',
-//! PASCO 2017.
+//! is eliminated densely, or row by row where only rank or row space is wanted. The method is that of Bouillaguet, Delaplace and
+//! Voge, 'Parallel Sparse PLUQ Factorization modulo p', PASCO 2017.
 #![tactic(auto)]
 
 mod basis;
 mod by_rounds;
+mod extent;
 mod plan;
+mod rank_by_rounds;
 mod taken;
 #[cfg(test)]
 mod tests;
@@ -18,6 +20,7 @@ pub use basis::row_basis;
 pub use by_rounds::factor;
 pub use dense_finish::Factors;
 pub use plan::Plan;
+pub use rank_by_rounds::rank;
 
 /// A list begins with the pivots of at most one round, and what stands behind them is staged on the complement, for a prime
 /// modulus.

@@ -2,6 +2,7 @@
 ghost use Rattle.std.specs.Prelude.{◌≡◌, ◌≤◌, [], IfOk, IfSome};
 ghost use Rattle.std.specs.Option.{MatchOption};
 ghost use Rattle.pivot_table.specs.Selected.{Selected};
+ghost use Rattle.pluq_factor.specs.Counted.{LeavesRank};
 ghost use Rattle.pluq_factor.specs.Taken.{IsLeftBy, IsRoundTaken};
 
 use crate::plan::{rows_of, select_pivots};
@@ -24,6 +25,13 @@ pub(crate) struct Taken {
 #[derive(Debug, Drop)]
 pub(crate) struct Left {
     pub(crate) top: Rows,
+    pub(crate) rest: Rows,
+}
+
+// How many pivots rounds have found, and the complement.
+#[derive(Debug, Drop)]
+pub(crate) struct Counted {
+    pub(crate) count: u32,
     pub(crate) rest: Rows,
 }
 
@@ -74,6 +82,31 @@ pub(crate) fn take_left<R: Threads + Sync, G: Gate>(
     let rest = complement(rt, alloc, &triangle, workers)?;
     let top = rows.select(alloc, &rows_of(alloc, pairs)?)?;
     Ok(Some(Left { top, rest }))
+}
+
+// One round whose pivots are counted alone; None where there is no pivot.
+pub(crate) fn count_round<R: Threads + Sync, G: Gate>(
+    rt: &R,
+    alloc: Global,
+    rows: &Rows,
+    workers: u32,
+    gate: &G,
+) -> Result<Option<Counted>, AllocError>
+    requires some { 1 ≤ workers }
+    requires few { workers ≤ 64 }
+    ensures { IfOk result (λ r. IfSome r (LeavesRank rows.now)) }
+{
+    // The law's contract: the rank of the complement gives that of the matrix.
+    schur_rows::round_rank();
+    // The call's contract tells that the entries are residues.
+    let _ = rows.height();
+    let triangle = select_pivots(rt, alloc, rows, workers, gate)?;
+    let count = triangle.pairs().len() as u32;
+    if count == 0 {
+        return Ok(None);
+    }
+    let rest = complement(rt, alloc, &triangle, workers)?;
+    Ok(Some(Counted { count, rest }))
 }
 
 // The pairs as a list.

@@ -1,5 +1,5 @@
 use Rattle.pluq_factor.proofs.Bases.{basis_finished}
-use Rattle.pluq_factor.proofs.basis.finished.Goals as goal
+use Rattle.pluq_factor.proofs.basis.dense_basis.Goals as goal
 
 pub returns : goal.returns
 returns g c = basis_finished c.height.ensures.sound c.in_ok-u.ensures

@@ -1,0 +1,83 @@
+-- The rank as pivots that are counted, round by round.
+use Rattle.std.proofs.Common.{ℕ, ◌≡◌, ◌+◌, ◌-◌, ◌<◌, ◌≤◌, inl, inr, List, length, min, slice_index, sym, ap, subst, ◌∙◌, arith}
+use Rattle.std.proofs.lemmas.Bool.{cases_eq, cases_lt}
+use Rattle.residue_words.specs.declared.plain.Pair.{Pair}
+use Rattle.residue_words.specs.Residues.{IsPrime}
+use Rattle.residue_words.specs.Matrix.{Matrix, IsMatrix}
+use Rattle.row_space.specs.Echelon.{HasRank, IsIndependent, IsRref}
+use Rattle.row_space.proofs.Counting.{independent_height, pigeonhole}
+use Rattle.row_space.proofs.Spans.{places_independent}
+use Rattle.sparse_rows.specs.Rows.{ResidueMatrix}
+use Rattle.pivot_table.specs.Order.{Triangular}
+use Rattle.triangular_solve.specs.Reduced.{IsComplement}
+use Rattle.triangular_solve.specs.Triangle.{TriangleState}
+use Rattle.schur_rows.specs.Laws.{RoundRank}
+use Rattle.schur_rows.specs.Round.{FitsComplement}
+use Rattle.schur_rows.proofs.Distinct.{triangular_narrow, triangular_short}
+use Rattle.pluq_factor.specs.Counted.{LeavesRank}
+use Rattle.pluq_factor.specs.declared.taken.Counted.{Counted}
+
+-- a rank is at most the height and the width
+pub rank_least : {p : ℕ} {A : Matrix} {r : ℕ} → IsPrime p → HasRank p A r → (r ≤ A.height) × (r ≤ A.width)
+rank_least {p} {A} {r} prime rank =
+    let two : 2 ≤ p = prime.two_or_more in
+    let E : Matrix = rank.0 in
+    let form : IsRref p A E = rank.1 in
+    let places = form.form.1.1 in
+    let free : IsIndependent p E = places_independent p (λ j lead. j < lead) E (slice_index form.form.0) (omega arith) places in
+    let low : E.height ≤ A.height = independent_height p E A two free (λ v c. (form.span v).1 c) in
+    let narrow : E.height ≤ E.width = pigeonhole E.height E.width (slice_index form.form.0) places.inside (λ k t lk lt same.
+    elim (cases_eq k t) [
+      | inl e ↦ e
+      | inr d ↦ elim (cases_lt k t) [
+        | inl less ↦ absurd (let x = places.rising k t less lt in omega arith)
+        | inr more ↦ absurd (let x = places.rising t k (omega arith) lk in omega arith)
+      ]
+    ]) in
+    (omega (arith, rank.2), omega (arith, rank.2, form.width))
+
+-- a round's pivots are counted
+pub counted_round : RoundRank → {R B : ResidueMatrix} {t : TriangleState} {n : ℕ} → IsMatrix R.modulus R.matrix → t.rows ≡ R → Triangular R.matrix t.pairs → n ≡ length t.pairs → FitsComplement t B →
+    (IsPrime t.rows.modulus → IsComplement t.rows.modulus t.rows.matrix t.pairs B.matrix) → LeavesRank R (record { count = n; rest = B })
+counted_round law {R} {B} {t} {n} sound same order count fits left =
+    let tri : Triangular t.rows.matrix t.pairs = subst (λ (R : ResidueMatrix). Triangular R.matrix t.pairs) (sym same) order in
+    let at : LeavesRank t.rows (record { count = n; rest = B }) = record {
+      modulus = fits.modulus;
+      height = fits.height;
+      width = fits.width;
+      at_most_height = omega (arith, triangular_short tri);
+      at_most_width = omega (arith, triangular_narrow tri);
+      rank = λ prime r below. subst (λ n. HasRank t.rows.modulus t.rows.matrix (n + r)) (sym count)
+          (law t.rows.modulus t.rows.matrix t.pairs B.matrix r prime (subst (λ (R : ResidueMatrix). IsMatrix R.modulus R.matrix) (sym same) sound) tri (left prime) below);
+    } in
+    subst (λ R. LeavesRank R (record { count = n; rest = B })) same at
+
+-- one round more: for a prime modulus its count fits, since what it leaves has a rank
+pub counted_more : {R : ResidueMatrix} {c d : Counted} {most more : ℕ} → LeavesRank R c → LeavesRank c.rest d → most ≡ min R.matrix.height R.matrix.width → more ≡ min d.count (most - c.count) →
+    LeavesRank R (record { count = c.count + more; rest = d.rest })
+counted_more {R} {c} {d} {most} {more} first second small few =
+    let p : ℕ = R.modulus in
+    let high : c.count ≤ R.matrix.height = first.at_most_height in
+    let wide : c.count ≤ R.matrix.width = first.at_most_width in
+    let below : IsPrime p → (r : ℕ) → HasRank p d.rest.matrix r → HasRank p c.rest.matrix (d.count + r) = subst (λ p. IsPrime p → (r : ℕ) → HasRank p d.rest.matrix r → HasRank p c.rest.matrix (d.count + r)) first.modulus second.rank in
+    record {
+      modulus = second.modulus ∙ first.modulus;
+      height = second.height ∙ first.height;
+      width = second.width ∙ first.width;
+      at_most_height = omega (arith, high, wide, small, few);
+      at_most_width = omega (arith, high, wide, small, few);
+      rank = λ prime r rest.
+          let whole : HasRank p R.matrix (c.count + (d.count + r)) = first.rank prime (d.count + r) (below prime r rest) in
+          let least = rank_least prime whole in
+          let e : c.count + (d.count + r) ≡ c.count + more + r = omega (arith, least.0, least.1, small, few) in
+          subst (HasRank p R.matrix) e whole;
+    }
+
+-- the count and the rank of what is left, as far as they fit, are the rank
+pub counted_all : {R : ResidueMatrix} {c : Counted} {most h w r more : ℕ} → LeavesRank R c → (IsPrime c.rest.modulus → HasRank c.rest.modulus c.rest.matrix r) → most ≡ min h w →
+    h ≡ R.matrix.height → w ≡ R.matrix.width → more ≡ min r (most - c.count) → IsPrime R.modulus → HasRank R.modulus R.matrix (c.count + more)
+counted_all {R} {c} {most} {h} {w} {r} {more} left below small high wide few prime =
+    let whole : HasRank R.modulus R.matrix (c.count + r) = left.rank prime r (subst (λ p. IsPrime p → HasRank p c.rest.matrix r) left.modulus below prime) in
+    let least = rank_least prime whole in
+    let e : c.count + r ≡ c.count + more = omega (arith, least.0, least.1, small, high, wide, few) in
+    subst (HasRank R.modulus R.matrix) e whole

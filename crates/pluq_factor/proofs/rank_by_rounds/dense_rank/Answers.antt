@@ -1,0 +1,17 @@
+use Rattle.std.proofs.Common.{◌≤◌, ap, length, subst, sym}
+use Rattle.row_space.specs.Echelon.{HasRank}
+use Rattle.pluq_factor.proofs.Factoring.{fit_few, fit_narrow}
+use Rattle.pluq_factor.proofs.rank_by_rounds.dense_rank.Goals as goal
+
+pub returns-clause-rank : goal.returns-clause-rank
+returns-clause-rank g c =
+    let A = c.args.rows.now in
+    let factors = c.in_ok-factors.factors in λ prime.
+    subst (HasRank A.modulus A.matrix) (sym (ap length c.items.ensures))
+    (c.factors_give_rank.ensures A.modulus A.matrix factors.pivots factors.l.matrix factors.u.matrix prime c.height.ensures.sound (c.in_ok-factors.ensures.factors prime))
+
+pub returns-clause-at_most_height : goal.returns-clause-at_most_height
+returns-clause-at_most_height g c = subst (λ n. n ≤ c.args.rows.now.matrix.height) (sym (ap length c.items.ensures)) (fit_few c.in_ok-factors.ensures.fit)
+
+pub returns-clause-at_most_width : goal.returns-clause-at_most_width
+returns-clause-at_most_width g c = subst (λ n. n ≤ c.args.rows.now.matrix.width) (sym (ap length c.items.ensures)) (fit_narrow c.in_ok-factors.ensures.fit)
