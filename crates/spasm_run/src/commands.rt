@@ -44,21 +44,28 @@ pub fn at_most_one_answer()
     ensures { IsOneAnswer }
 {}
 
-// The rank of a matrix: by a dense elimination where there are no structural rounds, and else by its echelon form.
-pub(crate) fn find_rank<R: Threads + Sync>(
+// The rank of a matrix: by a dense elimination where there are no structural rounds, and else by these rounds.
+pub(crate) fn find_rank<R: Threads + Sync, G: Gate>(
     rt: &R,
     alloc: Global,
     a: &Rows,
     command: Command,
+    gate: &G,
 ) -> Result<Answer, Status>
     requires some { 1 ≤ command.workers }
     requires few { command.workers ≤ 64 }
     ensures { ComesOf (asking task.Rank a.now.modulus command) (a.now.matrix ∷ []) result }
 {
-    if command.rounds == 0 {
+    let Command {
+        workers,
+        rounds,
+        ..
+    } = command;
+    if rounds == 0 {
         return count_pivots(rt, alloc, a, command);
     }
-    let rank = echelon_form::rank(alloc, a)?;
+    let plan = Plan { workers, rounds };
+    let rank = pluq_factor::rank(rt, alloc, a, plan, gate)?;
     Ok(Answer::Rank(u64::from(rank)))
 }
 

@@ -162,7 +162,13 @@ fn find_for<R: Threads + Sync, S: Source, G: Gate>(
 {
     let p = Modulus::new(command.modulus);
     match command.task {
-        Task::Rank => find_rank(rt, alloc, &read_one(alloc, &p, source, limit)?, command),
+        Task::Rank => find_rank(
+            rt,
+            alloc,
+            &read_one(alloc, &p, source, limit)?,
+            command,
+            gate,
+        ),
         Task::Rref => find_form(rt, alloc, &read_one(alloc, &p, source, limit)?, command),
         Task::Kernel => find_kernel(rt, alloc, &read_one(alloc, &p, source, limit)?, command),
         Task::Solve => {
