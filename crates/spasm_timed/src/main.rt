@@ -1,13 +1,11 @@
-//! Times what the documents give figures of: multiples of rows added, the factors and the structural pivots of a matrix, and texts
-//! read and written.
+//! Times what the documents give figures of: multiples of rows added, the factors of a matrix, and texts read and written.
 //!
-//! The words say which: `lanes`, `factors WORKERS`, `pivots WORKERS`, `read P` or `write P`, where P is a modulus; all but the first
-//! read a matrix from standard input. Times are in microseconds. With other words, or with none, one line says these.
+//! The words say which: `lanes`, `factors WORKERS`, `read P` or `write P`, where P is a modulus; the last three read a matrix from standard
+//! input. Times are in microseconds. With other words, or with none, one line says these.
 #![tactic(auto)]
 
 mod added_rows;
 mod factored;
-mod structural;
 mod task;
 mod texts;
 
@@ -16,13 +14,10 @@ use factored::time_factors;
 use residue_words::{MODULUS_BOUND, Modulus};
 use std::alloc::Global;
 use std::io::{self, Read, Write};
-use std::marker::Brand;
 use std::process::ExitCode;
-use std::sync::ledger::Blank;
 use std::thread::Threads;
 use std::time::Clock;
 use std_edge::words_of;
-use structural::time_pivots;
 use task::Task;
 use texts::{time_reading, time_writing};
 
@@ -50,17 +45,12 @@ fn perform<R: Threads + Sync + Clock + Print + Eprint, I: Read + Drop, O: Write 
         Some(Task::Factors(workers)) if 1 <= workers && workers <= 64 => {
             time_factors(rt, alloc, input, workers)
         }
-        Some(Task::Pivots(workers)) if 1 <= workers && workers <= 64 => {
-            time_pivots::<R, I, Brand>(rt, alloc, input, workers, Blank::new(1))
-        }
         Some(Task::Read(p)) if 2 <= p && p < MODULUS_BOUND => {
             time_reading(rt, alloc, input, &Modulus::new(p))
         }
         Some(Task::Write(p)) if 2 <= p && p < MODULUS_BOUND => {
             time_writing(rt, alloc, input, output, &Modulus::new(p))
         }
-        _ => println!(rt;
-            "spasm_timed lanes | factors WORKERS | pivots WORKERS | read P | write P"
-        ),
+        _ => println!(rt; "spasm_timed lanes | factors WORKERS | read P | write P"),
     }
 }
