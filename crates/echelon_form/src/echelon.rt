@@ -4,9 +4,9 @@ ghost use Rattle.sparse_rows.specs.Rows.{AreRising};
 ghost use Rattle.sparse_rows.specs.declared.rows.TheConstants.{LARGEST_SIZE};
 ghost use Rattle.echelon_form.specs.Form.{IsEchelon, IsFormOf, widened_form};
 
-use crate::elimination::{eliminated, is_wide};
 use crate::lead_order::{leads_of, named, order_of};
 use crate::settle::{merged, shares_of};
+use crate::sparse_elimination::{eliminated, is_wide};
 use sparse_rows::Rows;
 use std::alloc::{AllocError, Global};
 use std::marker::Model;

@@ -2,11 +2,11 @@
 #![tactic(auto)]
 
 mod echelon;
-mod elimination;
 mod lead_order;
 mod settle;
+mod sparse_elimination;
 #[cfg(test)]
 mod tests;
 
 pub use echelon::Echelon;
-pub use elimination::rank;
+pub use sparse_elimination::rank;

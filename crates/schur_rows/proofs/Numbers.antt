@@ -12,8 +12,8 @@ use Rattle.sparse_rows.specs.declared.rows.TheConstants.{LARGEST_SIZE}
 use Rattle.sparse_rows.proofs.Supports.{in_support}
 use Rattle.pivot_table.specs.Order.{Triangular}
 use Rattle.triangular_solve.specs.Reduced.{IsPivotRow}
-use Rattle.schur_rows.specs.PivotRows.{AreNumbersOf, HasNumbers, IsRowOfPair}
-use Rattle.schur_rows.specs.declared.pivot_rows.PivotRows.{PivotRows}
+use Rattle.schur_rows.specs.PivotNumbers.{AreNumbersOf, HasNumbers, IsRowOfPair}
+use Rattle.schur_rows.specs.declared.pivot_numbers.PivotNumbers.{PivotNumbers}
 use Rattle.schur_rows.proofs.Distinct.{triangular_short}
 
 -- ascending numbers that are the same stand at the same place
@@ -60,7 +60,7 @@ numbers_more {qs} {rows} {numbers} {n} rising h i t is lt at apart = record {
     same = get_or-set_same numbers t n 0 (omega (arith, h.long))
 
 -- a row with NONE beside it, and one that isn't there, are no pivot's
-pub none_here : {qs : List Pair} {r : PivotRows} {xs : List ℕ} → HasNumbers qs r → xs ≡ r.rows.items → (i t n : ℕ) → t < length xs → slice_index xs t ≡ i → n ≡ slice_index_or r.numbers.items t n →
+pub none_here : {qs : List Pair} {r : PivotNumbers} {xs : List ℕ} → HasNumbers qs r → xs ≡ r.rows.items → (i t n : ℕ) → t < length xs → slice_index xs t ≡ i → n ≡ slice_index_or r.numbers.items t n →
     n ≡ 4294967295 → IsPivotRow qs i → ⊥
 none_here {qs} {r} {xs} h same i t n l at read none w =
     let found = h.numbers.every w.0 w.1 in
@@ -69,12 +69,12 @@ none_here {qs} {r} {xs} h same i t n l at read none w =
     let e : found.0 ≡ t = rising_apart r.rows.items h.rising found.0 t found.1 low (found.2 ∙ w.2 ∙ sym at ∙ ap (λ u. slice_index u t) same) in
     omega (arith, found.3, ap (slice_index r.numbers.items) e, none, value, w.1, h.few)
 
-pub none_there : {qs : List Pair} {r : PivotRows} {xs : List ℕ} → HasNumbers qs r → xs ≡ r.rows.items → (i : ℕ) → ((t : ℕ) → t < length xs → slice_index xs t ≢ i) → IsPivotRow qs i → ⊥
+pub none_there : {qs : List Pair} {r : PivotNumbers} {xs : List ℕ} → HasNumbers qs r → xs ≡ r.rows.items → (i : ℕ) → ((t : ℕ) → t < length xs → slice_index xs t ≢ i) → IsPivotRow qs i → ⊥
 none_there {qs} {r} {xs} h same i away w =
     let found = h.numbers.every w.0 w.1 in
     away found.0 (omega (arith, found.1, ap length same)) (ap (λ u. slice_index u found.0) same ∙ found.2 ∙ w.2)
 
-pub pair_here : {qs : List Pair} {r : PivotRows} {xs : List ℕ} → HasNumbers qs r → xs ≡ r.rows.items → (i t n : ℕ) → t < length xs → slice_index xs t ≡ i → n ≡ slice_index_or r.numbers.items t n → n ≢ 4294967295 →
+pub pair_here : {qs : List Pair} {r : PivotNumbers} {xs : List ℕ} → HasNumbers qs r → xs ≡ r.rows.items → (i t n : ℕ) → t < length xs → slice_index xs t ≡ i → n ≡ slice_index_or r.numbers.items t n → n ≢ 4294967295 →
     IsRowOfPair qs i n
 pair_here {qs} {r} {xs} h same i t n l at read some =
     let low : t < length r.rows.items = omega (arith, ap length same) in
@@ -82,7 +82,7 @@ pair_here {qs} {r} {xs} h same i t n l at read some =
     let was = h.numbers.some t low (λ z. some (value ∙ z)) in
     (omega (arith, was.0, value), ap (row_at qs) value ∙ was.1 ∙ ap (λ u. slice_index u t) (sym same) ∙ at)
 
-pub rising_there : {qs : List Pair} {r : PivotRows} {xs : List ℕ} → HasNumbers qs r → xs ≡ r.rows.items → AreRising xs
+pub rising_there : {qs : List Pair} {r : PivotNumbers} {xs : List ℕ} → HasNumbers qs r → xs ≡ r.rows.items → AreRising xs
 rising_there {qs} {r} {xs} h same = subst AreRising (sym same) h.rising
 
 -- there are no more pairs than rows
@@ -103,7 +103,7 @@ pairs_known {R} {S} {T} {qs} {ps} {rows} {xs} first sound second filled value pa
     (subst (λ ps. (k : ℕ) → k < length ps → Contains rows (row_at ps k)) (sym pairs)
     (pairs_filled (subst (λ (R : ResidueMatrix). IsMatrix R.modulus R.matrix) first sound) tri (subst (λ (R : ResidueMatrix). AreFilled R.matrix rows) second filled)))
 
-pub all_numbers : {S T : ResidueMatrix} {qs ps : List Pair} {r : PivotRows} {xs : List ℕ} → S ≡ T → AreFilled S.matrix r.rows.items → xs ≡ r.rows.items → ps ≡ qs → length ps ≤ LARGEST_SIZE →
+pub all_numbers : {S T : ResidueMatrix} {qs ps : List Pair} {r : PivotNumbers} {xs : List ℕ} → S ≡ T → AreFilled S.matrix r.rows.items → xs ≡ r.rows.items → ps ≡ qs → length ps ≤ LARGEST_SIZE →
     AreNumbersOf ps xs (length ps) r.numbers.items → HasNumbers qs r
 all_numbers {S} {T} {qs} {ps} {r} {xs} second filled value pairs few numbers = record {
   few = omega (arith, ap length pairs);

@@ -21,7 +21,7 @@ use Rattle.triangular_solve.specs.Reduced.{FitsReduced, FitsRest, IsPivotRow, Is
 use Rattle.triangular_solve.specs.declared.reduced.Reduced.{Reduced}
 use Rattle.triangular_solve.specs.Triangle.{TriangleState}
 use Rattle.schur_rows.specs.Parts.{AddsLeft, AddsRow, AddsZeros, AreZeroRows, MayTakeRow, IsPart, IsPartTo, IsRowOfRound, Joins, itself}
-use Rattle.schur_rows.specs.PivotRows.{IsRowOfPair}
+use Rattle.schur_rows.specs.PivotNumbers.{IsRowOfPair}
 use Rattle.schur_rows.specs.Round.{above}
 use Rattle.schur_rows.specs.declared.round.SchurRows.{SchurRows}
 use Rattle.schur_rows.proofs.Above.{above_first, above_matrix, above_second, each_of}

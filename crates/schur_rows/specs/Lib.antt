@@ -1,4 +1,4 @@
 pub mod Laws
 pub mod Parts
-pub mod PivotRows
+pub mod PivotNumbers
 pub mod Round

@@ -5,9 +5,9 @@
 //! a round of the elimination of Bouillaguet, Delaplace and Voge, 'Parallel Sparse PLUQ Factorization modulo p', PASCO 2017.
 #![tactic(auto)]
 
-mod parts;
-mod pivot_rows;
+mod pivot_numbers;
 mod round;
+mod row_ranges;
 mod stacking;
 mod workers;
 

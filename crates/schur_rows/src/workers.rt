@@ -2,11 +2,11 @@
 ghost use Rattle.std.specs.Prelude.{◌≡◌, ◌<◌, ◌≤◌, ◌+◌, length, IfOk, OnOk};
 ghost use Rattle.sparse_rows.specs.declared.rows.TheConstants.{LARGEST_SIZE};
 ghost use Rattle.schur_rows.specs.Parts.{HasParts, HaveParts, IsDeal, IsPartTo, Joins, cut_at};
-ghost use Rattle.schur_rows.specs.PivotRows.{HasNumbers};
+ghost use Rattle.schur_rows.specs.PivotNumbers.{HasNumbers};
 
-use crate::parts::{no_rows, part_of};
-use crate::pivot_rows::PivotRows;
+use crate::pivot_numbers::PivotNumbers;
 use crate::round::SchurRows;
+use crate::row_ranges::{no_rows, part_of};
 use crate::stacking::append_all;
 use std::alloc::{AllocError, Global};
 use std::thread;
@@ -54,7 +54,7 @@ pub(crate) fn left_by<R: Threads + Sync>(
     ensures { IfOk result (IsPartTo triangle.now kept 0 triangle.now.rows.matrix.height) }
 {
     let height = triangle.rows().height();
-    let pivot_rows = PivotRows::of(alloc, triangle)?;
+    let pivot_rows = PivotNumbers::of(alloc, triangle)?;
     if workers == 1 {
         let mut work = Work::new(alloc, triangle)?;
         return part_of(alloc, triangle, &pivot_rows, kept, 0, height, &mut work);
@@ -75,7 +75,7 @@ fn shares_of<R: Threads + Sync>(
     rt: &R,
     alloc: Global,
     triangle: &Triangle,
-    pivot_rows: &PivotRows,
+    pivot_rows: &PivotNumbers,
     deal: Deal,
 ) -> Result<Vec<Share>, AllocError>
     requires deal { IsDeal triangle.now.rows.matrix.height deal }
@@ -95,7 +95,7 @@ fn shares_of<R: Threads + Sync>(
 fn share_of(
     alloc: Global,
     triangle: &Triangle,
-    pivot_rows: &PivotRows,
+    pivot_rows: &PivotNumbers,
     deal: Deal,
     worker: usize,
 ) -> Share

@@ -6,7 +6,7 @@ ghost use Rattle.sparse_rows.specs.Cells.{AreGrouped, row_of};
 ghost use Rattle.sparse_rows.specs.Stored.{AreStarts, IsFilling, count_of};
 
 use crate::cells::Cell;
-use crate::group::running_sums;
+use crate::counting_sort::running_sums;
 use crate::rows::stores_every_row;
 use std::alloc::{AllocError, Global};
 

@@ -10,8 +10,8 @@ ghost use Rattle.sparse_rows.specs.Stored.{IsSparse, spread, with_row, with_spar
 
 use crate::cells::{Cell, columns, row_starts, values};
 use crate::column_lists::{named_columns, occurring, places_among};
-use crate::group::group;
-use crate::parts::{part, part_numbers};
+use crate::consecutive_parts::{part, part_numbers};
+use crate::counting_sort::group;
 use residue_words::Modulus;
 use std::alloc::{AllocError, Global};
 use std::marker::Model;

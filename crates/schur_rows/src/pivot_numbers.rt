@@ -1,0 +1,67 @@
+// Which rows are pivots' rows.
+ghost use Rattle.std.specs.Prelude.{◌≡◌, ◌≢◌, ◌<◌, ◌≤◌, ℕ, length, slice_index, IfOk};
+ghost use Rattle.std.specs.List.{Contains};
+ghost use Rattle.std.specs.Option.{MatchOption};
+ghost use Rattle.row_space.specs.Factors.{row_at};
+ghost use Rattle.sparse_rows.specs.Rows.{AreRising};
+ghost use Rattle.sparse_rows.specs.declared.rows.TheConstants.{LARGEST_SIZE};
+ghost use Rattle.triangular_solve.specs.Reduced.{IsPivotRow};
+ghost use Rattle.schur_rows.specs.PivotNumbers.{AreNumbersOf, HasNumbers, IsRowOfPair};
+
+use pivot_table::Pair;
+use std::alloc::{AllocError, Global};
+use triangular_solve::Triangle;
+
+// Stands at each row that is no pivot's.
+const NONE: u32 = u32::MAX;
+
+// The rows of a triangle's matrix that have an entry, with the numbers of the pairs that they belong to: 8 bytes a row.
+#[derive(Debug, Drop)]
+pub(crate) struct PivotNumbers {
+    // Ascending.
+    rows: Vec<u32>,
+    numbers: Vec<u32>,
+}
+
+impl PivotNumbers {
+    // In time proportional to the height, and to the pairs times a logarithm.
+    pub(crate) fn of(alloc: Global, triangle: &Triangle) -> Result<PivotNumbers, AllocError>
+        ensures { IfOk result (HasNumbers triangle.now.pairs) }
+    {
+        // The call tells how high a matrix is.
+        let _ = triangle.rows().height();
+        let rows = triangle.rows().filled(alloc)?;
+        let numbers = numbers_of(alloc, &rows, triangle.pairs())?;
+        Ok(PivotNumbers { rows, numbers })
+    }
+
+    // The number of the pair to which the row belongs, if there is one, in time logarithmic in the rows.
+    pub(crate) fn find(&self, i: u32, pairs: &[Pair]) -> Option<u32>
+        requires { HasNumbers pairs.now self.now }
+        ensures { MatchOption result (¬ IsPivotRow pairs.now i) (IsRowOfPair pairs.now i) }
+    {
+        let _ = pairs;
+        let Ok(t) = self.rows.binary_search(&i) else {
+            return None;
+        };
+        let number = self.numbers[t];
+        if number == NONE { None } else { Some(number) }
+    }
+}
+
+// Of each of these ascending rows the number of its pair, or NONE.
+fn numbers_of(alloc: Global, rows: &[u32], pairs: &[Pair]) -> Result<Vec<u32>, AllocError>
+    requires rising { AreRising rows.now }
+    requires few { length pairs.now ≤ LARGEST_SIZE }
+    requires known { (k : ℕ) → k < length pairs.now → Contains rows.now (row_at pairs.now k) }
+    requires apart { (k t : ℕ) → k < t → t < length pairs.now → row_at pairs.now k ≢ row_at pairs.now t }
+    ensures { IfOk result (λ numbers. AreNumbersOf pairs.now rows.now (length pairs.now) numbers.items) }
+{
+    let mut numbers = vec![in alloc; NONE; rows.len()]?;
+    for k in 0..pairs.len() {
+        if let Ok(t) = rows.binary_search(&pairs[k].row) {
+            numbers[t] = k as u32;
+        }
+    }
+    Ok(numbers)
+}

@@ -1,0 +1,150 @@
+// Parts of what a round leaves: some rows one after another.
+ghost use Rattle.std.specs.Prelude.{◌≡◌, ◌<◌, ◌≤◌, ◌+◌, ◌-◌, ℕ, length, IfOk, OnOk};
+ghost use Rattle.std.specs.Option.{MatchOption};
+ghost use Rattle.sparse_rows.specs.declared.rows.TheConstants.{LARGEST_SIZE};
+ghost use Rattle.triangular_solve.specs.Reduced.{workspace_of};
+ghost use Rattle.schur_rows.specs.Parts.{AddsLeft, AddsRow, AddsZeros, AreZeroRows, MayTakeRow, IsNextBelow, IsPartTo, itself};
+ghost use Rattle.schur_rows.specs.PivotNumbers.{HasNumbers};
+
+use crate::pivot_numbers::PivotNumbers;
+use crate::round::SchurRows;
+use sparse_rows::{Rows, Sparse};
+use std::alloc::{AllocError, Global};
+use triangular_solve::{Triangle, Work};
+
+// No row, with room for about as many entries as so many rows of the matrix have.
+pub(crate) fn no_rows(
+    alloc: Global,
+    triangle: &Triangle,
+    kept: bool,
+    height: u32,
+) -> Result<SchurRows, AllocError>
+    requires { height ≤ LARGEST_SIZE }
+    ensures { IfOk result (λ part. (from : ℕ) → IsPartTo triangle.now kept from from part) }
+{
+    let rows = triangle.rows();
+    // The call's contract tells how high a matrix is; a triangle has no more pivots.
+    let _ = rows.height();
+    let pivots = triangle.pairs().len() as u32;
+    let entries = entries_in(rows, height);
+    let coefficients = if kept { entries } else { 0 };
+    Ok(SchurRows {
+        rows: Rows::with_room(alloc, rows.modulus(), rows.width(), height, entries)?,
+        coefficients: Rows::with_room(alloc, rows.modulus(), pivots, height, coefficients)?,
+    })
+}
+
+// How many entries so many rows of a matrix have on average.
+fn entries_in(rows: &Rows, height: u32) -> usize {
+    let mean = rows.entries() / u64::from(rows.height()).max(1);
+    (mean as usize).saturating_mul(height as usize)
+}
+
+// What is left of the rows from `from` up to `to`; the coefficients are zeros where they aren't kept.
+pub(crate) fn part_of(
+    alloc: Global,
+    triangle: &Triangle,
+    pivot_rows: &PivotNumbers,
+    kept: bool,
+    from: u32,
+    to: u32,
+    work: &mut Work,
+) -> Result<SchurRows, AllocError>
+    requires work { work.old ≡ workspace_of triangle.now }
+    requires order { from ≤ to }
+    requires inside { to ≤ triangle.now.rows.matrix.height }
+    requires numbers { HasNumbers triangle.now.pairs pivot_rows.now }
+    ensures work { work.new ≡ work.old }
+    ensures part { IfOk result (IsPartTo triangle.now kept from to) }
+{
+    let rows = triangle.rows();
+    // The calls' contracts tell how high a matrix of residues is, and that the pivots are triangular.
+    let _ = (rows.modulus(), rows.height(), triangle.pairs().len());
+    let mut part = no_rows(alloc, triangle, kept, to - from)?;
+    let mut next = from;
+    while let Some(i) = next_below(rows, next, to) {
+        append_zeros(&mut part, i - next)?;
+        append_left(alloc, triangle, pivot_rows, kept, i, work, &mut part)?;
+        next = i + 1;
+    }
+    append_zeros(&mut part, to - next)?;
+    Ok(part)
+}
+
+// The first row from `from` on and below `to` that has an entry, if there is one.
+fn next_below(rows: &Rows, from: u32, to: u32) -> Option<u32>
+    requires { to ≤ rows.now.matrix.height }
+    ensures { MatchOption result (AreZeroRows rows.now.matrix from to) (IsNextBelow rows.now.matrix from to) }
+{
+    match rows.next_filled(from) {
+        Some(i) if i < to => Some(i),
+        _ => None,
+    }
+}
+
+// Appends rows of zeros to both matrices.
+fn append_zeros(part: &mut SchurRows, count: u32) -> Result<(), AllocError>
+    requires rows { part.old.rows.matrix.height + count ≤ LARGEST_SIZE }
+    requires coefficients { part.old.coefficients.matrix.height + count ≤ LARGEST_SIZE }
+    ensures { OnOk result (AddsZeros count part.old part.new) }
+{
+    part.rows.append_zeros(count)?;
+    part.coefficients.append_zeros(count)?;
+    Ok(())
+}
+
+// Appends what is left of row i.
+fn append_left(
+    alloc: Global,
+    triangle: &Triangle,
+    pivot_rows: &PivotNumbers,
+    kept: bool,
+    i: u32,
+    work: &mut Work,
+    part: &mut SchurRows,
+) -> Result<(), AllocError>
+    requires row { i < triangle.now.rows.matrix.height }
+    requires numbers { HasNumbers triangle.now.pairs pivot_rows.now }
+    requires work { work.old ≡ workspace_of triangle.now }
+    requires part { MayTakeRow triangle.now part.old }
+    ensures work { work.new ≡ work.old }
+    ensures added { OnOk result (AddsLeft triangle.now kept i part.old part.new) }
+{
+    let rows = triangle.rows();
+    // The call's contract tells that the entries are residues.
+    let _ = rows.modulus();
+    let cols = rows.cols(i);
+    let vals = rows.vals(i);
+    if let Some(k) = pivot_rows.find(i, triangle.pairs()) {
+        append_pivot(alloc, k, part)?;
+        return Ok(());
+    }
+    if kept {
+        let reduced = triangle.reduce(alloc, cols, vals, work)?;
+        part.rows.append(&reduced.rest)?;
+        part.coefficients.append(&reduced.coefficients)?;
+        return Ok(());
+    }
+    part.rows.append(&triangle.rest(alloc, cols, vals, work)?)?;
+    part.coefficients.append_zeros(1)?;
+    Ok(())
+}
+
+// Appends the k-th pivot's row: nothing is left of it, and its coefficient is 1.
+fn append_pivot(alloc: Global, k: u32, part: &mut SchurRows) -> Result<(), AllocError>
+    requires pivot { k < part.old.coefficients.matrix.width }
+    requires rows { part.old.rows.matrix.height < LARGEST_SIZE }
+    requires coefficients { part.old.coefficients.matrix.height < LARGEST_SIZE }
+    requires sound { 2 ≤ part.old.coefficients.modulus }
+    ensures { OnOk result (AddsRow (itself part.old k) part.old part.new) }
+{
+    let mut itself = Sparse::new(
+        alloc,
+        part.coefficients.width(),
+        part.coefficients.modulus(),
+    );
+    itself.push(k, 1)?;
+    part.rows.append_zeros(1)?;
+    part.coefficients.append(&itself)?;
+    Ok(())
+}
