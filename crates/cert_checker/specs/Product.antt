@@ -30,7 +30,8 @@ IsZeroAt sums cols = (q : ℕ) → q < length cols → slice_index sums (slice_i
 
 -- the sums are 0 wherever one of these rows of B isn't
 abbrev pub IsZeroAlong : List ℕ → List ℕ → Matrix → Type 0
-IsZeroAlong sums rows B = (k : ℕ) → k < length rows → (j : ℕ) → entry B (slice_index rows k) j ≢ 0 → slice_index sums j ≡ 0
+IsZeroAlong sums rows B = (k : ℕ) → k < length rows → (j : ℕ) → entry B (slice_index rows k) j ≢ 0 →
+    slice_index sums j ≡ 0
 
 -- each of the numbers is in the list
 abbrev pub AreAllIn : List ℕ → List ℕ → Type 0

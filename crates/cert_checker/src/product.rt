@@ -109,7 +109,8 @@ fn take_off(p: &Modulus, sums: &mut [u64], cols: &[u32], vals: &[u64])
     requires residues { IsVector p.now (length sums.old) sums.old }
     ensures residues { IsVector p.now (length sums.old) sums.new }
     ensures sums { (j : ℕ) → j < length sums.old →
-        slice_index sums.new j ≡ (slice_index sums.old j + (p.now - 1) * entry_at cols.now vals.now j) % p.now }
+        slice_index sums.new j ≡ (slice_index sums.old j
+        + (p.now - 1) * entry_at cols.now vals.now j) % p.now }
 {
     for k in 0..cols.len() {
         let j = cols[k] as usize;
@@ -140,7 +141,8 @@ fn add_rows(p: &Modulus, sums: &mut [u64], cols: &[u32], vals: &[u64], b: &Rows)
     requires modulus { b.now.modulus ≡ p.now }
     ensures residues { IsVector p.now b.now.matrix.width sums.new }
     ensures sums { (j : ℕ) → j < b.now.matrix.width →
-        slice_index sums.new j ≡ (slice_index sums.old j + combined_at (entry_at cols.now vals.now) b.now.matrix j) % p.now }
+        slice_index sums.new j ≡ (slice_index sums.old j
+        + combined_at (entry_at cols.now vals.now) b.now.matrix j) % p.now }
 {
     // The proof wants that B is a matrix of residues, and that p is not 0.
     let _ = (p.p(), b.height());

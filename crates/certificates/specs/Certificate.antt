@@ -14,7 +14,13 @@ claim_of _ _ = plain.Claim.Rank
 
 -- the plain certificate
 abbrev pub certificate_of : Certificate → plain.Certificate
-certificate_of c = record { modulus = c.p; pivots = c.pivots; left = c.l.matrix; right = c.u.matrix; claim = claim_of c.kind c.extra }
+certificate_of c = record {
+  modulus = c.p;
+  pivots = c.pivots;
+  left = c.l.matrix;
+  right = c.u.matrix;
+  claim = claim_of c.kind c.extra;
+}
 
 -- there is a matrix besides the factors, of residues modulo p, exactly for the kinds that claim one
 abbrev pub HasExtra : ℕ → CertKind → Option ResidueMatrix → Type 0

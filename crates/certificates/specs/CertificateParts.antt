@@ -48,7 +48,8 @@ abbrev pub extra_values : Option ResidueMatrix → List Matrix
 extra_values None = []
 extra_values (Some E) = E.matrix ∷ []
 
-pub record SaysExtra (p : ℕ) (kind : CertKind) (extra : Option ResidueMatrix) (items : List Item) (due : List Due)
+pub record SaysExtra (p : ℕ) (kind : CertKind) (extra : Option ResidueMatrix) (items : List Item)
+    (due : List Due)
     : Type 0 where
   pub whole : due ≡ []
   pub has : HasLines p items [] (extra_values extra)

@@ -46,7 +46,8 @@ certificate_said (title ∷ pivots) (L ∷ U ∷ extra) = Some (record {
 certificate_said _ _ = None
 
 -- these items, whichever follow, have these lines of words and these matrices
-pub record HasLines (p : ℕ) (items : List Item) (lines : List (List (List ℕ))) (values : List Matrix) : Type 0 where
+pub record HasLines (p : ℕ) (items : List Item) (lines : List (List (List ℕ)))
+    (values : List Matrix) : Type 0 where
   pub words : (more : List Item) → outer_lines (items ++ more) ≡ lines ++ outer_lines more
   pub matrices : (more : List Item) → matrices p (items ++ more) ≡ values ++ matrices p more
 

@@ -43,7 +43,8 @@ pub record IsModulo (p : ℕ) (c : plain.Certificate) : Type 0 where
 abbrev pub WrittenCertificateReadsBack : Type 0
 WrittenCertificateReadsBack = (p : ℕ) (c : plain.Certificate) → p < 2 ^ 64 → IsModulo p c → HasText c →
     (certificate_said (outer_lines (certificate_items c)) (matrices p (certificate_items c)) ≡ Some c)
-    × ((ended : Bool) (room number : ℕ) (dues : List Due) (rest : List ℕ) → length (certificate_text c) ≤ room →
+    × ((ended : Bool) (room number : ℕ) (dues : List Due) (rest : List ℕ) →
+    length (certificate_text c) ≤ room →
     read p ended room number (Outer form.Certificate ∷ dues) (lines (certificate_text c ++ rest))
     ≡ with_items (certificate_items c) (read p ended (room - length (certificate_text c))
     (number + length (certificate_items c)) dues (lines rest)))

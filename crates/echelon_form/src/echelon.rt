@@ -27,7 +27,11 @@ impl Model for Echelon {
 
     ghost view = { λ e. record { modulus = e.rows.modulus; matrix = e.rows.matrix; leads = e.leads.items } };
 
-    ghost invariant = { λ e. IsEchelon (record { modulus = e.rows.modulus; matrix = e.rows.matrix; leads = e.leads.items }) };
+    ghost invariant = { λ e. IsEchelon (record {
+      modulus = e.rows.modulus;
+      matrix = e.rows.matrix;
+      leads = e.leads.items;
+    }) };
 }
 
 impl Echelon {

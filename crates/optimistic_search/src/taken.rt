@@ -47,7 +47,8 @@ fn try_once<G: Gate, L: Ledger>(
     ensures closed { IfSome result (λ _. walk.new.current ≡ None) }
     ensures free { IfSome result (λ _. steps.new ≡ steps.old) }
     ensures seen { IfNone result ((q : Pair) × (seat.new.chair ≡ seeing seat.old.chair q)) }
-    ensures short { IfNone result (length seat.new.chair.seen ≤ min board.now.rows.matrix.height board.now.rows.matrix.width) }
+    ensures short { IfNone result
+        (length seat.new.chair.seen ≤ min board.now.rows.matrix.height board.now.rows.matrix.width) }
     ensures current { IfNone result (walk.new.current ≡ Some row) }
     ensures rise { IfNone result (TakesTheRise walk.old walk.new steps.old steps.new) }
 {

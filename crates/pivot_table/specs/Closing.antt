@@ -45,7 +45,8 @@ AreNoted places b = (x : Noted) → Contains places x → start_at b x.place ≡
 
 -- what words say: the cells before c say the history, the words from c on the rows
 pub record CellsSay (words : List ℕ) (c : ℕ) (h : List Pair) : Type 0 where
-  pub full : (k : ℕ) (q : Pair) → get_elem? h k ≡ some q → (slice_index words k ≡ pair_word q) × (q.col < 4294967296)
+  pub full : (k : ℕ) (q : Pair) → get_elem? h k ≡ some q →
+      (slice_index words k ≡ pair_word q) × (q.col < 4294967296)
   pub empty : (k : ℕ) → length h ≤ k → k < c → slice_index words k ≡ 0
   pub short : length h ≤ c
 

@@ -7,7 +7,11 @@ use Rattle.pivot_table.specs.Order.{IsOrder, Triangular}
 use Rattle.pivot_table.specs.Greedy.{IsGreedy}
 
 abbrev pub pivot_example : Matrix
-pivot_example = record { height = 3; width = 3; rows = (1 ∷ 0 ∷ 0 ∷ []) ∷ (1 ∷ 1 ∷ 1 ∷ []) ∷ (1 ∷ 1 ∷ 2 ∷ []) ∷ [] }
+pivot_example = record {
+  height = 3;
+  width = 3;
+  rows = (1 ∷ 0 ∷ 0 ∷ []) ∷ (1 ∷ 1 ∷ 1 ∷ []) ∷ (1 ∷ 1 ∷ 2 ∷ []) ∷ [];
+}
 
 -- a history of it, in which row 1 was taken before row 2, and one in which row 2 was taken before row 1
 abbrev pub first_history : List Pair

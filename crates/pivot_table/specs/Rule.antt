@@ -71,7 +71,8 @@ row_of_step st m = st.word - rows_at m.0.matrix
 
 abbrev pub claimed : Step (Unit {0}) → TableSeat → ℕ → TableSeat → Type 0
 claimed st m n m' =
-    (n ≡ 0 → (m' ≡ with_chair m (claiming m.0.chair (row_of_step st m))) × (¬ HasRow m.0.chair.seen (row_of_step st m)))
+    (n ≡ 0 → (m' ≡ with_chair m (claiming m.0.chair (row_of_step st m)))
+    × (¬ HasRow m.0.chair.seen (row_of_step st m)))
     × (n ≢ 0 → m' ≡ with_chair m (meeting m.0.chair (row_of_step st m)))
 
 abbrev pub finished : Step (Unit {0}) → TableSeat → ℕ → TableSeat → Type 0
@@ -82,7 +83,8 @@ abbrev pub published : Step (Unit {0}) → TableSeat → ℕ → TableSeat → T
 published st m n m' = (length m'.0.chair.seen < rows_at m.0.matrix)
     × (n ≡ 0 → m' ≡ with_chair m (publishing m.0.chair (pair_of st.second)))
     × (n ≢ 0 → (m' ≡ with_chair m (seeing m.0.chair (pair_of n))) × (4294967296 ≤ n)
-    × Alive m.0.matrix m.0.chair.seen (pair_of n).row (pair_of n).col × (m.0.chair.hand ≢ Some (pair_of n).row))
+    × Alive m.0.matrix m.0.chair.seen (pair_of n).row (pair_of n).col
+    × (m.0.chair.hand ≢ Some (pair_of n).row))
 
 -- the second of two views is spent
 abbrev pub spent_view : View

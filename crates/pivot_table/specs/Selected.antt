@@ -10,7 +10,8 @@ use Rattle.pivot_table.specs.Order.{IsTriangularOrder, Triangular}
 
 -- the triangular order of the greedy list that begins with the leftmost pairs
 abbrev pub IsGreedySelection : Matrix → List Pair → Type 0
-IsGreedySelection A qs = (first : List Pair) × (all : List Pair) × IsLeftmost A first × IsGreedy A first all × IsTriangularOrder A all qs
+IsGreedySelection A qs = (first : List Pair) × (all : List Pair) × IsLeftmost A first × IsGreedy A first all
+    × IsTriangularOrder A all qs
 
 -- the pairs are triangular, none can be added, and each leftmost pair is among them; those of one worker are the greedy selection
 pub record Selected (A : Matrix) (workers : ℕ) (qs : List Pair) : Type 0 where

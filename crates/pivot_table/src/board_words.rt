@@ -106,7 +106,8 @@ pub(crate) fn read_starts(
     requires from { from ≤ length pairs.now }
     requires words { IsFull closed.now.words }
     requires inside { (q : Pair) → Contains pairs.now q → first + q.row < slots_len closed.now.words }
-    ensures read { SayStarts (slots_items closed.now.words) (slots_len closed.now.words) first (drop from pairs.now) starts.new.items }
+    ensures read { SayStarts (slots_items closed.now.words) (slots_len closed.now.words) first
+        (drop from pairs.now) starts.new.items }
 {
     for k in from..pairs.len() {
         let word = closed.word(first + pairs[k].row as usize);

@@ -108,9 +108,11 @@ fn comes_to(counter: &AtomicU64, n: u64) -> bool {
 fn by_turns(board: &Board<'_>, first: &mut Seat, second: &mut Seat) -> bool
     requires matrix { board.now.rows.matrix ≡ pivot_example }
     requires first { IsSeatOf board.now first.old × (first.old.chair ≡ opened (pair 0 0 ∷ [])) }
-    requires second { IsSeatOf board.now second.old × (second.old.chair ≡ splitting (opened (pair 0 0 ∷ []))) }
+    requires second { IsSeatOf board.now second.old
+        × (second.old.chair ≡ splitting (opened (pair 0 0 ∷ []))) }
     ensures first { IsSeatOf board.now first.new × (IsTrue result → MayFinish pivot_example first.new.chair) }
-    ensures second { IsSeatOf board.now second.new × (IsTrue result → MayFinish pivot_example second.new.chair) }
+    ensures second { IsSeatOf board.now second.new
+        × (IsTrue result → MayFinish pivot_example second.new.chair) }
 {
     if !claim_first(board, first) {
         return false;
@@ -166,9 +168,11 @@ fn in_threads<R: Threads + Sync>(
 ) -> bool
     requires matrix { board.now.rows.matrix ≡ pivot_example }
     requires first { IsSeatOf board.now first.old × (first.old.chair ≡ opened (pair 0 0 ∷ [])) }
-    requires second { IsSeatOf board.now second.old × (second.old.chair ≡ splitting (opened (pair 0 0 ∷ []))) }
+    requires second { IsSeatOf board.now second.old
+        × (second.old.chair ≡ splitting (opened (pair 0 0 ∷ []))) }
     ensures first { IsSeatOf board.now first.new × (IsTrue result → MayFinish pivot_example first.new.chair) }
-    ensures second { IsSeatOf board.now second.new × (IsTrue result → MayFinish pivot_example second.new.chair) }
+    ensures second { IsSeatOf board.now second.new
+        × (IsTrue result → MayFinish pivot_example second.new.chair) }
 {
     let turn = AtomicU64::new(0);
     let (late, early) = join_mut(
@@ -202,9 +206,11 @@ fn both_go<R: Threads + Sync>(
 ) -> bool
     requires matrix { board.now.rows.matrix ≡ pivot_example }
     requires first { IsSeatOf board.now first.old × (first.old.chair ≡ opened (pair 0 0 ∷ [])) }
-    requires second { IsSeatOf board.now second.old × (second.old.chair ≡ splitting (opened (pair 0 0 ∷ []))) }
+    requires second { IsSeatOf board.now second.old
+        × (second.old.chair ≡ splitting (opened (pair 0 0 ∷ []))) }
     ensures first { IsSeatOf board.now first.new × (IsTrue result → MayFinish pivot_example first.new.chair) }
-    ensures second { IsSeatOf board.now second.new × (IsTrue result → MayFinish pivot_example second.new.chair) }
+    ensures second { IsSeatOf board.now second.new
+        × (IsTrue result → MayFinish pivot_example second.new.chair) }
 {
     if threads {
         return in_threads(rt, board, first, second);

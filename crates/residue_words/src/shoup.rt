@@ -30,9 +30,14 @@ impl Model for Shoup {
 
     ghost view = { λ s. record { factor = s.factor; modulus = s.p } };
 
-    ghost invariant = { λ s. (s.factor < s.p) × (s.p < LANE_BOUND) × (s.quotient ≡ s.factor * 4294967296 / s.p) };
+    ghost invariant = { λ s. (s.factor < s.p) × (s.p < LANE_BOUND)
+        × (s.quotient ≡ s.factor * 4294967296 / s.p) };
 
-    ghost inverse = { λ v. record { factor = v.factor; quotient = v.factor * 4294967296 / v.modulus; p = v.modulus } };
+    ghost inverse = { λ v. record {
+      factor = v.factor;
+      quotient = v.factor * 4294967296 / v.modulus;
+      p = v.modulus;
+    } };
 
     ghost inverse_ok = { λ s h. Prim.rw (← h.2) };
 }

@@ -13,7 +13,8 @@ pub record HasPlaces (Past : ℕ → ℕ → Type 0) (r n : ℕ) (e : ℕ → �
 
 -- the first nonzero entries of the rows of E are ones and stand at these rising columns, the leads, where every other row is 0
 abbrev pub HasLeads : Matrix → List ℕ → Type 0
-HasLeads E leads = (length leads ≡ E.height) × HasPlaces (λ j lead. j < lead) E.height E.width (entry E) (slice_index leads)
+HasLeads E leads = (length leads ≡ E.height) × HasPlaces (λ j lead. j < lead) E.height E.width (entry E)
+    (slice_index leads)
 
 -- A and E have the same row space
 abbrev pub SameSpan : ℕ → Matrix → Matrix → Type 0

@@ -27,13 +27,27 @@ abbrev pub example_left : Matrix
 example_left = record { height = 3; width = 2; rows = (2 ∷ 1 ∷ []) ∷ (1 ∷ 0 ∷ []) ∷ (3 ∷ 1 ∷ []) ∷ [] }
 
 abbrev pub example_certificate : Claim → Certificate
-example_certificate claim = record { modulus = 7; pivots = example_pivots; left = example_left; right = example_rref; claim = claim }
+example_certificate claim = record {
+  modulus = 7;
+  pivots = example_pivots;
+  left = example_left;
+  right = example_rref;
+  claim = claim;
+}
 
 abbrev pub example_square : Matrix
-example_square = record { height = 3; width = 3; rows = (1 ∷ 0 ∷ 0 ∷ []) ∷ (1 ∷ 1 ∷ 1 ∷ []) ∷ (1 ∷ 1 ∷ 2 ∷ []) ∷ [] }
+example_square = record {
+  height = 3;
+  width = 3;
+  rows = (1 ∷ 0 ∷ 0 ∷ []) ∷ (1 ∷ 1 ∷ 1 ∷ []) ∷ (1 ∷ 1 ∷ 2 ∷ []) ∷ [];
+}
 
 abbrev pub example_inverse : Matrix
-example_inverse = record { height = 3; width = 3; rows = (1 ∷ 0 ∷ 0 ∷ []) ∷ (6 ∷ 2 ∷ 6 ∷ []) ∷ (0 ∷ 6 ∷ 1 ∷ []) ∷ [] }
+example_inverse = record {
+  height = 3;
+  width = 3;
+  rows = (1 ∷ 0 ∷ 0 ∷ []) ∷ (6 ∷ 2 ∷ 6 ∷ []) ∷ (0 ∷ 6 ∷ 1 ∷ []) ∷ [];
+}
 
 -- what holds of them
 pub record IsWorked : Type 0 where

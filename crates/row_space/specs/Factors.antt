@@ -39,7 +39,9 @@ pub record ShowsRref (p : ℕ) (U E : Matrix) : Type 0 where
   pub matrix : IsMatrix p E
   pub height : E.height ≡ U.height
   pub width : E.width ≡ U.width
-  pub form : (leads : List ℕ) × HasLeads E leads × ((k : ℕ) → k < U.height → row U k ≡ combine p (list_of E.height (λ t. entry U k (slice_index leads t))) E)
+  pub form : (leads : List ℕ) × HasLeads E leads
+      × ((k : ℕ) → k < U.height → row U k ≡ combine p
+      (list_of E.height (λ t. entry U k (slice_index leads t))) E)
 
 -- K has the reduced form, as many rows as A's width exceeds r, and each of them is a null vector of A
 pub record ShowsKernel (p : ℕ) (A : Matrix) (r : ℕ) (K : Matrix) : Type 0 where

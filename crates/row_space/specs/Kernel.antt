@@ -13,7 +13,8 @@ HasNull p A = (v : List ℕ) × IsNull p A v × (v ≢ zeros A.width)
 
 -- the last nonzero entries of the rows of K are ones and stand at these rising columns, where every other row is 0
 abbrev pub HasEnds : Matrix → List ℕ → Type 0
-HasEnds K ends = (length ends ≡ K.height) × HasPlaces (λ j end. end < j) K.height K.width (entry K) (slice_index ends)
+HasEnds K ends = (length ends ≡ K.height) × HasPlaces (λ j end. end < j) K.height K.width (entry K)
+    (slice_index ends)
 
 -- K is the kernel basis of A: its rows are null vectors, each null vector is a combination of them, and they are reduced
 pub record IsKernel (p : ℕ) (A K : Matrix) : Type 0 where

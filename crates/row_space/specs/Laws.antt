@@ -22,10 +22,12 @@ KernelIsUnique = (p : ℕ) (A K L : Matrix) → 2 ≤ p → IsKernel p A K → I
 
 -- a system has at most one reduced solution, and at most one refuting combination
 abbrev pub SolutionIsUnique : Type 0
-SolutionIsUnique = (p : ℕ) (A : Matrix) (b x y : List ℕ) → 2 ≤ p → IsReducedSolution p A b x → IsReducedSolution p A b y → x ≡ y
+SolutionIsUnique = (p : ℕ) (A : Matrix) (b x y : List ℕ) → 2 ≤ p → IsReducedSolution p A b x →
+    IsReducedSolution p A b y → x ≡ y
 
 abbrev pub RefutationIsUnique : Type 0
-RefutationIsUnique = (p : ℕ) (A : Matrix) (b y z : List ℕ) → 2 ≤ p → IsRefutingCombination p A b y → IsRefutingCombination p A b z → y ≡ z
+RefutationIsUnique = (p : ℕ) (A : Matrix) (b y z : List ℕ) → 2 ≤ p → IsRefutingCombination p A b y →
+    IsRefutingCombination p A b z → y ≡ z
 
 -- two independent lists of rows with one span have equal length
 abbrev pub SpanFixesHeight : Type 0
@@ -56,7 +58,8 @@ FactorsGiveKernel = (p : ℕ) (A : Matrix) (pivots : List Pair) (L U K : Matrix)
 
 -- what a valid certificate says is true
 abbrev pub CertificateIsTrue : Type 0
-CertificateIsTrue = (p : ℕ) (A : Matrix) (c : Certificate) → IsPrime p → IsMatrix p A → IsValid p A c → TellsOf p A c
+CertificateIsTrue = (p : ℕ) (A : Matrix) (c : Certificate) → IsPrime p → IsMatrix p A → IsValid p A c →
+    TellsOf p A c
 
 -- null vectors in the reduced form, as many as the width exceeds the rank, are the kernel basis
 abbrev pub RankGivesKernel : Type 0
@@ -72,30 +75,38 @@ RankGivesRref = (p : ℕ) (A : Matrix) (r : ℕ) (E : Matrix) (leads : List ℕ)
 -- the echelon form of [A | b]: a lead in its last column says that A x = b has no solution; else x, the last column's entries at the leads
 -- and 0 elsewhere, is the reduced solution
 abbrev pub LastLeadRefutes : Type 0
-LastLeadRefutes = (p : ℕ) (A : Matrix) (b : List ℕ) (E : Matrix) (leads : List ℕ) (k : ℕ) → 2 ≤ p → IsMatrix p A → IsVector p A.height b →
-    IsRref p (augmented A b) E → HasLeads E leads → k < E.height → slice_index leads k ≡ A.width → (x : List ℕ) → ¬ IsSolution p A b x
+LastLeadRefutes = (p : ℕ) (A : Matrix) (b : List ℕ) (E : Matrix) (leads : List ℕ) (k : ℕ) → 2 ≤ p →
+    IsMatrix p A → IsVector p A.height b →
+    IsRref p (augmented A b) E → HasLeads E leads → k < E.height → slice_index leads k ≡ A.width →
+    (x : List ℕ) → ¬ IsSolution p A b x
 
 abbrev pub RrefSolves : Type 0
-RrefSolves = (p : ℕ) (A : Matrix) (b : List ℕ) (E : Matrix) (leads : List ℕ) (x : List ℕ) → 2 ≤ p → IsMatrix p A → IsVector p A.height b →
+RrefSolves = (p : ℕ) (A : Matrix) (b : List ℕ) (E : Matrix) (leads : List ℕ) (x : List ℕ) → 2 ≤ p →
+    IsMatrix p A → IsVector p A.height b →
     IsRref p (augmented A b) E → HasLeads E leads → ((k : ℕ) → k < E.height → slice_index leads k < A.width) →
-    IsVector p A.width x → ((k : ℕ) → k < E.height → slice_index x (slice_index leads k) ≡ entry E k A.width) →
+    IsVector p A.width x → ((k : ℕ) → k < E.height →
+    slice_index x (slice_index leads k) ≡ entry E k A.width) →
     ((j : ℕ) → j < A.width → slice_index x j ≡ 0 ⊎ ((k : ℕ) × (k < E.height) × (slice_index leads k ≡ j))) →
     IsReducedSolution p A b x
 
 -- the refuting system is a system for y whose solutions are the y with y A = 0 and y . b = 1, and its reduced solution is the refuting combination
 pub record RefutingSystemIs (p : ℕ) (A : Matrix) (b y : List ℕ) : Type 0 where
   pub solution : IsSolution p (refuting_rows A b) (refuting_side A.width) y ↔ Annuls p A b 1 y
-  pub reduced : IsReducedSolution p (refuting_rows A b) (refuting_side A.width) y ↔ IsRefutingCombination p A b y
+  pub reduced : IsReducedSolution p (refuting_rows A b) (refuting_side A.width) y
+      ↔ IsRefutingCombination p A b y
 
 abbrev pub RefutingSystem : Type 0
-RefutingSystem = (p : ℕ) (A : Matrix) (b y : List ℕ) → 2 ≤ p → IsMatrix p A → IsVector p A.height b → RefutingSystemIs p A b y
+RefutingSystem = (p : ℕ) (A : Matrix) (b y : List ℕ) → 2 ≤ p → IsMatrix p A → IsVector p A.height b →
+    RefutingSystemIs p A b y
 
 -- a square matrix has at most one inverse, and where it has one only the zero vector is null
 abbrev pub InverseIsUnique : Type 0
-InverseIsUnique = (p : ℕ) (A B C : Matrix) → 2 ≤ p → A.height ≡ A.width → IsInverse p A B → IsInverse p A C → B ≡ C
+InverseIsUnique = (p : ℕ) (A B C : Matrix) → 2 ≤ p → A.height ≡ A.width → IsInverse p A B → IsInverse p A C →
+    B ≡ C
 
 abbrev pub InverseExcludesNull : Type 0
-InverseExcludesNull = (p : ℕ) (A B : Matrix) (v : List ℕ) → A.height ≡ A.width → IsInverse p A B → IsNull p A v → v ≡ zeros A.width
+InverseExcludesNull = (p : ℕ) (A B : Matrix) (v : List ℕ) → A.height ≡ A.width → IsInverse p A B →
+    IsNull p A v → v ≡ zeros A.width
 
 -- a square matrix has an inverse, or a null vector other than zero, and not both
 abbrev pub InverseOrNull : Type 0
@@ -104,5 +115,6 @@ InverseOrNull = (p : ℕ) (A : Matrix) → IsPrime p → IsMatrix p A → A.heig
 
 -- where A x = b has no solution, some y solves the refuting system
 abbrev pub RefutingIsSolvable : Type 0
-RefutingIsSolvable = (p : ℕ) (A : Matrix) (b : List ℕ) → IsPrime p → IsMatrix p A → IsVector p A.height b → ((x : List ℕ) → ¬ IsSolution p A b x) →
+RefutingIsSolvable = (p : ℕ) (A : Matrix) (b : List ℕ) → IsPrime p → IsMatrix p A → IsVector p A.height b →
+    ((x : List ℕ) → ¬ IsSolution p A b x) →
     (y : List ℕ) × IsSolution p (refuting_rows A b) (refuting_side A.width) y

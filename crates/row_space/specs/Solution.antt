@@ -36,7 +36,8 @@ abbrev pub refuting_rows : Matrix → List ℕ → Matrix
 refuting_rows A b = record {
   height = A.width + 1;
   width = A.height;
-  rows = map (λ j. list_of A.height (λ i. entry A i j)) (range_with_len 0 A.width) ++ list_of A.height (slice_index b) ∷ [];
+  rows = map (λ j. list_of A.height (λ i. entry A i j)) (range_with_len 0 A.width)
+      ++ list_of A.height (slice_index b) ∷ [];
 }
 
 -- the right-hand side of these equations for a matrix of this width: zeros, and a one at the end

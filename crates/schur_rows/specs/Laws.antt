@@ -14,7 +14,8 @@ use Rattle.schur_rows.specs.declared.round.SchurRows.{SchurRows}
 
 -- a matrix has at most one complement
 abbrev pub ComplementIsOne : Type 0
-ComplementIsOne = (p : ℕ) (A : Matrix) (qs : List Pair) (B D : Matrix) → IsPrime p → IsMatrix p A → Triangular A qs →
+ComplementIsOne = (p : ℕ) (A : Matrix) (qs : List Pair) (B D : Matrix) → IsPrime p → IsMatrix p A →
+    Triangular A qs →
     IsComplement p A qs B → IsComplement p A qs D → B ≡ D
 
 -- factors of what a round leaves, with the round's before them, are factors of the matrix
@@ -26,11 +27,13 @@ RoundJoins = (t : TriangleState) (s : SchurRows) (ps : List Pair) (L U : Matrix)
 
 -- independent rows with the complement's row space, below the pivot rows, are independent and have the matrix's row space
 abbrev pub RoundSpans : Type 0
-RoundSpans = (p : ℕ) (A : Matrix) (qs : List Pair) (B U : Matrix) → IsPrime p → IsMatrix p A → Triangular A qs →
+RoundSpans = (p : ℕ) (A : Matrix) (qs : List Pair) (B U : Matrix) → IsPrime p → IsMatrix p A →
+    Triangular A qs →
     IsComplement p A qs B → IsMatrix p U → U.width ≡ A.width → IsIndependent p U → SameSpan p B U →
     IsIndependent p (above (pivot_rows A qs) U) × SameSpan p A (above (pivot_rows A qs) U)
 
 -- the rank is the number of pivots and the complement's rank
 abbrev pub RoundRank : Type 0
-RoundRank = (p : ℕ) (A : Matrix) (qs : List Pair) (B : Matrix) (r : ℕ) → IsPrime p → IsMatrix p A → Triangular A qs →
+RoundRank = (p : ℕ) (A : Matrix) (qs : List Pair) (B : Matrix) (r : ℕ) → IsPrime p → IsMatrix p A →
+    Triangular A qs →
     IsComplement p A qs B → HasRank p B r → HasRank p A (length qs + r)

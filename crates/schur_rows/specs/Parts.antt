@@ -18,7 +18,8 @@ use Rattle.schur_rows.specs.declared.workers.Deal.{Deal}
 -- coefficients are kept, they split the row
 pub record IsRowOfRound (t : TriangleState) (kept : Bool) (i : ℕ) (r : Reduction) : Type 0 where
   pub nothing : IsPivotRow t.pairs i → r.rest ≡ zeros t.rows.matrix.width
-  pub itself : kept ≡ true → (k : ℕ) → k < length t.pairs → row_at t.pairs k ≡ i → r.coefficients ≡ unit (length t.pairs) k
+  pub itself : kept ≡ true → (k : ℕ) → k < length t.pairs → row_at t.pairs k ≡ i →
+      r.coefficients ≡ unit (length t.pairs) k
   pub left : IsPrime t.rows.modulus → ¬ IsPivotRow t.pairs i →
       IsSchurRow t.rows.modulus t.rows.matrix t.pairs (row t.rows.matrix i) r.rest
   pub split : kept ≡ true → IsPrime t.rows.modulus → ¬ IsPivotRow t.pairs i →
@@ -34,7 +35,10 @@ pub record IsPart (t : TriangleState) (kept : Bool) (from : ℕ) (s : SchurRows)
   pub coefficient_width : s.coefficients.matrix.width ≡ length t.pairs
   pub height : s.coefficients.matrix.height ≡ s.rows.matrix.height
   pub each : (x : ℕ) → x < s.rows.matrix.height →
-      IsRowOfRound t kept (from + x) (record { rest = row s.rows.matrix x; coefficients = row s.coefficients.matrix x })
+      IsRowOfRound t kept (from + x) (record {
+        rest = row s.rows.matrix x;
+        coefficients = row s.coefficients.matrix x;
+      })
 
 -- the rows from `from` up to `to`
 abbrev pub IsPartTo : TriangleState → Bool → ℕ → ℕ → SchurRows → Type 0
@@ -104,7 +108,8 @@ cut_at height deal j = min height (j * deal.size)
 
 -- part j
 abbrev pub IsPartOf : TriangleState → Deal → ℕ → SchurRows → Type 0
-IsPartOf t deal j s = IsPartTo t deal.kept (cut_at t.rows.matrix.height deal j) (cut_at t.rows.matrix.height deal (j + 1)) s
+IsPartOf t deal j s = IsPartTo t deal.kept (cut_at t.rows.matrix.height deal j)
+    (cut_at t.rows.matrix.height deal (j + 1)) s
 
 -- a worker makes the parts worker, worker + workers, worker + 2 workers and so on
 pub record HasParts (t : TriangleState) (deal : Deal) (worker : ℕ) (parts : List SchurRows) : Type 0 where

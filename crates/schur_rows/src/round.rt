@@ -53,7 +53,8 @@ pub fn complement<R: Threads + Sync>(
     requires some { 1 ≤ workers }
     requires few { workers ≤ 64 }
     ensures fits { IfOk result (FitsComplement triangle.now) }
-    ensures complement { IfOk result (λ rows. IsPrime triangle.now.rows.modulus → IsComplement triangle.now.rows.modulus
+    ensures complement { IfOk result (λ rows. IsPrime triangle.now.rows.modulus →
+        IsComplement triangle.now.rows.modulus
         triangle.now.rows.matrix triangle.now.pairs rows.matrix) }
 {
     // The calls' contracts tell that the pivots are triangular, and the entries residues.

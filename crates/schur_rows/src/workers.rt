@@ -146,7 +146,8 @@ fn join(alloc: Global, made: &mut SchurRows, part: &SchurRows) -> Result<(), All
     requires coefficient_modulus { made.old.coefficients.modulus ≡ part.now.coefficients.modulus }
     requires coefficient_width { made.old.coefficients.matrix.width ≡ part.now.coefficients.matrix.width }
     requires height { made.old.rows.matrix.height + part.now.rows.matrix.height ≤ LARGEST_SIZE }
-    requires heights { made.old.coefficients.matrix.height + part.now.coefficients.matrix.height ≤ LARGEST_SIZE }
+    requires heights { made.old.coefficients.matrix.height
+        + part.now.coefficients.matrix.height ≤ LARGEST_SIZE }
     ensures { OnOk result (Joins part.now made.old made.new) }
 {
     append_all(alloc, &mut made.rows, &part.rows)?;

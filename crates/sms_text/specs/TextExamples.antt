@@ -37,7 +37,8 @@ pub record AreWorkedTexts : Type 0 where
   pub large_rank :
       FirstFault example_check (behind_five (codes "certificate rank 7 2147483647\n")) true 5 kind.NoEnd
   pub zero_row :
-      FirstFault example_check (behind_five (codes "certificate rank 7 2\n1 1\n0 1\n")) false 6 kind.Certificate
+      FirstFault example_check (behind_five (codes "certificate rank 7 2\n1 1\n0 1\n"))
+      false 6 kind.Certificate
   pub no_factor : FirstFault example_check (behind_five (codes "certificate rank 7 0\n")) true 5 kind.NoHeader
   pub trace : Reads example_replay (behind_five (codes "trace 7 1\n1 1 0\n")) true
       (five_items ++ Words (codes "trace" ∷ codes "7" ∷ codes "1" ∷ [])

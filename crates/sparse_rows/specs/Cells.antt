@@ -45,11 +45,13 @@ pub record ArePushed (p m n : ℕ) (cells : List Cell) : Type 0 where
 
 -- the cells of row i stand from starts[i] up to starts[i + 1]
 abbrev pub AreGrouped : ℕ → List ℕ → List Cell → Type 0
-AreGrouped m starts cells = (i : ℕ) → i < m → All (λ c. row_of c ≡ i) (slice_range cells (slice_index starts i) (slice_index starts (i + 1)))
+AreGrouped m starts cells = (i : ℕ) → i < m →
+    All (λ c. row_of c ≡ i) (slice_range cells (slice_index starts i) (slice_index starts (i + 1)))
 
 -- cells by strictly ascending places, of positive values below p
 pub record AreEntries (p : ℕ) (cells : List Cell) : Type 0 where
-  pub ascending : (i k : ℕ) (d : Cell) → i < k → k < length cells → (slice_index_or cells i d).place < (slice_index_or cells k d).place
+  pub ascending : (i k : ℕ) (d : Cell) → i < k → k < length cells →
+      (slice_index_or cells i d).place < (slice_index_or cells k d).place
   pub positive : All (λ c. 0 < c.val) cells
   pub residues : All (λ c. c.val < p) cells
 
@@ -60,7 +62,8 @@ pub record AreSums (p : ℕ) (cells kept : List Cell) : Type 0 where
 
 -- the cells ascend by rows
 abbrev pub IsByRows : List Cell → Type 0
-IsByRows cells = (i k : ℕ) (d : Cell) → i ≤ k → k < length cells → row_of (slice_index_or cells i d) ≤ row_of (slice_index_or cells k d)
+IsByRows cells = (i k : ℕ) (d : Cell) → i ≤ k → k < length cells →
+    row_of (slice_index_or cells i d) ≤ row_of (slice_index_or cells k d)
 
 -- the first `at` cells lie in rows before row i, and the others don't
 pub record IsCut (cells : List Cell) (i at : ℕ) : Type 0 where

@@ -12,7 +12,11 @@ row_among A k (r ∷ rs) i = if r == i then row A k else row_among A (k + 1) rs 
 
 -- the matrix of m rows that has the rows of A at these rows, and zeros elsewhere
 abbrev pub expanded : ℕ → List ℕ → Matrix → Matrix
-expanded m rows A = record { height = m; width = A.width; rows = map (row_among A 0 rows) (range_with_len 0 m) }
+expanded m rows A = record {
+  height = m;
+  width = A.width;
+  rows = map (row_among A 0 rows) (range_with_len 0 m);
+}
 
 -- the rows of A stand at these rows of a matrix of m rows, and each has an entry
 pub record AreNamed (m : ℕ) (rows : List ℕ) (A : Matrix) : Type 0 where

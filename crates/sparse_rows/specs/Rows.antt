@@ -74,7 +74,8 @@ pub record AreEnough (A : Matrix) (columns : List ℕ) : Type 0 where
 -- the columns in which some row of A has an entry, ascending
 pub record AreOccupied (A : Matrix) (columns : List ℕ) : Type 0 where
   pub enough : AreEnough A columns
-  pub occupied : (k : ℕ) → k < length columns → (i : ℕ) × (i < A.height) × (entry A i (slice_index columns k) ≢ 0)
+  pub occupied : (k : ℕ) → k < length columns →
+      (i : ℕ) × (i < A.height) × (entry A i (slice_index columns k) ≢ 0)
 
 -- the matrix with these rows by a function of the place
 abbrev pub matrix_by : ℕ → ℕ → (ℕ → ℕ → ℕ) → Matrix
@@ -112,7 +113,8 @@ row_triples i (c ∷ cs) (v ∷ vs) = (i, c, v) ∷ row_triples i cs vs
 
 -- the nonzero entries of A, row by row, by ascending columns
 abbrev pub triples_of : Matrix → List (ℕ × ℕ × ℕ)
-triples_of A = flat_map (λ i. row_triples i (support (row A i)) (nonzeros (row A i))) (range_with_len 0 A.height)
+triples_of A = flat_map (λ i. row_triples i (support (row A i)) (nonzeros (row A i)))
+    (range_with_len 0 A.height)
 
 -- what a builder has got so far
 pub record Building : Type 0 where
@@ -126,7 +128,11 @@ transposed A = matrix_by A.width A.height (λ i j. entry A j i)
 
 -- [A | B]
 abbrev pub beside : Matrix → Matrix → Matrix
-beside A B = record { height = A.height; width = A.width + B.width; rows = map (λ i. row A i ++ row B i) (range_with_len 0 A.height) }
+beside A B = record {
+  height = A.height;
+  width = A.width + B.width;
+  rows = map (λ i. row A i ++ row B i) (range_with_len 0 A.height);
+}
 
 -- the rows of A that are named, in that order
 abbrev pub selected : Matrix → List ℕ → Matrix
@@ -137,7 +143,11 @@ identity n = matrix_by n n (λ i j. if i == j then 1 else 0)
 
 -- A with more rows of zeros, at its end
 abbrev pub with_zeros : Matrix → ℕ → Matrix
-with_zeros A count = record { height = A.height + count; width = A.width; rows = A.rows ++ replicate count (zeros A.width) }
+with_zeros A count = record {
+  height = A.height + count;
+  width = A.width;
+  rows = A.rows ++ replicate count (zeros A.width);
+}
 
 -- these columns of A alone
 abbrev pub narrowed : Matrix → List ℕ → Matrix
@@ -156,4 +166,5 @@ pub record AddsAt (j v : ℕ) (old new : ResidueRow) : Type 0 where
 pub record AddsMultiple (by : ℕ) (cols vals : List ℕ) (old new : ResidueRow) : Type 0 where
   pub modulus : new.modulus ≡ old.modulus
   pub vector : IsVector old.modulus (length old.row) new.row
-  pub sums : (j : ℕ) → j < length old.row → slice_index new.row j ≡ (slice_index old.row j + by * entry_at cols vals j) % old.modulus
+  pub sums : (j : ℕ) → j < length old.row → slice_index new.row j
+      ≡ (slice_index old.row j + by * entry_at cols vals j) % old.modulus

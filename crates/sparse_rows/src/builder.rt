@@ -32,7 +32,12 @@ impl Model for RowsBuilder {
 
     ghost Value = { Building };
 
-    ghost view = { λ b. record { modulus = b.modulus; height = b.height; width = b.width; pushed = map triple_of b.cells.items } };
+    ghost view = { λ b. record {
+      modulus = b.modulus;
+      height = b.height;
+      width = b.width;
+      pushed = map triple_of b.cells.items;
+    } };
 
     ghost invariant = { λ b. ArePushed b.modulus b.height b.width b.cells.items };
 }
@@ -59,7 +64,9 @@ impl RowsBuilder {
         requires row { i < self.old.height }
         requires column { j < self.old.width }
         requires residue { v < self.old.modulus }
-        ensures ok { OnOk result (self.new ≡ record self.old { pushed = self.old.pushed ++ record { i = i; j = j; v = v } ∷ [] }) }
+        ensures ok { OnOk result (self.new ≡ record self.old {
+          pushed = self.old.pushed ++ record { i = i; j = j; v = v } ∷ [];
+        }) }
         ensures err { OnErr result (self.new ≡ self.old) }
     {
         if self.cells.len() == self.cells.capacity() {
@@ -76,7 +83,8 @@ impl RowsBuilder {
     /// the height.
     pub fn finish(self) -> Result<Rows, AllocError>
         ensures modulus { IfOk result (λ rows. rows.modulus ≡ self.modulus) }
-        ensures matrix { IfOk result (λ rows. rows.matrix ≡ built self.modulus self.height self.width self.pushed) }
+        ensures matrix { IfOk result (λ rows. rows.matrix
+            ≡ built self.modulus self.height self.width self.pushed) }
     {
         let RowsBuilder {
             alloc,

@@ -20,7 +20,8 @@ pub(crate) fn part<'a, T>(items: &'a [T], starts: &[usize], i: usize) -> &'a [T]
 // Of each item the number of its part.
 pub(crate) fn part_numbers(alloc: Global, starts: &[usize]) -> Result<Vec<u32>, AllocError>
     requires few { length starts.now ≤ LARGEST_SIZE + 1 }
-    requires parts { AreStarts (length starts.now - 1) (slice_index starts.now (length starts.now - 1)) starts.now }
+    requires parts { AreStarts (length starts.now - 1)
+        (slice_index starts.now (length starts.now - 1)) starts.now }
     ensures { IfOk result (λ numbers. numbers.items ≡ part_numbers (length starts.now - 1) starts.now) }
 {
     let last = starts.len() - 1;

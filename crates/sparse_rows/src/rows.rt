@@ -527,7 +527,8 @@ impl Rows {
         ensures length { length to.new.row ≡ length to.old.row }
         ensures before { OnOk result (AgreeBelow by to.old.row to.new.row) }
         ensures inside { OnOk result (HasRowAt by self.now.matrix i to.new.row) }
-        ensures after { OnOk result (IsZeroBetween (by + self.now.matrix.width) (length to.old.row) to.new.row) }
+        ensures after { OnOk result (IsZeroBetween (by + self.now.matrix.width)
+            (length to.old.row) to.new.row) }
     {
         let cols = self.cols(i);
         let vals = self.vals(i);
@@ -541,7 +542,8 @@ impl Rows {
     fn row_times(&self, i: u32, x: &[u64]) -> u64
         requires row { i < self.now.matrix.height }
         requires column { IsVector self.now.modulus self.now.matrix.width x.now }
-        ensures { result ≡ sum_below self.now.matrix.width (λ j. entry self.now.matrix i j * slice_index x.now j) % self.now.modulus }
+        ensures { result ≡ sum_below self.now.matrix.width
+            (λ j. entry self.now.matrix i j * slice_index x.now j) % self.now.modulus }
     {
         let modulus = self.modulus();
         let cols = self.cols(i);

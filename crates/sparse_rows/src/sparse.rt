@@ -28,7 +28,8 @@ impl Model for Sparse {
 
     ghost view = { λ r. record { modulus = r.modulus; row = spread r.width r.cols.items r.vals.items } };
 
-    ghost invariant = { λ r. (IsSparse r.modulus r.width r.cols.items r.vals.items) × (2 ≤ r.modulus) × (r.modulus < MODULUS_BOUND) };
+    ghost invariant = { λ r. (IsSparse r.modulus r.width r.cols.items r.vals.items) × (2 ≤ r.modulus)
+        × (r.modulus < MODULUS_BOUND) };
 }
 
 impl Sparse {

@@ -34,7 +34,8 @@ pub(crate) fn sum_cells(cells: &mut [Cell], modulus: Modulus) -> usize
 fn keep_nonzero(cells: &mut [Cell], kept: usize, sum: Cell) -> usize
     requires room { 0 < sum.val → kept < length cells.old }
     ensures many { result ≡ (if sum.val == 0 then kept else kept + 1) }
-    ensures kept { take result cells.new ≡ (if sum.val == 0 then take kept cells.old else take kept cells.old ++ sum ∷ []) }
+    ensures kept { take result cells.new ≡ (if sum.val == 0 then take kept cells.old else take kept cells.old
+        ++ sum ∷ []) }
     ensures behind { (k : ℕ) → result ≤ k → drop k cells.new ≡ drop k cells.old }
 {
     if sum.val == 0 {

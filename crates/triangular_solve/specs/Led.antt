@@ -77,9 +77,12 @@ both p n s w = list_of n (λ j. (slice_index s j + slice_index w j) % p)
 -- w is what the kept rows leave of s together with w0: it keeps what w0 has at the leads and before s begins
 pub record Drains (rows : List Led) (s : ResidueRow) (w0 w : List ℕ) : Type 0 where
   pub vector : IsVector s.modulus (length s.row) w
-  pub at_leads : (k : ℕ) → k < length rows → slice_index w (slice_index (leads_of rows) k) ≡ slice_index w0 (slice_index (leads_of rows) k)
-  pub before : (c : ℕ) → ((j : ℕ) → j < c → slice_index s.row j ≡ 0) → (j : ℕ) → j < c → slice_index w j ≡ slice_index w0 j
-  pub differs : DiffersBy s.modulus (whole_matrix (length s.row) rows) (both s.modulus (length s.row) s.row w0) w
+  pub at_leads : (k : ℕ) → k < length rows → slice_index w (slice_index (leads_of rows) k)
+      ≡ slice_index w0 (slice_index (leads_of rows) k)
+  pub before : (c : ℕ) → ((j : ℕ) → j < c → slice_index s.row j ≡ 0) → (j : ℕ) → j < c →
+      slice_index w j ≡ slice_index w0 j
+  pub differs : DiffersBy s.modulus (whole_matrix (length s.row) rows)
+      (both s.modulus (length s.row) s.row w0) w
 
 -- the list holds what follows column c of a row w, divided by the entry there; and 0 up to c
 pub record IsTailOf (p : ℕ) (w : List ℕ) (c : ℕ) (tail : List ℕ) : Type 0 where

@@ -25,7 +25,8 @@ SomeIsReady A left = (q : Pair) × Contains left q × IsReady A left q
 pub record AreSortedPivots (A : Matrix) (pairs : List Pair) : Type 0 where
   pub nonzero : (p : Pair) → Contains pairs p → Nonzero A p.row p.col
   pub rising : AreRising (map (λ p. p.col) pairs)
-  pub ready : (left : List Pair) (w : Pair) → ((p : Pair) → Contains left p → Contains pairs p) → Contains left w →
+  pub ready : (left : List Pair) (w : Pair) → ((p : Pair) → Contains left p → Contains pairs p) →
+      Contains left w →
       SomeIsReady A left
 
 -- for each pair, how many of the pairs have an entry in its column

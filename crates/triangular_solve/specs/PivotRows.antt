@@ -13,7 +13,8 @@ use Rattle.triangular_solve.specs.AscendingColumns.{IsPlaceOf}
 -- `places` has the place in the order of each of the sorted columns, as far as they are in it
 pub record IsOrdering (sorted places columns : List ℕ) : Type 0 where
   pub long : length places ≡ length sorted
-  pub placed : (t : ℕ) → t < length sorted → slice_index places t ≢ 4294967295 → IsPlaceOf columns (slice_index sorted t) (slice_index places t)
+  pub placed : (t : ℕ) → t < length sorted → slice_index places t ≢ 4294967295 →
+      IsPlaceOf columns (slice_index sorted t) (slice_index places t)
   pub every : (k : ℕ) → k < length columns → (t : ℕ) × IsPlaceOf places k t × (t < length sorted)
 
 -- all of them are in it
@@ -24,12 +25,14 @@ pub record IsOrderOf (sorted places columns : List ℕ) : Type 0 where
 
 -- no column stands twice
 abbrev pub HaveDistinctColumns : List ℕ → Type 0
-HaveDistinctColumns columns = (k t : ℕ) → k < t → t < length columns → slice_index columns k ≢ slice_index columns t
+HaveDistinctColumns columns = (k t : ℕ) → k < t → t < length columns →
+    slice_index columns k ≢ slice_index columns t
 
 -- the columns of the pairs, in order, and then others, ascending
 pub record HasPivotsFirst (qs : List Pair) (columns : List ℕ) : Type 0 where
   pub pivotal : (k : ℕ) → k < length qs → IsPlaceOf columns (col_at qs k) k
-  pub ascending : (k t : ℕ) → length qs ≤ k → k < t → t < length columns → slice_index columns k < slice_index columns t
+  pub ascending : (k t : ℕ) → length qs ≤ k → k < t → t < length columns →
+      slice_index columns k < slice_index columns t
   pub distinct : HaveDistinctColumns columns
 
 -- what is seen of pivot rows: their matrix, and the columns of the whole matrix for which its columns stand
@@ -58,7 +61,8 @@ pub record ArePlaced (placed : PlacedRows) : Type 0 where
 pub record AreInverses (A : ResidueMatrix) (inverses : List ℕ) : Type 0 where
   pub many : length inverses ≡ A.matrix.height
   pub residues : (k : ℕ) → k < A.matrix.height → slice_index inverses k < A.modulus
-  pub inverse : IsPrime A.modulus → (k : ℕ) → k < A.matrix.height → (entry A.matrix k k * slice_index inverses k) % A.modulus ≡ 1
+  pub inverse : IsPrime A.modulus → (k : ℕ) → k < A.matrix.height →
+      (entry A.matrix k k * slice_index inverses k) % A.modulus ≡ 1
 
 -- they are the rows of these pairs, which are 0 in all other columns
 pub record ArePivotRows (A : ResidueMatrix) (qs : List Pair) (placed : PlacedRows) : Type 0 where
@@ -68,7 +72,8 @@ pub record ArePivotRows (A : ResidueMatrix) (qs : List Pair) (placed : PlacedRow
   pub below : AreBelow A.matrix.width placed.columns
   pub entries : (k i : ℕ) → k < length qs → i < length placed.columns →
       entry placed.rows.matrix k i ≡ entry A.matrix (row_at qs k) (slice_index placed.columns i)
-  pub others : (k j : ℕ) → k < length qs → j < A.matrix.width → ¬ Contains placed.columns j → entry A.matrix (row_at qs k) j ≡ 0
+  pub others : (k j : ℕ) → k < length qs → j < A.matrix.width → ¬ Contains placed.columns j →
+      entry A.matrix (row_at qs k) j ≡ 0
 
 -- sums for the columns of the rows
 pub record AreColumnSums (placed : PlacedRows) (sums : ResidueRow) : Type 0 where
@@ -87,9 +92,11 @@ pub record Eliminates (placed : PlacedRows) (old new : List ℕ) (k f : ℕ) : T
 -- v is what is left and the coefficients times the rows so far; coefficients are still to come where sums are left
 pub record IsEliminating (placed : PlacedRows) (v left coefficients : List ℕ) : Type 0 where
   pub residues : IsVector placed.rows.modulus placed.rows.matrix.height coefficients
-  pub behind : (i t : ℕ) → slice_index left i ≢ 0 → i ≤ t → t < placed.rows.matrix.height → slice_index coefficients t ≡ 0
+  pub behind : (i t : ℕ) → slice_index left i ≢ 0 → i ≤ t → t < placed.rows.matrix.height →
+      slice_index coefficients t ≡ 0
   pub sums : IsPrime placed.rows.modulus → (i : ℕ) → i < length placed.columns → slice_index v i
-      ≡ (slice_index left i + sum_below placed.rows.matrix.height (λ k. slice_index coefficients k * entry placed.rows.matrix k i)) % placed.rows.modulus
+      ≡ (slice_index left i + sum_below placed.rows.matrix.height
+      (λ k. slice_index coefficients k * entry placed.rows.matrix k i)) % placed.rows.modulus
 
 -- 0 stands at the place of each pivot
 abbrev pub IsEliminated : PlacedRows → List ℕ → Type 0
@@ -109,7 +116,8 @@ pub record IsSplitRow (columns v inner outer : List ℕ) : Type 0 where
 
 -- where the sums are not 0 the columns ascend
 abbrev pub AscendWhereNonzero : List ℕ → List ℕ → Type 0
-AscendWhereNonzero columns sums = (k t : ℕ) → k < t → t < length columns → slice_index sums k ≢ 0 → slice_index sums t ≢ 0 →
+AscendWhereNonzero columns sums = (k t : ℕ) → k < t → t < length columns → slice_index sums k ≢ 0 →
+    slice_index sums t ≢ 0 →
     slice_index columns k < slice_index columns t
 
 -- the entries of w from place `from` on whose columns are less than `end` came to the row; the next entry stands at place `to`
@@ -119,8 +127,10 @@ pub record AppendsBefore (w : List ℕ) (from end : ℕ) (old new : List ℕ) (t
   pub inside : to ≤ length (support w)
   pub before : (t : ℕ) → from ≤ t → t < to → slice_index (support w) t < end
   pub after : (t : ℕ) → to ≤ t → t < length (support w) → end ≤ slice_index (support w) t
-  pub there : (t : ℕ) → from ≤ t → t < to → slice_index new (slice_index (support w) t) ≡ slice_index w (slice_index (support w) t)
-  pub others : (j : ℕ) → ((t : ℕ) → from ≤ t → t < to → slice_index (support w) t ≢ j) → slice_index new j ≡ slice_index old j
+  pub there : (t : ℕ) → from ≤ t → t < to → slice_index new (slice_index (support w) t)
+      ≡ slice_index w (slice_index (support w) t)
+  pub others : (j : ℕ) → ((t : ℕ) → from ≤ t → t < to → slice_index (support w) t ≢ j) →
+      slice_index new j ≡ slice_index old j
 
 -- a row of sums and a row of entries, both zero, of one modulus
 pub record IsRoom (sums passed : ResidueRow) : Type 0 where
@@ -139,9 +149,11 @@ pub record ArePivotsReduced (placed : PlacedRows) (v rest coefficients : List �
   pub vector : IsVector placed.rows.modulus (length v) rest
   pub residues : IsVector placed.rows.modulus placed.rows.matrix.height coefficients
   pub zero : (k : ℕ) → k < placed.rows.matrix.height → slice_index rest (slice_index placed.columns k) ≡ 0
-  pub inside : IsPrime placed.rows.modulus → (i : ℕ) → i < length placed.columns → slice_index v (slice_index placed.columns i)
+  pub inside : IsPrime placed.rows.modulus → (i : ℕ) → i < length placed.columns →
+      slice_index v (slice_index placed.columns i)
       ≡ (slice_index rest (slice_index placed.columns i)
-      + sum_below placed.rows.matrix.height (λ k. slice_index coefficients k * entry placed.rows.matrix k i)) % placed.rows.modulus
+      + sum_below placed.rows.matrix.height (λ k.
+      slice_index coefficients k * entry placed.rows.matrix k i)) % placed.rows.modulus
   pub outside : (j : ℕ) → j < length v → ¬ Contains placed.columns j → slice_index rest j ≡ slice_index v j
 
 -- row i of A on these columns
@@ -150,4 +162,8 @@ row_on A columns i = list_of (length columns) (λ k. entry A i (slice_index colu
 
 -- the rows of the pairs on these columns
 abbrev pub rows_on : Matrix → List ℕ → List Pair → Matrix
-rows_on A columns qs = record { height = length qs; width = length columns; rows = map (λ q. row_on A columns q.row) qs }
+rows_on A columns qs = record {
+  height = length qs;
+  width = length columns;
+  rows = map (λ q. row_on A columns q.row) qs;
+}

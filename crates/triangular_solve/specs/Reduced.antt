@@ -23,7 +23,8 @@ IsZeroAtPivots qs w = (k : ℕ) → k < length qs → slice_index w (col_at qs k
 pub record IsReduced (p : ℕ) (A : Matrix) (qs : List Pair) (v : List ℕ) (r : Reduction) : Type 0 where
   pub zero : IsZeroAtPivots qs r.rest
   pub sum : (j : ℕ) → j < A.width → slice_index v j
-      ≡ (slice_index r.rest j + sum_below (length qs) (λ k. slice_index r.coefficients k * entry A (row_at qs k) j)) % p
+      ≡ (slice_index r.rest j + sum_below (length qs)
+      (λ k. slice_index r.coefficients k * entry A (row_at qs k) j)) % p
 
 -- w is the Schur row of v: it is 0 in all pivotal columns, and v is w plus a combination of the pivot rows
 abbrev pub IsSchurRow : ℕ → Matrix → List Pair → List ℕ → List ℕ → Type 0
@@ -44,7 +45,8 @@ pub record IsComplement (p : ℕ) (A : Matrix) (qs : List Pair) (B : Matrix) : T
 
 -- for a prime modulus a row has at most one Schur row
 abbrev pub SchurRowIsOne : Type 0
-SchurRowIsOne = (p : ℕ) (A : Matrix) (qs : List Pair) (v w x : List ℕ) → IsPrime p → IsMatrix p A → Triangular A qs →
+SchurRowIsOne = (p : ℕ) (A : Matrix) (qs : List Pair) (v w x : List ℕ) → IsPrime p → IsMatrix p A →
+    Triangular A qs →
     IsSchurRow p A qs v w → IsSchurRow p A qs v x → w ≡ x
 
 -- what callers see of the room in which rows are reduced: the sizes that it is made for

@@ -54,7 +54,8 @@ impl ColumnOrder {
         requires rising { AreRising columns.items }
         requires below { AreBelow width columns.items }
         requires pivotal { (k : ℕ) → k < length pairs.now → Contains columns.items (col_at pairs.now k) }
-        requires distinct { (k t : ℕ) → k < t → t < length pairs.now → col_at pairs.now k ≢ col_at pairs.now t }
+        requires distinct { (k t : ℕ) → k < t → t < length pairs.now →
+            col_at pairs.now k ≢ col_at pairs.now t }
         ensures first { IfOk result (HasPivotsFirst pairs.now) }
         ensures below { IfOk result (AreBelow width) }
         ensures all { IfOk result (λ order. (j : ℕ) → Contains columns.items j → Contains order j) }
@@ -133,7 +134,8 @@ impl ColumnOrder {
         requires distinct { HaveDistinctColumns self.now }
         requires below { AreBelow (length rest.old.row) self.now }
         requires ascending { AscendWhereNonzero self.now sums.old.row }
-        requires apart { (i : ℕ) → i < length self.now → slice_index passed.now.row (slice_index self.now i) ≡ 0 }
+        requires apart { (i : ℕ) → i < length self.now →
+            slice_index passed.now.row (slice_index self.now i) ≡ 0 }
         ensures sums { IsAlike sums.old sums.new }
         ensures rest { IsAlike rest.old rest.new }
         ensures joined { OnOk result (IsSplitRow self.now rest.new.row sums.old.row passed.now.row) }
@@ -223,7 +225,8 @@ fn place_others(
     requires rising { AreRising sorted.now }
     requires ordering { IsOrdering sorted.now places.old columns.old.items }
     ensures order { OnOk result (IsOrderOf sorted.now places.new columns.new.items) }
-    ensures first { (qs : List Place) → HasPivotsFirst qs columns.old.items → length columns.old.items ≡ length qs →
+    ensures first { (qs : List Place) → HasPivotsFirst qs columns.old.items →
+        length columns.old.items ≡ length qs →
         OnOk result (HasPivotsFirst qs columns.new.items) }
 {
     for at in 0..sorted.len() {

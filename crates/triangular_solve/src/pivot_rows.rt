@@ -72,7 +72,8 @@ impl PivotRows {
     fn eliminate_next(&self, sums: &mut Accumulator) -> Option<(u32, u64)>
         requires sums { AreColumnSums self.now sums.old }
         ensures sums { AreColumnSums self.now sums.new }
-        ensures some { IfSome result (λ taken. Eliminates self.now sums.old.row sums.new.row taken.0 taken.1) }
+        ensures some { IfSome result (λ taken.
+            Eliminates self.now sums.old.row sums.new.row taken.0 taken.1) }
         ensures none { IfNone result (IsEliminated self.now sums.new.row × (sums.new.row ≡ sums.old.row)) }
     {
         let Some((place, value)) = sums.pop() else {
@@ -121,7 +122,8 @@ impl PivotRows {
         requires sums { AreColumnSums self.now sums.old }
         ensures sums { AreColumnSums self.now sums.new }
         ensures zero { IsEliminated self.now sums.new.row }
-        ensures some { (coefficients : List ℕ) × IsEliminating self.now sums.old.row sums.new.row coefficients }
+        ensures some { (coefficients : List ℕ)
+            × IsEliminating self.now sums.old.row sums.new.row coefficients }
     {
         // The call's contract tells the range of the modulus.
         let _ = self.rows.modulus();
@@ -133,7 +135,8 @@ impl PivotRows {
 fn occupied_columns(alloc: Global, rows: &Rows, pairs: &[Pair]) -> Result<Vec<u32>, AllocError>
     requires few { length pairs.now ≤ LARGEST_SIZE }
     requires inside { (k : ℕ) → k < length pairs.now → row_at pairs.now k < rows.now.matrix.height }
-    ensures { IfOk result (λ columns. AreOccupied (selected rows.now.matrix (map (λ q. q.row) pairs.now)) columns.items) }
+    ensures { IfOk result (λ columns. AreOccupied
+        (selected rows.now.matrix (map (λ q. q.row) pairs.now)) columns.items) }
 {
     rows.select(alloc, &row_numbers(alloc, pairs)?)?
         .occupied(alloc)

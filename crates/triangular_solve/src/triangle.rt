@@ -44,7 +44,8 @@ impl<'a> Model for Triangle<'a> {
 
     ghost view = { λ t. record { rows = t.rows.now; pairs = t.pairs.items } };
 
-    ghost invariant = { λ t. Triangular t.rows.now.matrix t.pairs.items × ArePivotRows t.rows.now t.pairs.items t.pivots };
+    ghost invariant = { λ t. Triangular t.rows.now.matrix t.pairs.items
+        × ArePivotRows t.rows.now t.pairs.items t.pivots };
 }
 
 impl<'a> Triangle<'a> {
@@ -96,7 +97,8 @@ impl<'a> Triangle<'a> {
         ensures work { work.new ≡ work.old }
         ensures fits { IfOk result (FitsReduced self.now) }
         ensures reduced { IfOk result (λ r. IsPrime self.now.rows.modulus → IsReduced self.now.rows.modulus
-            self.now.rows.matrix self.now.pairs (spread self.now.rows.matrix.width cols.now vals.now) (reduction_of r)) }
+            self.now.rows.matrix self.now.pairs (spread self.now.rows.matrix.width cols.now vals.now)
+            (reduction_of r)) }
     {
         let mut rest = Sparse::new(alloc, self.rows.width(), self.rows.modulus());
         let mut coefficients = Sparse::new(alloc, self.pairs.len() as u32, self.rows.modulus());

@@ -70,7 +70,8 @@ impl Work {
         requires modulus { self.old.modulus ≡ pivots.now.rows.modulus }
         requires below { AreBelow self.old.width pivots.now.columns }
         requires rest { rest.old ≡ record { modulus = self.old.modulus; row = zeros self.old.width } }
-        requires coefficients { coefficients.old ≡ record { modulus = self.old.modulus; row = zeros pivots.now.rows.matrix.height } }
+        requires coefficients { coefficients.old
+            ≡ record { modulus = self.old.modulus; row = zeros pivots.now.rows.matrix.height } }
         ensures work { self.new ≡ self.old }
         ensures rest { IsAlike rest.old rest.new }
         ensures coefficients { IsAlike coefficients.old coefficients.new }
@@ -122,7 +123,11 @@ impl Work {
 fn fit(alloc: Global, pivots: &PivotRows, sums: &mut Accumulator) -> Result<(), AllocError>
     requires few { length sums.old.row ≤ LARGEST_SIZE }
     requires clear { IsClear sums.old.modulus (length sums.old.row) sums.old }
-    ensures ok { OnOk result (sums.new ≡ record { modulus = sums.old.modulus; row = zeros (length pivots.now.columns) }) }
+    ensures ok { OnOk result (sums.new ≡ record {
+      modulus = sums.old.modulus;
+      row = zeros
+          (length pivots.now.columns);
+    }) }
     ensures err { OnErr result (sums.new ≡ sums.old) }
     ensures few { length pivots.now.columns ≤ LARGEST_SIZE }
 {
@@ -147,12 +152,14 @@ fn reduce_by(
     requires room { IsRoomFor pivots.now sums.old passed.old }
     requires below { AreBelow (length passed.old.row) pivots.now.columns }
     requires rest { rest.old ≡ record { modulus = passed.old.modulus; row = zeros (length passed.old.row) } }
-    requires coefficients { coefficients.old ≡ record { modulus = passed.old.modulus; row = zeros pivots.now.rows.matrix.height } }
+    requires coefficients { coefficients.old
+        ≡ record { modulus = passed.old.modulus; row = zeros pivots.now.rows.matrix.height } }
     ensures sums { IsAlike sums.old sums.new }
     ensures passed { IsAlike passed.old passed.new }
     ensures rest { IsAlike rest.old rest.new }
     ensures coefficients { IsAlike coefficients.old coefficients.new }
-    ensures reduced { OnOk result (ArePivotsReduced pivots.now (spread (length passed.old.row) cols.now vals.now)
+    ensures reduced { OnOk result (ArePivotsReduced pivots.now
+        (spread (length passed.old.row) cols.now vals.now)
         rest.new.row coefficients.new.row) }
 {
     pivots.order().split(cols, vals, sums, passed)?;
@@ -180,7 +187,8 @@ fn rest_by(
     ensures passed { IsAlike passed.old passed.new }
     ensures rest { IsAlike rest.old rest.new }
     ensures reduced { OnOk result ((coefficients : List ℕ) ×
-        ArePivotsReduced pivots.now (spread (length passed.old.row) cols.now vals.now) rest.new.row coefficients) }
+        ArePivotsReduced pivots.now (spread (length passed.old.row) cols.now vals.now)
+        rest.new.row coefficients) }
 {
     pivots.order().split(cols, vals, sums, passed)?;
     pivots.eliminate_all(sums);
