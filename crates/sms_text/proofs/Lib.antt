@@ -1,3 +1,4 @@
+pub mod Closed
 pub mod Digits
 pub mod Falling
 pub mod Feeding
