@@ -115,7 +115,7 @@ claim_named p kind.Kernel None h = absurd h
 claim_named p kind.Kernel (Some E) h = refl
 
 -- pivots that lie in a matrix have rows and columns that a text can give
-text_places : (pivots : List Pair) (m n : ℕ) → m < LARGEST_SIZE → n < LARGEST_SIZE → ((k : ℕ) → k < length pivots → row_at pivots k < m) → ((k : ℕ) → k < length pivots → col_at pivots k < n) →
+pub text_places : (pivots : List Pair) (m n : ℕ) → m < LARGEST_SIZE → n < LARGEST_SIZE → ((k : ℕ) → k < length pivots → row_at pivots k < m) → ((k : ℕ) → k < length pivots → col_at pivots k < n) →
     All IsTextPlace pivots
 text_places pivots m n high wide rows cols = λ k d l. (
   omega (arith, rows k l, high, get_or-map (λ (q : Pair). q.row) pivots k d 0 l),

@@ -1,6 +1,7 @@
 pub mod Accepting
 pub mod Building
 pub mod Certifying
+pub mod Continuing
 pub mod Elimination
 pub mod Exact
 pub mod Generating

@@ -1,0 +1,12 @@
+// Laws of runs: each contract is a fact, and the body is empty.
+ghost use Rattle.spasm_run.specs.Continuing.{AreClosedTexts, CertifiedIsChecked};
+
+/// Modulo a prime, what `certify` wrote for a matrix text, put behind this text, is answered `yes` by `check`, unless memory is wanted.
+pub fn certified_is_checked()
+    ensures { CertifiedIsChecked }
+{}
+
+/// Texts that are closed by their last line, and texts that aren't.
+pub fn closed_texts_are_worked()
+    ensures { AreClosedTexts }
+{}
