@@ -1,17 +1,23 @@
-//! Times what the documents give figures of: multiples of rows added, the factors of a matrix, and texts read and written.
+//! Times what the documents give figures of: multiples of rows added, the factors of a matrix, its structural pivots, and texts read and
+//! written.
 //!
-//! The words say which: `lanes`, `factors WORKERS`, `read P` or `write P`, where P is a modulus; the last three read a matrix from standard
-//! input. Times are in microseconds. With other words, or with none, one line says these.
+//! The words say which: `lanes`, `factors WORKERS`, `pivots WORKERS`, `walks`, `rounds WORKERS`, `read P` or `write P`, where P is a modulus; all but the first
+//! read a matrix from standard input. Times are in microseconds. With other words, or with none, one line says these.
 #![tactic(auto)]
 
 mod added_rows;
 mod factored;
+mod rounds;
+mod searched;
 mod task;
 mod texts;
 
 use added_rows::time_additions;
 use factored::time_factors;
+use pluq_factor::Plan;
 use residue_words::{MODULUS_BOUND, Modulus};
+use rounds::time_rounds;
+use searched::{time_pivots, time_walks};
 use std::alloc::Global;
 use std::io::{self, Read, Write};
 use std::process::ExitCode;
@@ -20,6 +26,9 @@ use std::time::Clock;
 use std_edge::words_of;
 use task::Task;
 use texts::{time_reading, time_writing};
+
+// How many structural rounds there are, as the program has it without an option.
+const ROUNDS: u32 = 3;
 
 fn main(rt: HostRuntime) -> ExitCode {
     let Ok(words) = words_of(&rt) else {
@@ -45,12 +54,25 @@ fn perform<R: Threads + Sync + Clock + Print + Eprint, I: Read + Drop, O: Write 
         Some(Task::Factors(workers)) if 1 <= workers && workers <= 64 => {
             time_factors(rt, alloc, input, workers)
         }
+        Some(Task::Pivots(workers)) if 1 <= workers && workers <= 64 => {
+            time_pivots(rt, alloc, input, workers)
+        }
+        Some(Task::Rounds(workers)) if 1 <= workers && workers <= 64 => {
+            let plan = Plan {
+                workers,
+                rounds: ROUNDS,
+            };
+            time_rounds(rt, alloc, input, plan)
+        }
+        Some(Task::Walks) => time_walks(rt, alloc, input),
         Some(Task::Read(p)) if 2 <= p && p < MODULUS_BOUND => {
             time_reading(rt, alloc, input, &Modulus::new(p))
         }
         Some(Task::Write(p)) if 2 <= p && p < MODULUS_BOUND => {
             time_writing(rt, alloc, input, output, &Modulus::new(p))
         }
-        _ => println!(rt; "spasm_timed lanes | factors WORKERS | read P | write P"),
+        _ => println!(rt;
+            "spasm_timed lanes | factors WORKERS | pivots WORKERS | walks | rounds WORKERS | read P | write P"
+        ),
     }
 }
