@@ -128,3 +128,26 @@ with open(path, "w") as f:
     f.write("0 0 0\n")
 P
 }
+
+# product_text M N R PER FILE SEED: the product of two random matrices with PER entries a row, of M rows and R columns, and of R rows and N
+# columns, so that its rank is at most R.
+product_text() {
+    python3 - "$@" <<'P'
+import random, sys
+m, n, r, per, path, seed = int(sys.argv[1]), int(sys.argv[2]), int(sys.argv[3]), int(sys.argv[4]), sys.argv[5], int(sys.argv[6])
+p = 42013
+random.seed(seed)
+def rows(height, width):
+    return [[(random.randrange(width), random.randrange(1, p)) for _ in range(per)] for _ in range(height)]
+left, right = rows(m, r), rows(r, n)
+with open(path, "w") as f:
+    f.write(f"{m} {n} M\n")
+    for i, terms in enumerate(left, 1):
+        row = {}
+        for k, a in terms:
+            for j, b in right[k]:
+                row[j] = (row.get(j, 0) + a * b) % p
+        f.writelines(f"{i} {j + 1} {row[j]}\n" for j in sorted(row) if row[j])
+    f.write("0 0 0\n")
+P
+}

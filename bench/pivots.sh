@@ -1,24 +1,41 @@
 #!/usr/bin/env bash
-# Times `spasm pivots` and `spasm rank` on boundary maps of chessboard and matching complexes and on random matrices, which it makes itself,
-# and prints the pivots found, the rank, the seconds of each run less those of reading (best of three), and the peak memory.
+# Times the search for structural pivots on boundary maps of chessboard and matching complexes and on random matrices, which it makes itself.
+# For each it prints the pivots found by the first selection and in all, the seconds of each phase with one worker (best of three), the steps
+# a row and the nanoseconds a step of a search by one walk a row, and, for 1, 2 and 4 workers, the seconds of the search, how often a worker
+# was overtaken, how many claims failed, and how much faster the search is than that by walks.
 set -eu
 cd "$(dirname "$0")/.."
 . bench/common.sh
-./spasm rank < examples/x.sms > /dev/null
 test -f bench/out/mk11-b3.sms || matching_text 11 3 bench/out/mk11-b3.sms
 test -f bench/out/mk12-b3.sms || matching_text 12 3 bench/out/mk12-b3.sms
 test -f bench/out/ch7-6-b3.sms || chessboard_text 7 6 3 bench/out/ch7-6-b3.sms
 test -f bench/out/ch7-6-b4.sms || chessboard_text 7 6 4 bench/out/ch7-6-b4.sms
+test -f bench/out/ch8-8-b3.sms || chessboard_text 8 8 3 bench/out/ch8-8-b3.sms
+test -f bench/out/ch9-9-b3.sms || chessboard_text 9 9 3 bench/out/ch9-9-b3.sms
 test -f bench/out/random.sms || random_text 10000 10000 3 bench/out/random.sms 5
 program=$(timed_program)
-for text in mk11-b3 mk12-b3 ch7-6-b3 ch7-6-b4 random; do
-    path=bench/out/$text.sms
-    reading=$(best 1 "$path" seconds_and_peak "$program" read 42013)
-    found=$(./spasm pivots < "$path" | head -n 1)
-    rank=$(./spasm rank < "$path")
-    pivots=$(best 1 "$path" seconds_and_peak ./spasm pivots)
-    ranking=$(best 1 "$path" seconds_and_peak ./spasm rank)
-    peak=$(best 2 "$path" seconds_and_peak ./spasm rank)
-    awk -v t="$text" -v f="$found" -v r="$rank" -v p="$pivots" -v q="$ranking" -v b="$reading" -v k="$peak" \
-        'BEGIN { printf "%s: %s in %.2f s, %s in %.2f s (reading %.2f s), peak %.0f MB\n", t, f, p - b, r, q - b, b, k / 1024 }'
+
+# quickest FIELD COMMAND..: of three runs the line whose FIELD-th number is least.
+quickest() {
+    local field=$1 text=$2
+    shift 2
+    for _ in 1 2 3; do "$@" < "$text"; done | sort -n -k "$field" | head -n 1
+}
+
+for name in mk11-b3 mk12-b3 ch7-6-b3 ch7-6-b4 ch8-8-b3 ch9-9-b3 random; do
+    text=bench/out/$name.sms
+    height=$(head -n 1 "$text" | cut -d ' ' -f 1)
+    walks=$(quickest 1 "$text" "$program" walks)
+    quickest 3 "$text" "$program" pivots 1 | awk -v n="$name" -v m="$height" -v w="$walks" '{
+        split(w, walk, " ")
+        printf "%s: %d pivots, %d of them leftmost; leftmost %.3f s, search %.3f s, order %.3f s\n", n, $4, $2, $1 / 1e6, $3 / 1e6, $5 / 1e6
+        printf "  by one walk a row: %.3f s, %.1f steps a row, %.1f ns a step\n", walk[1] / 1e6, walk[3] / m, walk[1] * 1000 / (walk[3] + 1)
+    }'
+    for workers in 1 2 4; do
+        quickest 3 "$text" "$program" pivots "$workers" | awk -v c="$workers" -v m="$height" -v w="$walks" '{
+            split(w, walk, " ")
+            printf "  %d workers: %.3f s, overtaken %d times, %d claims failed, %.1f times as fast as by walks\n",
+                c, $3 / 1e6, $7, (c > 1 ? c * m - $6 : 0), walk[1] / ($3 + 1)
+        }'
+    done
 done
