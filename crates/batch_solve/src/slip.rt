@@ -1,0 +1,9 @@
+// What lies in a desk's channel.
+
+// A number to take, or word that there is none.
+#[derive(Clone, Copy)]
+pub enum Slip {
+    Number(u32),
+    // It stands behind all numbers.
+    End,
+}
