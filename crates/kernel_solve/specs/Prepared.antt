@@ -1,7 +1,7 @@
 -- What is kept of a matrix A to answer A x = b for any b without an elimination.
 use Rattle.std.specs.Prelude.{◌≡◌, ◌<◌, ◌≤◌, ℕ, List, length, slice_index}
 use Rattle.residue_words.specs.Residues.{IsPrime}
-use Rattle.residue_words.specs.Matrix.{Matrix, combine, row}
+use Rattle.residue_words.specs.Matrix.{Matrix, IsMatrix, combine, row}
 use Rattle.sparse_rows.specs.declared.rows.TheConstants.{LARGEST_SIZE}
 use Rattle.sparse_rows.specs.Rows.{AreBelow, AreRising, ResidueMatrix, transposed}
 use Rattle.row_space.specs.Echelon.{HasLeads, IsRref}
@@ -52,3 +52,7 @@ pub record IsSplitAt (numbers : List ℕ) (n r : ℕ) : Type 0 where
 abbrev pub RepliesTo : ℕ → Matrix → List ℕ → Reply → Type 0
 RepliesTo p A b (Solution x) = (x.matrix.height ≡ A.width) × IsReducedSolution p A b (column x.matrix)
 RepliesTo p A b (Refuted y) = (y.matrix.width ≡ A.height) × IsRefutingCombination p A b (row y.matrix 0)
+
+-- a reply to the column b: right for each matrix that q is the preparation of, where the modulus is prime
+abbrev pub IsReply : Preparation → Matrix → Reply → Type 0
+IsReply q b reply = (p : ℕ) (A : Matrix) → IsPrime p → IsMatrix p A → IsPreparedFor p A q → RepliesTo p A (column b) reply

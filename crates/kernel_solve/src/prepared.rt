@@ -2,15 +2,14 @@
 ghost use Rattle.std.specs.Prelude.{◌≡◌, ◌≢◌, ◌<◌, ◌≤◌, ◌+◌, ◌*◌, ◌%◌, ℕ, List, length, slice_index, take, IfOk};
 ghost use Rattle.std.specs.List.{range_with_len};
 ghost use Rattle.std.specs.Option.{MatchOption};
-ghost use Rattle.residue_words.specs.Residues.{IsPrime};
-ghost use Rattle.residue_words.specs.Matrix.{Matrix, IsMatrix, IsVector, entry, row};
+ghost use Rattle.residue_words.specs.Matrix.{IsVector, entry, row};
 ghost use Rattle.sparse_rows.specs.declared.rows.TheConstants.{LARGEST_SIZE};
 ghost use Rattle.sparse_rows.specs.ColumnSet.{AllZero};
 ghost use Rattle.sparse_rows.specs.Rows.{AreRising, matrix_by};
 ghost use Rattle.kernel_solve.specs.Prepared.{IsSplitAt};
 ghost use Rattle.sparse_rows.specs.Stored.{IsSparse, entry_at};
 ghost use Rattle.kernel_solve.specs.Column.{column};
-ghost use Rattle.kernel_solve.specs.Prepared.{IsPreparedFor, RepliesTo};
+ghost use Rattle.kernel_solve.specs.Prepared.{IsPreparedFor, IsReply};
 ghost use Rattle.kernel_solve.specs.Refuted.{IsFirstNonzero, multiple};
 
 use crate::bases::left_kernel;
@@ -104,8 +103,7 @@ impl Prepared {
         requires modulus { b.now.modulus ≡ self.now.transformation.modulus }
         requires height { b.now.matrix.height ≡ self.now.transformation.matrix.width }
         requires column { b.now.matrix.width ≡ 1 }
-        ensures { IfOk result (λ reply. (p : ℕ) (A : Matrix) → IsPrime p → IsMatrix p A
-            → IsPreparedFor p A self.now → RepliesTo p A (column b.now.matrix) reply) }
+        ensures { IfOk result (IsReply self.now b.now.matrix) }
     {
         // The proof wants that all three are matrices of residues, and how high and wide they are.
         let _ = (
