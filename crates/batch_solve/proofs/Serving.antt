@@ -5,7 +5,7 @@ use mathlib.Core.Option.{some, some-injective, some-ne-none}
 use native.Mathlib.Decide.{ℕ_discrete}
 use lib.ListN.{get_elem?}
 use Rattle.std.specs.List.{Contains, range_with_len}
-use Rattle.std.proofs.lemmas.List.{append-nil}
+use Rattle.std.proofs.lemmas.List.{append-nil, replicate_more}
 use Rattle.std.proofs.lemmas.List.Elements.{Contains-append_left, Contains-append_right, Contains-append_cases}
 use Rattle.std.proofs.lemmas.List.FromFn.{map-range_with_len_more}
 use Rattle.atomic_table.proofs.Lists.{at_set, at_snoc, at_longer, set_here, set_else, set_again}
@@ -88,12 +88,8 @@ each_set P views i w own all j u e = ⊎_elim (λ (h : (j ≡ i) × (w ≡ u)). 
 
 -- what is in the queue
 
-ends_more : (n : ℕ) → replicate n End ++ End ∷ [] ≡ replicate (suc n) End
-ends_more zero = refl
-ends_more (suc n) = ap (λ (l : List Slip). End ∷ l) (ends_more n)
-
-end_more : (from left ends : ℕ) → slips from left ends ++ End ∷ [] ≡ slips from left (suc ends)
-end_more from left ends = append_assoc (map Number (range_with_len from left)) (replicate ends End) (End ∷ []) ∙ ap (λ (l : List Slip). map Number (range_with_len from left) ++ l) (ends_more ends)
+end_more : (from left ends : ℕ) → slips from left ends ++ End ∷ [] ≡ slips from left (ends + 1)
+end_more from left ends = append_assoc (map Number (range_with_len from left)) (replicate ends End) (End ∷ []) ∙ ap (λ (l : List Slip). map Number (range_with_len from left) ++ l) (replicate_more ends End)
 
 number_more : (n : ℕ) → slips 0 n 0 ++ Number n ∷ [] ≡ slips 0 (n + 1) 0
 number_more n = let l : List Slip = map Number (range_with_len 0 n) in
@@ -163,7 +159,7 @@ puts_end n i v f items views room k at = let s = k.served in (
     served = record {
       from = s.from;
       left = s.left;
-      ends = suc s.ends;
+      ends = s.ends + 1;
       suffix = s.suffix;
       queue = ap (λ (l : List Slip). l ++ End ∷ []) s.queue ∙ end_more s.from s.left s.ends;
       once = s.once;

@@ -9,7 +9,12 @@ mod slip;
 mod taker;
 #[cfg(test)]
 mod tests;
+mod together;
+mod watch;
+mod worker;
 
 pub use desk::Desk;
 pub use laws::{drained_leaves_none, lists_share_no_number};
 pub use taker::Taker;
+pub use together::answer_all;
+pub use watch::{Unwatched, Watch};

@@ -1,5 +1,11 @@
-// A desk of a few numbers.
-use crate::Desk;
+// A desk of a few numbers, and a batch of a few questions.
+ghost use Rattle.std.specs.Prelude.{◌≡◌, IfOk};
+
+use crate::{Desk, Unwatched, answer_all};
+use kernel_solve::{Prepared, Reply};
+use residue_words::Modulus;
+use sparse_rows::Rows;
+use std::alloc::{AllocError, Global};
 use std::test::Fail;
 
 #[test]
