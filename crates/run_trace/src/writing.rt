@@ -1,0 +1,59 @@
+// Traces written as texts.
+ghost use Rattle.std.specs.Prelude.{All};
+ghost use Rattle.sms_text.specs.Writing.{Adds, Writes, output};
+ghost use Rattle.run_trace.specs.TraceText.{HasText, IsTextPublication, publication_lines, title_line, trace_text};
+
+use crate::publication::Publication;
+use crate::trace::Trace;
+use sms_text::{BlockWriter, Sink, WriteFault};
+
+/// Writes the text of a trace: its first line, and a line for each publication.
+///
+/// The sink is given blocks of more than 4096 bytes, and a last one of what is left. It takes no memory, and time proportional to the
+/// publications. `read` reads what was written as the same trace: `written_trace_reads_back` says so.
+pub fn write<K: Sink>(out: &mut K, trace: &Trace) -> Result<(), WriteFault>
+    requires { HasText trace.now }
+    ensures { Writes result (trace_text trace.now.p trace.now.publications)
+        (K.state out.old) (K.state out.new) }
+{
+    let publications = trace.publications.items();
+    let mut blocks = BlockWriter::new();
+    add_title(out, &mut blocks, trace.p, publications.len() as u64)?;
+    add_publications(out, &mut blocks, publications)?;
+    blocks.send(out)
+}
+
+// Adds the first line.
+fn add_title<K: Sink>(
+    out: &mut K,
+    blocks: &mut BlockWriter,
+    p: u64,
+    count: u64,
+) -> Result<(), WriteFault>
+    ensures { Adds result (title_line p count)
+        (output blocks.old (K.state out.old)) (output blocks.new (K.state out.new)) }
+{
+    blocks.add(out, b"trace ")?;
+    blocks.add_number(out, p)?;
+    blocks.add(out, b" ")?;
+    blocks.add_number(out, count)?;
+    blocks.add(out, b"\n")?;
+    Ok(())
+}
+
+// Adds a line for each publication.
+fn add_publications<K: Sink>(
+    out: &mut K,
+    blocks: &mut BlockWriter,
+    publications: &[Publication],
+) -> Result<(), WriteFault>
+    requires { All IsTextPublication publications.now }
+    ensures { Adds result (publication_lines publications.now)
+        (output blocks.old (K.state out.old)) (output blocks.new (K.state out.new)) }
+{
+    for k in 0..publications.len() {
+        let Publication { pair, version } = publications[k];
+        blocks.add_entry(out, pair.row + 1, pair.col + 1, version)?;
+    }
+    Ok(())
+}
