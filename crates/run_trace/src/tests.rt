@@ -1,5 +1,5 @@
 // Traces read from texts, replayed on a small matrix and on the largest, and written again.
-ghost use Rattle.std.specs.Prelude.{◌<◌, ◌≤◌, IfOk};
+ghost use Rattle.std.specs.Prelude.{◌≡◌, ◌<◌, ◌≤◌, IfOk};
 ghost use Rattle.sparse_rows.specs.declared.rows.TheConstants.{LARGEST_SIZE};
 ghost use Rattle.run_trace.specs.TraceText.{HasText};
 
@@ -16,6 +16,8 @@ use std::thread::Threads;
 fn built(alloc: Global, m: u32, n: u32, entries: &[(u32, u32, u64)]) -> Result<Rows, AllocError>
     requires height { m ≤ LARGEST_SIZE }
     requires width { n ≤ LARGEST_SIZE }
+    ensures height { IfOk result (λ rows. rows.matrix.height ≡ m) }
+    ensures width { IfOk result (λ rows. rows.matrix.width ≡ n) }
 {
     let mut builder = RowsBuilder::new(alloc, m, n, Modulus::new(7))?;
     for (i, j, v) in entries {
@@ -23,7 +25,8 @@ fn built(alloc: Global, m: u32, n: u32, entries: &[(u32, u32, u64)]) -> Result<R
             builder.push(*i, *j, *v)?;
         }
     }
-    builder.finish()
+    let rows = builder.finish()?;
+    Ok(rows)
 }
 
 // The rows (1, 0, 0), (1, 1, 1) and (1, 1, 2).
