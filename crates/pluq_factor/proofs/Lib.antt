@@ -4,3 +4,4 @@ pub mod Ranking
 pub mod Selecting
 pub mod Staging
 pub mod Taking
+pub mod Turning

@@ -4,3 +4,4 @@ pub mod Laws
 pub mod Rounds
 pub mod Staged
 pub mod Taken
+pub mod Turned

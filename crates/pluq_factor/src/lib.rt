@@ -1,4 +1,4 @@
-//! Factors, row space and rank of a sparse matrix, by structural rounds and a finish.
+//! Factors, row space, rank and echelon form of a sparse matrix, by structural rounds and a finish.
 //!
 //! A round finds pivots without any arithmetic and leaves the complement, on which the next one works; what the last one leaves
 //! is eliminated densely, or row by row where only rank or row space is wanted. The method is that of Bouillaguet, Delaplace and
@@ -8,6 +8,7 @@
 mod basis;
 mod by_rounds;
 mod extent;
+mod form_by_rounds;
 mod plan;
 mod rank_by_rounds;
 mod taken;
@@ -19,6 +20,7 @@ ghost use Rattle.pluq_factor.specs.Laws.{SelectedIsOne, StagedGoesOn};
 pub use basis::row_basis;
 pub use by_rounds::factor;
 pub use dense_finish::Factors;
+pub use form_by_rounds::{form, form_of_basis};
 pub use plan::Plan;
 pub use rank_by_rounds::rank;
 

@@ -1,10 +1,16 @@
-// Matrices whose pivots are known from outside.
-use crate::{Plan, factor, row_basis};
+// Matrices whose pivots are known from outside, and forms and ranks beside those of an elimination without rounds.
+ghost use Rattle.std.specs.Prelude.{◌≡◌, ◌<◌, ◌≤◌};
+ghost use Rattle.sparse_rows.specs.declared.rows.TheConstants.{LARGEST_SIZE};
+
+use crate::{Plan, factor, form, form_of_basis, rank, row_basis};
+use echelon_form::Echelon;
 use optimistic_search::Open;
 use pivot_table::Pair;
 use residue_words::Modulus;
-use sparse_rows::Rows;
+use sparse_rows::{LARGEST_SIZE, Rows, RowsBuilder};
+use std::alloc::{AllocError, Global};
 use std::test::Fail;
+use std::thread::Threads;
 
 #[test]
 fn one_worker_takes_the_greedy_pivots(rt: HostRuntime) -> Result<(), Fail> {
@@ -63,6 +69,70 @@ fn each_plan_finds_the_rank(rt: HostRuntime) -> Result<(), Fail> {
             assert_eq!(rt; factors.pivots.items().len(), 2);
             assert_eq!(rt; row_basis(&rt, alloc, &rows, plan, &Open)?.height(), 2);
         }
+    }
+    Ok(())
+}
+
+// Whether two forms have the same rows and leads.
+fn are_same(alloc: Global, a: &Echelon, b: &Echelon) -> Result<bool, AllocError> {
+    let (left, right) = (a.rows().triples(alloc)?, b.rows().triples(alloc)?);
+    Ok(a.leads() == b.leads() && left.as_slice() == right.as_slice())
+}
+
+// Whether each plan finds the form, and its rank, that an elimination without rounds finds.
+fn agrees<R: Threads + Sync>(rt: &R, alloc: Global, rows: &Rows) -> Result<bool, AllocError> {
+    let known = Echelon::of(rt, alloc, rows, 1)?;
+    let mut same = true;
+    for workers in 1..4 {
+        for rounds in 0..4 {
+            let plan = Plan { workers, rounds };
+            same &= are_same(alloc, &form(rt, alloc, rows, plan, &Open)?, &known)?;
+            same &= rank(rt, alloc, rows, plan, &Open)? == known.rank();
+            let basis = row_basis(rt, alloc, rows, plan, &Open)?;
+            same &= are_same(alloc, &form_of_basis(rt, alloc, &basis, workers)?, &known)?;
+        }
+    }
+    Ok(same)
+}
+
+// A matrix modulo 7 of so many values a row, at places that a generator scatters over the columns.
+fn scattered(alloc: Global, m: u32, n: u32, per: u32) -> Result<Rows, AllocError>
+    requires height { m ≤ LARGEST_SIZE }
+    requires width { n ≤ LARGEST_SIZE }
+    requires some { 0 < n }
+{
+    let mut builder = RowsBuilder::new(alloc, m, n, Modulus::new(7))?;
+    let mut state: u32 = 1;
+    for i in 0..m {
+        for _ in 0..per {
+            state = state.wrapping_mul(1103515245).wrapping_add(12345);
+            builder.push(i, (state >> 8) % n, u64::from((state >> 4) % 7))?;
+        }
+    }
+    builder.finish()
+}
+
+// Heights, widths and values a row: more rows than the rank, full rank, a dense rest, a rest without one, and sizes where a row
+// costs nothing.
+const SCATTERED: &[(u32, u32, u32)] = &[
+    (0, 5, 0),
+    (5, 1, 1),
+    (3, 3, 3),
+    (60, 20, 3),
+    (40, 60, 2),
+    (50, 50, 3),
+    (30, 30, 9),
+    (80, 2000, 2),
+    (20, 2147483648, 2),
+];
+
+#[test]
+fn each_plan_finds_the_form(rt: HostRuntime) -> Result<(), Fail> {
+    let alloc = rt.alloc();
+    for (m, n, per) in SCATTERED {
+        assert!(rt; *m <= LARGEST_SIZE && 0 < *n && *n <= LARGEST_SIZE);
+        let rows = scattered(alloc, *m, *n, *per)?;
+        assert!(rt; agrees(&rt, alloc, &rows)?, "at {m} {n} {per}");
     }
     Ok(())
 }

@@ -1,0 +1,81 @@
+// The echelon form by rounds.
+ghost use Rattle.std.specs.Prelude.{◌≡◌, ◌≤◌, IfOk};
+ghost use Rattle.echelon_form.specs.Form.{IsFormOf};
+ghost use Rattle.pluq_factor.specs.Turned.{AreLastFirst, IsTurned};
+
+use crate::basis::row_basis;
+use crate::extent::Extent;
+use crate::plan::Plan;
+use echelon_form::Echelon;
+use optimistic_search::Gate;
+use sparse_rows::Rows;
+use std::alloc::{AllocError, Global};
+use std::thread::Threads;
+
+/// The reduced row echelon form of a matrix, the same for every plan. For a modulus that is not prime it is some rows of that
+/// width.
+///
+/// It is the form of the basis of the row space that the rounds and their finish give (`row_basis`), so the rows that depend on
+/// others are eliminated by structural pivots and densely. With no round it is that of a dense elimination where the matrix is
+/// small and dense, and else its rows are eliminated one after another, in time and memory of the entries that this makes.
+pub fn form<R: Threads + Sync, G: Gate>(
+    rt: &R,
+    alloc: Global,
+    rows: &Rows,
+    plan: Plan,
+    gate: &G,
+) -> Result<Echelon, AllocError>
+    requires some { 1 ≤ plan.workers }
+    requires few { plan.workers ≤ 64 }
+    ensures { IfOk result (IsFormOf rows.now.modulus rows.now.matrix) }
+{
+    if plan.rounds == 0 && !Extent::of(alloc, rows)?.is_block() {
+        let form = Echelon::of(rt, alloc, rows, plan.workers)?;
+        return Ok(form);
+    }
+    let basis = row_basis(rt, alloc, rows, plan, gate)?;
+    let turned = last_first(alloc, &basis)?;
+    drop(basis);
+    let form = Echelon::of(rt, alloc, &turned, plan.workers)?;
+    Ok(form)
+}
+
+/// The reduced row echelon form of rows that stand as rounds or factors give them, by so many workers. For a modulus that is not
+/// prime it is some rows of that width.
+///
+/// The rows are taken from the last to the first: a pivot's row is met by rows that are reduced already, where from the first to
+/// the last each would fill up and be reduced again.
+pub fn form_of_basis<R: Threads + Sync>(
+    rt: &R,
+    alloc: Global,
+    basis: &Rows,
+    workers: u32,
+) -> Result<Echelon, AllocError>
+    requires some { 1 ≤ workers }
+    requires few { workers ≤ 64 }
+    ensures { IfOk result (IsFormOf basis.now.modulus basis.now.matrix) }
+{
+    let turned = last_first(alloc, basis)?;
+    let form = Echelon::of(rt, alloc, &turned, workers)?;
+    Ok(form)
+}
+
+// The rows from the last to the first.
+fn last_first(alloc: Global, rows: &Rows) -> Result<Rows, AllocError>
+    ensures { IfOk result (IsTurned rows.now) }
+{
+    let numbers = down_from(alloc, rows.height())?;
+    let turned = rows.select(alloc, &numbers)?;
+    Ok(turned)
+}
+
+// The numbers below n, the greatest first.
+fn down_from(alloc: Global, n: u32) -> Result<Vec<u32>, AllocError>
+    ensures { IfOk result (λ numbers. AreLastFirst n numbers.items) }
+{
+    let mut numbers = Vec::with_capacity(alloc, n as usize)?;
+    for k in 0..n {
+        numbers.push(n - 1 - k)?;
+    }
+    Ok(numbers)
+}
