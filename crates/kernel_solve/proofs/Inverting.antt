@@ -14,6 +14,7 @@ use Rattle.row_space.proofs.Counting.{span_height, spanned_back}
 use Rattle.row_space.proofs.KernelLaws.{dot_zeros, identity_spans}
 use Rattle.row_space.proofs.Spans.{places_independent}
 use Rattle.echelon_form.specs.Form.{Form, IsFormOf}
+use Rattle.kernel_solve.specs.Inverted.{IsSingular}
 use Rattle.kernel_solve.proofs.AtLeads.{entry_absent}
 use Rattle.kernel_solve.proofs.Matrices.{beside_left, beside_matrix, beside_right, identity_matrix, identity_other, identity_same, transposed_entry}
 
@@ -295,11 +296,13 @@ first_null p A K k some = (
       omega (arith, places.one 0 some, ap (λ u. slice_index u at) e, at_zeros A.width at inside),
 )
 
--- so where a row of a matrix is the first of a kernel basis, it shows that there is no inverse
-pub first_shown : (p : ℕ) (A V K : Matrix) → IsKernel p A K → 0 < K.height → row V 0 ≡ row K 0 →
+-- so where each kernel basis has a row, a first row of one shows that there is no inverse
+pub singular_shown : (p : ℕ) (A V : Matrix) → IsSingular p A → ((K : Matrix) × IsKernel p A K × (0 < K.height → row V 0 ≡ row K 0)) →
     IsNull p A (row V 0) × (row V 0 ≢ zeros A.width) × ((K : Matrix) × IsKernel p A K × (0 < K.height) × (row V 0 ≡ row K 0))
-first_shown p A V K k some same =
-    let null = first_null p A K k some in (subst (IsNull p A) (sym same) null.0, λ e. null.1 (sym same ∙ e), (K, k, some, same))
+singular_shown p A V singular (K, kernel, first) =
+    let some = singular K kernel in
+    let null = first_null p A K kernel some in
+    (subst (IsNull p A) (sym (first some)) null.0, λ e. null.1 (sym (first some) ∙ e), (K, kernel, some, first some))
 
 -- what it is the form of, by an equal modulus and matrix
 pub form_same : (q p : ℕ) (M W : Matrix) (f : Form) → q ≡ p → M ≡ W → IsFormOf q M f → IsFormOf p W f

@@ -1,6 +1,8 @@
 -- What is told of the inverse of a square matrix.
-use Rattle.std.specs.Prelude.{◌≡◌, ◌≢◌, ◌<◌, ℕ}
+use Rattle.std.specs.Prelude.{◌≡◌, ◌≢◌, ◌<◌, ℕ, Option, Some, None}
+use Rattle.residue_words.specs.Residues.{IsPrime}
 use Rattle.residue_words.specs.Matrix.{Matrix, IsMatrix, row, zeros}
+use Rattle.sparse_rows.specs.Rows.{ResidueMatrix, beside, identity}
 use Rattle.row_space.specs.Inverse.{IsInverse}
 use Rattle.row_space.specs.Kernel.{IsKernel, IsNull}
 use Rattle.kernel_solve.specs.declared.outcome.Inverse.{Inverse}
@@ -13,9 +15,26 @@ Inverts p A (Singular v) =
     IsNull p A (row v.matrix 0) × (row v.matrix 0 ≢ zeros A.width)
     × ((K : Matrix) × IsKernel p A K × (0 < K.height) × (row v.matrix 0 ≡ row K 0))
 
--- residues modulo p, n rows and n columns or one row of n
+-- residues modulo p, n rows and n columns
+abbrev pub IsSquareOf : ℕ → ℕ → ResidueMatrix → Type 0
+IsSquareOf p n b = (b.modulus ≡ p) × IsMatrix p b.matrix × (b.matrix.height ≡ n) × (b.matrix.width ≡ n)
+
+-- the same, or one row of n
 abbrev pub HasInverseShape : ℕ → ℕ → Inverse → Type 0
-HasInverseShape p n (Of b) =
-    (b.modulus ≡ p) × IsMatrix p b.matrix × (b.matrix.height ≡ n) × (b.matrix.width ≡ n)
+HasInverseShape p n (Of b) = IsSquareOf p n b
 HasInverseShape p n (Singular v) =
     (v.modulus ≡ p) × IsMatrix p v.matrix × (v.matrix.height ≡ 1) × (v.matrix.width ≡ n)
+
+-- each kernel basis of A has a row
+abbrev pub IsSingular : ℕ → Matrix → Type 0
+IsSingular p A = (K : Matrix) → IsKernel p A K → 0 < K.height
+
+-- the inverse of A, or nothing where there is none
+abbrev pub TellsInverse : ℕ → Matrix → Option ResidueMatrix → Type 0
+TellsInverse p A (Some b) = IsInverse p A b.matrix
+TellsInverse p A None = IsSingular p A
+
+-- [A | I], or nothing, which for a prime modulus shows that A has no inverse
+abbrev pub IsDoubled : ResidueMatrix → Option ResidueMatrix → Type 0
+IsDoubled A (Some S) = (S.modulus ≡ A.modulus) × (S.matrix ≡ beside A.matrix (identity A.matrix.width))
+IsDoubled A None = IsPrime A.modulus → IsSingular A.modulus A.matrix

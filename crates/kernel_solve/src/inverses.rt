@@ -1,12 +1,12 @@
 // Inverses.
-ghost use Rattle.std.specs.Prelude.{◌≡◌, ◌<◌, ◌≤◌, ◌+◌, ◌*◌, ◌-◌, ◌↔◌, ℕ, length, slice_index, IfOk, OnOk, IsTrue};
+ghost use Rattle.std.specs.Prelude.{◌≡◌, ◌<◌, ◌≤◌, ◌+◌, ◌*◌, ◌-◌, ◌↔◌, ℕ, length, slice_index, IfOk, IfSome, OnOk, IsTrue};
 ghost use Rattle.residue_words.specs.Residues.{IsPrime};
 ghost use Rattle.residue_words.specs.Matrix.{Matrix, IsMatrix, entry, list_of, row};
 ghost use Rattle.sparse_rows.specs.declared.rows.TheConstants.{LARGEST_SIZE};
 ghost use Rattle.sparse_rows.specs.Rows.{beside, identity, matrix_by};
 ghost use Rattle.row_space.specs.Kernel.{IsKernel};
 ghost use Rattle.echelon_form.specs.Form.{IsFormOf};
-ghost use Rattle.kernel_solve.specs.Inverted.{HasInverseShape, Inverts};
+ghost use Rattle.kernel_solve.specs.Inverted.{HasInverseShape, Inverts, IsDoubled, IsSquareOf, TellsInverse};
 ghost use Rattle.kernel_solve.specs.ReadOff.{IsFree};
 
 use crate::bases::write_basis_row;
@@ -18,7 +18,8 @@ use std::alloc::{AllocError, Global};
 use std::thread::Threads;
 
 /// The inverse of a square matrix A of at most 2^30 rows, or the first row of its kernel basis. It is read off the
-/// echelon form of [A | I] (the method of Gauss and Jordan), and where A has no inverse off that of A.
+/// echelon form of [A | I] (the method of Gauss and Jordan), and where A has no inverse off that of A. A caller who makes
+/// the forms by another way calls `doubled`, `inverse_in` and `null_row`.
 pub fn inverse<R: Threads + Sync>(
     rt: &R,
     alloc: Global,
@@ -33,37 +34,72 @@ pub fn inverse<R: Threads + Sync>(
     ensures inverse { IfOk result (λ found.
         IsPrime a.now.modulus → Inverts a.now.modulus a.now.matrix found) }
 {
-    let n = a.height();
-    // With fewer entries than rows there is a row of zeros: no I of 2^30 rows is made for a matrix of few entries.
-    if a.entries() < u64::from(n) {
-        return Ok(Inverse::Singular(null_row(rt, alloc, a, workers)?));
+    match inverse_of(rt, alloc, a, workers)? {
+        Some(b) => Ok(Inverse::Of(b)),
+        None => {
+            let form = Echelon::of(rt, alloc, a, workers)?;
+            let v = null_row(alloc, &form)?;
+            Ok(Inverse::Singular(v))
+        }
     }
-    let form = form_beside_identity(rt, alloc, a, workers)?;
-    if fills(form.leads(), n) {
-        return Ok(Inverse::Of(right_half(alloc, form.rows(), n)?));
-    }
-    drop(form);
-    Ok(Inverse::Singular(null_row(rt, alloc, a, workers)?))
 }
 
-// The echelon form of [A | I].
-fn form_beside_identity<R: Threads + Sync>(
+// The inverse, if there is one.
+fn inverse_of<R: Threads + Sync>(
     rt: &R,
     alloc: Global,
     a: &Rows,
     workers: u32,
-) -> Result<Echelon, AllocError>
+) -> Result<Option<Rows>, AllocError>
     requires square { a.now.matrix.height ≡ a.now.matrix.width }
     requires small { 2 * a.now.matrix.width ≤ LARGEST_SIZE }
     requires some { 1 ≤ workers }
     requires few { workers ≤ 64 }
-    ensures { IfOk result (IsFormOf a.now.modulus (beside a.now.matrix (identity a.now.matrix.width))) }
+    ensures shape { IfOk result (λ found. IfSome found (IsSquareOf a.now.modulus a.now.matrix.width)) }
+    ensures tells { IfOk result (λ found. IsPrime a.now.modulus → TellsInverse a.now.modulus a.now.matrix found) }
 {
-    let modulus = a.modulus();
-    let identity = Rows::identity(alloc, a.width(), &modulus)?;
+    // The call's contract tells that the entries are residues.
+    let _ = a.height();
+    let Some(both) = doubled(alloc, a)? else {
+        return Ok(None);
+    };
+    let form = Echelon::of(rt, alloc, &both, workers)?;
+    drop(both);
+    let found = inverse_in(alloc, &form, a.width())?;
+    Ok(found)
+}
+
+/// [A | I] for a square matrix A of at most 2^30 rows; None where A has fewer entries than rows, and so no inverse for a
+/// prime modulus. In time proportional to the entries and the rows.
+pub fn doubled(alloc: Global, a: &Rows) -> Result<Option<Rows>, AllocError>
+    requires square { a.now.matrix.height ≡ a.now.matrix.width }
+    requires small { 2 * a.now.matrix.width ≤ LARGEST_SIZE }
+    ensures { IfOk result (IsDoubled a.now) }
+{
+    // With fewer entries than rows there is a row of zeros: no I of 2^30 rows is made for a matrix of few entries.
+    if a.entries() < u64::from(a.height()) {
+        return Ok(None);
+    }
+    let identity = Rows::identity(alloc, a.width(), &a.modulus())?;
     let both = a.beside(alloc, &identity)?;
-    drop(identity);
-    Echelon::of(rt, alloc, &both, workers)
+    Ok(Some(both))
+}
+
+/// The inverse of a matrix A of n rows and columns by the form of [A | I], if there is one. Beyond the form it takes time
+/// proportional to its entries.
+pub fn inverse_in(alloc: Global, form: &Echelon, n: u32) -> Result<Option<Rows>, AllocError>
+    requires { form.now.matrix.width ≡ n + n }
+    ensures shape { IfOk result (λ found. IfSome found (IsSquareOf form.now.modulus n)) }
+    ensures tells { IfOk result (λ found. (p : ℕ) (A : Matrix) → IsPrime p → IsMatrix p A → A.height ≡ n → A.width ≡ n
+        → IsFormOf p (beside A (identity n)) form.now → TellsInverse p A found) }
+{
+    // The calls' contracts tell how wide a matrix of residues is.
+    let _ = (form.rows().width(), form.rank());
+    if fills(form.leads(), n) {
+        let half = right_half(alloc, form.rows(), n)?;
+        return Ok(Some(half));
+    }
+    Ok(None)
 }
 
 // Whether these are n leads, all of them below n: the last is.
@@ -113,24 +149,19 @@ fn copy_right_half(rows: &Rows, i: u32, n: u32, to: &mut Sparse) -> Result<(), A
     Ok(())
 }
 
-// The first row of the kernel basis, as a matrix; a zero row where there is none.
-fn null_row<R: Threads + Sync>(
-    rt: &R,
-    alloc: Global,
-    a: &Rows,
-    workers: u32,
-) -> Result<Rows, AllocError>
-    requires some { 1 ≤ workers }
-    requires few { workers ≤ 64 }
-    ensures modulus { IfOk result (λ v. v.modulus ≡ a.now.modulus) }
+/// The first row of the kernel basis of the matrix that this is the form of, as a matrix; a zero row where there is none.
+/// Beyond the form it takes the time of a search in each of its rows.
+pub fn null_row(alloc: Global, form: &Echelon) -> Result<Rows, AllocError>
+    ensures modulus { IfOk result (λ v. v.modulus ≡ form.now.modulus) }
     ensures sound { IfOk result (λ v. IsMatrix v.modulus v.matrix) }
     ensures height { IfOk result (λ v. v.matrix.height ≡ 1) }
-    ensures width { IfOk result (λ v. v.matrix.width ≡ a.now.matrix.width) }
-    ensures first { IfOk result (λ v. IsPrime a.now.modulus
-        → (K : Matrix) × IsKernel a.now.modulus a.now.matrix K × (0 < K.height → row v.matrix 0 ≡ row K 0)) }
+    ensures width { IfOk result (λ v. v.matrix.width ≡ form.now.matrix.width) }
+    ensures first { IfOk result (λ v. (p : ℕ) (A : Matrix) → IsPrime p → IsFormOf p A form.now
+        → (K : Matrix) × IsKernel p A K × (0 < K.height → row v.matrix 0 ≡ row K 0)) }
 {
-    let form = Echelon::of(rt, alloc, a, workers)?;
-    let first = first_basis_row(alloc, &form)?;
+    // The call's contract tells how wide a matrix is.
+    let _ = form.rows().width();
+    let first = first_basis_row(alloc, form)?;
     let row = one_row(alloc, &first)?;
     Ok(row)
 }

@@ -16,7 +16,7 @@ mod systems;
 mod tests;
 
 pub use bases::{kernel, left_kernel};
-pub use inverses::inverse;
+pub use inverses::{doubled, inverse, inverse_in, null_row};
 pub use outcome::Inverse;
 pub use prepared::{Prepared, Reply};
 pub use refutations::{first_hit_refutes, unsolvable_is_hit};
