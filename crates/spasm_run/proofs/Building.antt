@@ -12,7 +12,7 @@ use Rattle.clap.specs.declared.builder.command.Command.TheViews.{out-Command as 
 use Rattle.spasm_run.specs.Options.{IsBareTask}
 use Rattle.spasm_run.specs.Line.{no_commands, command_named, option_rule, with_options}
 use Rattle.spasm_run.specs.declared.words.Task.{Task}
-use Rattle.spasm_run.specs.declared.words.Task.TheVariants.{Rank, Rref, Kernel, Solve, LeftKernel, Inverse, Pivots, Check, Drill, Certify}
+use Rattle.spasm_run.specs.declared.words.Task.TheVariants.{Rank, Rref, Kernel, Solve, LeftKernel, Inverse, Pivots, Check, Trace, Replay, Grow, Drill, Certify}
 
 -- ---- the options of a command
 
@@ -89,15 +89,18 @@ named_at (p ∷ ps) (suc i) d lt t = named_at ps i d (omega arith) t.1
 abbrev pub IsNoneOf : Text → List Named → ℕ → Type 0
 IsNoneOf name items i = (k : ℕ) → k < i → (d : Named) → (slice_index_or items k d).0.now ≢ name
 
-pub no_bare_task : (w : Text) → codes "rank" ≢ w → codes "rref" ≢ w → codes "kernel" ≢ w → codes "solve" ≢ w → codes "leftkernel" ≢ w → codes "inverse" ≢ w → codes "pivots" ≢ w → codes "check" ≢ w
+pub no_bare_task : (w : Text) → codes "rank" ≢ w → codes "rref" ≢ w → codes "kernel" ≢ w → codes "solve" ≢ w → codes "leftkernel" ≢ w → codes "inverse" ≢ w → codes "pivots" ≢ w → codes "check" ≢ w → codes "trace" ≢ w → codes "replay" ≢ w → codes "grow" ≢ w
     → (t : Task) → ¬ IsBareTask w t
-no_bare_task w h1 h2 h3 h4 h5 h6 h7 h8 Rank (e, own) = h1 (sym e)
-no_bare_task w h1 h2 h3 h4 h5 h6 h7 h8 Rref (e, own) = h2 (sym e)
-no_bare_task w h1 h2 h3 h4 h5 h6 h7 h8 Kernel (e, own) = h3 (sym e)
-no_bare_task w h1 h2 h3 h4 h5 h6 h7 h8 Solve (e, own) = h4 (sym e)
-no_bare_task w h1 h2 h3 h4 h5 h6 h7 h8 LeftKernel (e, own) = h5 (sym e)
-no_bare_task w h1 h2 h3 h4 h5 h6 h7 h8 Inverse (e, own) = h6 (sym e)
-no_bare_task w h1 h2 h3 h4 h5 h6 h7 h8 Pivots (e, own) = h7 (sym e)
-no_bare_task w h1 h2 h3 h4 h5 h6 h7 h8 Check (e, own) = h8 (sym e)
-no_bare_task w h1 h2 h3 h4 h5 h6 h7 h8 (Drill g) (e, own) = absurd cc
-no_bare_task w h1 h2 h3 h4 h5 h6 h7 h8 (Certify k) (e, own) = absurd cc
+no_bare_task w h1 h2 h3 h4 h5 h6 h7 h8 h9 h10 h11 Rank (e, own) = h1 (sym e)
+no_bare_task w h1 h2 h3 h4 h5 h6 h7 h8 h9 h10 h11 Rref (e, own) = h2 (sym e)
+no_bare_task w h1 h2 h3 h4 h5 h6 h7 h8 h9 h10 h11 Kernel (e, own) = h3 (sym e)
+no_bare_task w h1 h2 h3 h4 h5 h6 h7 h8 h9 h10 h11 Solve (e, own) = h4 (sym e)
+no_bare_task w h1 h2 h3 h4 h5 h6 h7 h8 h9 h10 h11 LeftKernel (e, own) = h5 (sym e)
+no_bare_task w h1 h2 h3 h4 h5 h6 h7 h8 h9 h10 h11 Inverse (e, own) = h6 (sym e)
+no_bare_task w h1 h2 h3 h4 h5 h6 h7 h8 h9 h10 h11 Pivots (e, own) = h7 (sym e)
+no_bare_task w h1 h2 h3 h4 h5 h6 h7 h8 h9 h10 h11 Check (e, own) = h8 (sym e)
+no_bare_task w h1 h2 h3 h4 h5 h6 h7 h8 h9 h10 h11 Trace (e, own) = h9 (sym e)
+no_bare_task w h1 h2 h3 h4 h5 h6 h7 h8 h9 h10 h11 Replay (e, own) = h10 (sym e)
+no_bare_task w h1 h2 h3 h4 h5 h6 h7 h8 h9 h10 h11 Grow (e, own) = h11 (sym e)
+no_bare_task w h1 h2 h3 h4 h5 h6 h7 h8 h9 h10 h11 (Drill g) (e, own) = absurd cc
+no_bare_task w h1 h2 h3 h4 h5 h6 h7 h8 h9 h10 h11 (Certify k) (e, own) = absurd cc

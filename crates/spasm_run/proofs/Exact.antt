@@ -19,7 +19,7 @@ use Rattle.certificates.specs.declared.certificate.CertKind.{CertKind}
 use Rattle.certificates.specs.declared.certificate.CertKind.TheVariants as kind
 use Rattle.spasm_run.specs.declared.words.Command.{Command}
 use Rattle.spasm_run.specs.declared.words.Task.{Task}
-use Rattle.spasm_run.specs.declared.words.Task.TheVariants.{Rank, Rref, Kernel, Solve, LeftKernel, Inverse, Pivots, Check, Drill, Certify}
+use Rattle.spasm_run.specs.declared.words.Task.TheVariants.{Rank, Rref, Kernel, Solve, LeftKernel, Inverse, Pivots, Check, Trace, Replay, Grow, Drill, Certify}
 use Rattle.spasm_run.proofs.Accepting.{differ, fits_first, fits_known, first_of_list, known_fits, later_in_list, rows_set, set_rows}
 use Rattle.spasm_run.proofs.Program.{fault_at, first_is_named, subcommand_at, task_names, tasks}
 use Rattle.spasm_run.proofs.Reading.{ArePlain, Fits, IsName, IsPlainValue, NoDashes, apart_dashes, joined_dashes, level_passes, passes_level, passes_reads, reads_passes, row_of_given}
@@ -128,6 +128,9 @@ are_names LeftKernel = each_name (task_names LeftKernel) refl
 are_names Inverse = each_name (task_names Inverse) refl
 are_names Pivots = each_name (task_names Pivots) refl
 are_names Check = each_name (task_names Check) refl
+are_names Trace = each_name (task_names Trace) refl
+are_names Replay = each_name (task_names Replay) refl
+are_names Grow = each_name (task_names Grow) refl
 are_names (Drill g) = each_name (task_names (Drill g)) refl
 are_names (Certify k) = each_name (task_names (Certify k)) refl
 
@@ -152,6 +155,9 @@ own_values_plain LeftKernel = refl
 own_values_plain Inverse = refl
 own_values_plain Pivots = refl
 own_values_plain Check = refl
+own_values_plain Trace = refl
+own_values_plain Replay = refl
+own_values_plain Grow = refl
 own_values_plain (Drill g) = refl
 own_values_plain (Certify k) = refl
 
@@ -181,6 +187,9 @@ task_dashes LeftKernel = refl
 task_dashes Inverse = refl
 task_dashes Pivots = refl
 task_dashes Check = refl
+task_dashes Trace = refl
+task_dashes Replay = refl
+task_dashes Grow = refl
 task_dashes (Drill g) = refl
 task_dashes (Certify k) = refl
 
@@ -270,6 +279,9 @@ own_names_of LeftKernel = refl
 own_names_of Inverse = refl
 own_names_of Pivots = refl
 own_names_of Check = refl
+own_names_of Trace = refl
+own_names_of Replay = refl
+own_names_of Grow = refl
 own_names_of (Drill g) = refl
 own_names_of (Certify k) = refl
 
@@ -320,6 +332,9 @@ rules_for c = go c.task
     go Inverse = refl
     go Pivots = refl
     go Check = refl
+    go Trace = refl
+    go Replay = refl
+    go Grow = refl
     go (Drill g) = refl
     go (Certify k) = refl
 
@@ -346,6 +361,9 @@ decoded_task LeftKernel = refl
 decoded_task Inverse = refl
 decoded_task Pivots = refl
 decoded_task Check = refl
+decoded_task Trace = refl
+decoded_task Replay = refl
+decoded_task Grow = refl
 decoded_task (Drill g) = refl
 decoded_task (Certify kind.Rank) = refl
 decoded_task (Certify kind.Rref) = refl

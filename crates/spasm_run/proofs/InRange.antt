@@ -5,7 +5,7 @@ use Rattle.residue_words.specs.declared.modulus.TheConstants.{MODULUS_BOUND}
 use Rattle.spasm_run.specs.declared.generator.TheConstants.{LARGEST_GENERATED}
 use Rattle.spasm_run.specs.declared.words.Command.{Command}
 use Rattle.spasm_run.specs.declared.words.Task.{Task}
-use Rattle.spasm_run.specs.declared.words.Task.TheVariants.{Rank, Rref, Kernel, Solve, LeftKernel, Inverse, Pivots, Check, Drill, Certify}
+use Rattle.spasm_run.specs.declared.words.Task.TheVariants.{Rank, Rref, Kernel, Solve, LeftKernel, Inverse, Pivots, Check, Trace, Replay, Grow, Drill, Certify}
 use Rattle.spasm_run.specs.Computed.{IsOfSizes}
 use Rattle.spasm_run.specs.Words.{Accepted, Given, InRange, IsNumber, IsSetBy, Rule, cols_rule, modulus_rule, own_settings, rows_rule, setting, workers_rule}
 
@@ -44,6 +44,9 @@ own_sizes options LeftKernel set = tt
 own_sizes options Inverse set = tt
 own_sizes options Pivots set = tt
 own_sizes options Check set = tt
+own_sizes options Trace set = tt
+own_sizes options Replay set = tt
+own_sizes options Grow set = tt
 own_sizes options (Drill g) set =
     let rows = set 1 (setting rows_rule 0) (omega arith) in
     let cols = set 2 (setting cols_rule 0) (omega arith) in

@@ -20,7 +20,7 @@ use Rattle.spasm_run.specs.Words.{IsNumber, IsValue, Rule, Setting, cols_rule, m
 use Rattle.certificates.specs.declared.certificate.CertKind.{CertKind}
 use Rattle.spasm_run.specs.declared.generator.Generator.{Generator}
 use Rattle.spasm_run.specs.declared.words.Task.{Task}
-use Rattle.spasm_run.specs.declared.words.Task.TheVariants.{Rank, Rref, Kernel, Solve, LeftKernel, Inverse, Pivots, Check, Drill, Certify}
+use Rattle.spasm_run.specs.declared.words.Task.TheVariants.{Rank, Rref, Kernel, Solve, LeftKernel, Inverse, Pivots, Check, Trace, Replay, Grow, Drill, Certify}
 use Rattle.spasm_run.specs.declared.words.Command.{Command}
 use Rattle.spasm_run.proofs.Accepting.{differ}
 use Rattle.spasm_run.proofs.Program.{line_is_simple}
@@ -128,6 +128,9 @@ no_drill name rows e h LeftKernel (n, all) = differ (codes "drill") (codes "left
 no_drill name rows e h Inverse (n, all) = differ (codes "drill") (codes "inverse") refl (sym e ∙ n)
 no_drill name rows e h Pivots (n, all) = differ (codes "drill") (codes "pivots") refl (sym e ∙ n)
 no_drill name rows e h Check (n, all) = differ (codes "drill") (codes "check") refl (sym e ∙ n)
+no_drill name rows e h Trace (n, all) = differ (codes "drill") (codes "trace") refl (sym e ∙ n)
+no_drill name rows e h Replay (n, all) = differ (codes "drill") (codes "replay") refl (sym e ∙ n)
+no_drill name rows e h Grow (n, all) = differ (codes "drill") (codes "grow") refl (sym e ∙ n)
 no_drill name rows e h (Drill g) (n, all) = h g all
 no_drill name rows e h (Certify k) (n, all) = differ (codes "drill") (codes "certify") refl (sym e ∙ n)
 
@@ -140,6 +143,9 @@ no_certify name rows e h LeftKernel (n, all) = differ (codes "certify") (codes "
 no_certify name rows e h Inverse (n, all) = differ (codes "certify") (codes "inverse") refl (sym e ∙ n)
 no_certify name rows e h Pivots (n, all) = differ (codes "certify") (codes "pivots") refl (sym e ∙ n)
 no_certify name rows e h Check (n, all) = differ (codes "certify") (codes "check") refl (sym e ∙ n)
+no_certify name rows e h Trace (n, all) = differ (codes "certify") (codes "trace") refl (sym e ∙ n)
+no_certify name rows e h Replay (n, all) = differ (codes "certify") (codes "replay") refl (sym e ∙ n)
+no_certify name rows e h Grow (n, all) = differ (codes "certify") (codes "grow") refl (sym e ∙ n)
 no_certify name rows e h (Drill g) (n, all) = differ (codes "certify") (codes "drill") refl (sym e ∙ n)
 no_certify name rows e h (Certify k) (n, all) = h k all
 

@@ -16,7 +16,7 @@ use Rattle.spasm_run.specs.Words.{names_of, own_settings, task_name}
 use Rattle.spasm_run.specs.Line.{command_line, commands, option_names}
 use Rattle.spasm_run.specs.declared.generator.Generator.{Generator}
 use Rattle.spasm_run.specs.declared.words.Task.{Task}
-use Rattle.spasm_run.specs.declared.words.Task.TheVariants.{Rank, Rref, Kernel, Solve, LeftKernel, Inverse, Pivots, Check, Drill, Certify}
+use Rattle.spasm_run.specs.declared.words.Task.TheVariants.{Rank, Rref, Kernel, Solve, LeftKernel, Inverse, Pivots, Check, Trace, Replay, Grow, Drill, Certify}
 use Rattle.spasm_run.proofs.Spelled.{Spelled, Joined, Apart, Other, spelled_as}
 use Rattle.spasm_run.proofs.Walks.{Refused, AsPlain, command_of, flags_of, none_first, rules_of}
 
@@ -29,7 +29,7 @@ abbrev anything : Generator
 anything = record { seed = 0; rows = 0; cols = 0; per = 0 }
 
 abbrev pub tasks : List Task
-tasks = Rank ∷ Rref ∷ Kernel ∷ Solve ∷ LeftKernel ∷ Inverse ∷ Pivots ∷ Check ∷ Drill anything ∷ Certify kind.Rank ∷ []
+tasks = Rank ∷ Rref ∷ Kernel ∷ Solve ∷ LeftKernel ∷ Inverse ∷ Pivots ∷ Check ∷ Trace ∷ Replay ∷ Grow ∷ Drill anything ∷ Certify kind.Rank ∷ []
 
 -- the program as building leaves it
 abbrev top : Shape
@@ -80,6 +80,9 @@ met LeftKernel = refl
 met Inverse = refl
 met Pivots = refl
 met Check = refl
+met Trace = refl
+met Replay = refl
+met Grow = refl
 met (Drill g) = refl
 met (Certify k) = refl
 
@@ -92,6 +95,9 @@ met_turn LeftKernel = refl
 met_turn Inverse = refl
 met_turn Pivots = refl
 met_turn Check = refl
+met_turn Trace = refl
+met_turn Replay = refl
+met_turn Grow = refl
 met_turn (Drill g) = refl
 met_turn (Certify k) = refl
 
@@ -104,6 +110,9 @@ entered_task LeftKernel rest = refl
 entered_task Inverse rest = refl
 entered_task Pivots rest = refl
 entered_task Check rest = refl
+entered_task Trace rest = refl
+entered_task Replay rest = refl
+entered_task Grow rest = refl
 entered_task (Drill g) rest = refl
 entered_task (Certify k) rest = refl
 
@@ -116,6 +125,9 @@ fault_below LeftKernel rest = refl
 fault_below Inverse rest = refl
 fault_below Pivots rest = refl
 fault_below Check rest = refl
+fault_below Trace rest = refl
+fault_below Replay rest = refl
+fault_below Grow rest = refl
 fault_below (Drill g) rest = refl
 fault_below (Certify k) rest = refl
 

@@ -13,7 +13,7 @@ use Rattle.row_space.specs.Kernel.{IsKernel}
 use Rattle.row_space.specs.Solution.{IsReducedSolution, IsRefutingCombination, IsSolution}
 use Rattle.kernel_solve.specs.Column.{column, column_matrix}
 use Rattle.sms_text.specs.OuterLines as form
-use Rattle.sms_text.specs.Text.{Due, Header, Outer}
+use Rattle.sms_text.specs.Text.{Due, Header, Outer, Scripted}
 use Rattle.sms_text.specs.Written.{pair_lines, text_of}
 use Rattle.sparse_rows.specs.Rows.{transposed}
 use Rattle.pluq_factor.specs.Staged.{Staged}
@@ -24,14 +24,17 @@ use Rattle.spasm_run.specs.declared.status.Status.{Status}
 use Rattle.spasm_run.specs.declared.status.Status.TheVariants.{Done, No, Shape, Wide}
 use Rattle.spasm_run.specs.declared.words.Command.{Command}
 use Rattle.spasm_run.specs.declared.words.Task.{Task}
-use Rattle.spasm_run.specs.declared.words.Task.TheVariants.{Rank, Rref, Kernel, Solve, LeftKernel, Inverse, Pivots, Check, Drill, Certify}
+use Rattle.spasm_run.specs.declared.words.Task.TheVariants.{Rank, Rref, Kernel, Solve, LeftKernel, Inverse, Pivots, Check, Trace, Replay, Grow, Drill, Certify}
 use Rattle.spasm_run.specs.Contents.{Contents, IsCertified}
 use Rattle.spasm_run.specs.Generator.{generated, summary_of}
 
--- the lines that are due at first: the headers of the matrices that are read, and the first line of a certificate
+-- the lines that are due at first: the headers of the matrices that are read, and the first line of a certificate or of a trace; the header
+-- of a matrix behind which a script comes
 abbrev pub wanted : Task → List Due
 wanted Solve = Header ∷ Header ∷ []
 wanted Check = Header ∷ Outer form.Certificate ∷ []
+wanted Replay = Header ∷ Outer form.Trace ∷ []
+wanted Grow = Scripted ∷ []
 wanted (Drill g) = []
 wanted task = Header ∷ []
 

@@ -12,7 +12,7 @@ option_names = codes "modulus" ∷ codes "workers" ∷ codes "rounds" ∷ []
 abbrev pub commands : List (List ℕ × List (List ℕ))
 commands =
     (codes "rank", []) ∷ (codes "rref", []) ∷ (codes "kernel", []) ∷ (codes "solve", []) ∷ (codes "leftkernel", [])
-    ∷ (codes "inverse", []) ∷ (codes "pivots", []) ∷ (codes "check", [])
+    ∷ (codes "inverse", []) ∷ (codes "pivots", []) ∷ (codes "check", []) ∷ (codes "trace", []) ∷ (codes "replay", []) ∷ (codes "grow", [])
     ∷ (codes "drill", codes "seed" ∷ codes "rows" ∷ codes "cols" ∷ codes "per" ∷ []) ∷ (codes "certify", codes "kind" ∷ []) ∷ []
 
 -- an option that takes one value

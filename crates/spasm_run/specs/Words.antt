@@ -10,7 +10,7 @@ use Rattle.certificates.specs.CertificateText.{kind_word}
 use Rattle.spasm_run.specs.declared.generator.TheConstants.{LARGEST_GENERATED, MOST_PER_ROW}
 use Rattle.spasm_run.specs.declared.words.Command.{Command}
 use Rattle.spasm_run.specs.declared.words.Task.{Task}
-use Rattle.spasm_run.specs.declared.words.Task.TheVariants.{Rank, Rref, Kernel, Solve, LeftKernel, Inverse, Pivots, Check, Drill, Certify}
+use Rattle.spasm_run.specs.declared.words.Task.TheVariants.{Rank, Rref, Kernel, Solve, LeftKernel, Inverse, Pivots, Check, Trace, Replay, Grow, Drill, Certify}
 
 -- the name of a command, its first word
 abbrev pub task_name : Task → List ℕ
@@ -22,6 +22,9 @@ task_name LeftKernel = codes "leftkernel"
 task_name Inverse = codes "inverse"
 task_name Pivots = codes "pivots"
 task_name Check = codes "check"
+task_name Trace = codes "trace"
+task_name Replay = codes "replay"
+task_name Grow = codes "grow"
 task_name (Drill g) = codes "drill"
 task_name (Certify k) = codes "certify"
 

@@ -187,6 +187,7 @@ fn find_for<R: Threads + Sync, S: Source, G: Gate>(
             let (a, certificate) = read_to_check(alloc, &p, source, limit)?;
             find_verdict(alloc, &a, &certificate)
         }
+        Task::Trace | Task::Replay | Task::Grow => Err(Status::Memory),
         Task::Drill(generator) => find_summary(rt, alloc, &p, &generator, command),
         Task::Certify(kind) => {
             let a = read_one(alloc, &p, source, limit)?;

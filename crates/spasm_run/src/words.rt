@@ -38,6 +38,12 @@ pub enum Task {
     Pivots,
     /// Whether a certificate is valid for a matrix.
     Check,
+    /// The structural pivots of a matrix in order of publication, each with how long a list it was chosen against.
+    Trace,
+    /// Whether a trace is lawful for a matrix.
+    Replay,
+    /// The answers to a script that appends rows to a matrix and asks of them.
+    Grow,
     /// A summary of the echelon form of a matrix that is generated.
     Drill(Generator),
     /// A certificate of a matrix.

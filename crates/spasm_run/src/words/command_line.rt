@@ -10,7 +10,7 @@ use clap::{Arg, ArgAction};
 use std::alloc::{AllocError, Global};
 
 // The commands without options of their own: each one's name, with what it asks for.
-static TASKS: [(&str, Task); 8] = [
+static TASKS: [(&str, Task); 11] = [
     ("rank", Task::Rank),
     ("rref", Task::Rref),
     ("kernel", Task::Kernel),
@@ -19,6 +19,9 @@ static TASKS: [(&str, Task); 8] = [
     ("inverse", Task::Inverse),
     ("pivots", Task::Pivots),
     ("check", Task::Check),
+    ("trace", Task::Trace),
+    ("replay", Task::Replay),
+    ("grow", Task::Grow),
 ];
 
 // The names of the options that each command has.

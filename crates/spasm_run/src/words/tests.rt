@@ -48,6 +48,9 @@ const ACCEPTED: &[(&[&str], Task, u64, u32, u32)] = &[
     (&["inverse"], Task::Inverse, 42_013, 1, 3),
     (&["pivots", "--workers=64"], Task::Pivots, 42_013, 64, 3),
     (&["check", "--modulus=7"], Task::Check, 7, 1, 3),
+    (&["trace", "--workers", "2"], Task::Trace, 42_013, 2, 3),
+    (&["replay", "--modulus=7"], Task::Replay, 7, 1, 3),
+    (&["grow", "--rounds=0"], Task::Grow, 42_013, 1, 0),
     (
         &["certify", "--kind", "rank"],
         Task::Certify(CertKind::Rank),

@@ -3,7 +3,7 @@ use Rattle.std.proofs.Common.{[], ◌∷◌, subst, sym}
 use Rattle.certificates.specs.Certificate.{IsFormed}
 use Rattle.spasm_run.specs.declared.words.Task.TheVariants as task
 use Rattle.spasm_run.specs.Contents.{matrices_alone}
-use Rattle.spasm_run.proofs.Whole.{found_generated, found_given, found_unread}
+use Rattle.spasm_run.proofs.Whole.{found_generated, found_given, found_memory, found_unread}
 use Rattle.spasm_run.proofs.running.find_for.Goals as goal
 
 pub returns-in_ok-read_one-in-Rank-clause-found : goal.returns-in_ok-read_one-in-Rank-clause-found
@@ -96,3 +96,6 @@ returns-in_ok-a-in-Certify-clause-found g c = λ words accepted.
 pub returns-in_err-a-in-Certify-clause-found : goal.returns-in_err-a-in-Certify-clause-found
 returns-in_err-a-in-Certify-clause-found g c = λ words accepted.
     found_unread words c.args.command (task.Certify c.in-Certify.kind) c.new-p.result c.args.limit _ _ c.in_err-a-in-Certify.field-0.0 _ c.in-Certify.is c.new-p.ensures c.from_residual-in_err-a-in-Certify.ensures.1 accepted c.in_err-a-in-Certify.ensures.did
+
+pub returns-in-Trace-clause-found : goal.returns-in-Trace-clause-found
+returns-in-Trace-clause-found g c = λ words accepted. found_memory words c.args.limit _
