@@ -13,6 +13,7 @@ use Rattle.sparse_rows.specs.declared.rows.TheConstants.{LARGEST_SIZE}
 use Rattle.residue_words.specs.declared.modulus.TheConstants.{MODULUS_BOUND}
 use Rattle.echelon_form.specs.Form.{Form, IsFormOf}
 use Rattle.dense_finish.specs.declared.factors.Factors.{Factors}
+use Rattle.pluq_factor.specs.Basis.{IsBasis}
 use Rattle.pluq_factor.specs.Rounds.{AreFactorsOf}
 use Rattle.pluq_factor.specs.Staged.{Staged}
 use Rattle.certificates.specs.declared.certificate.CertKind.{CertKind}
@@ -29,6 +30,7 @@ use Rattle.row_space.proofs.Counting.{spanned_back}
 use Rattle.row_space.proofs.FactorLaws.{rank_of_factors}
 use Rattle.row_space.proofs.Spans.{place_coefficient, places_independent}
 use Rattle.row_space.proofs.Unique.{rank_unique}
+use Rattle.pluq_factor.proofs.Bases.{factor_rows_independent, factor_rows_span}
 
 module _ (p : ℕ) (A : Matrix) (m : IsMatrix p A) (pivots : List Pair) (L U : Matrix) (prime : IsPrime p) (f : AreFactors p A pivots L U) where
   -- the echelon form has a row for each pivot
@@ -102,6 +104,15 @@ kernel_claimed p A e K m narrow is modulus wide high basis = record {
   has = modulus ∙ is.modulus;
   fits = (omega (arith, high, is.width), omega (arith, wide, is.width));
   shows = λ pivots L U prime f. kernel_shown p A m pivots L U prime f e.matrix K.matrix (is.rref prime) (basis p A prime is) (omega (arith, high, is.width));
+}
+
+-- the right factor shows the row space
+pub factors_show_rows : {p : ℕ} {A : Matrix} {f : Factors} → IsMatrix p A → AreFactorsOf p A f → IsBasis p A f.u
+factors_show_rows {p} {A} {f} m h = record {
+  modulus = h.right_modulus;
+  width = h.sizes.right_width;
+  independent = λ prime. factor_rows_independent prime m (h.factors prime);
+  span = λ prime. factor_rows_span prime m (h.factors prime);
 }
 
 -- ---- the answer

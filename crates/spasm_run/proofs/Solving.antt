@@ -5,19 +5,19 @@ use Rattle.std.proofs.lemmas.Bool.Decides.{nat_tests}
 use Rattle.residue_words.specs.Residues.{IsPrime}
 use Rattle.residue_words.specs.Matrix.{Matrix, IsMatrix, IsVector, entry, row}
 use Rattle.residue_words.proofs.Vectors.{at_list_of, entry_matrix_of, entry_residue, is_matrix_of, length_list_of, matrix_equal}
+use Rattle.row_space.specs.Inverse.{IsInverse}
 use Rattle.row_space.specs.Laws.{InverseExcludesNull, RefutingIsSolvable, RefutingSystem, RefutingSystemIs}
 use Rattle.row_space.specs.Solution.{IsRefutingCombination, IsSolution, refuting_rows, refuting_side}
 use Rattle.row_space.proofs.Refuting.{refuting_matrix, side_vector}
 use Rattle.sms_text.specs.Written.{text_of}
 use Rattle.sparse_rows.specs.Rows.{ResidueMatrix, beside, matrix_by, transposed}
 use Rattle.sparse_rows.specs.Stored.{with_row}
-use Rattle.kernel_solve.specs.declared.outcome.Inverse.{Inverse}
 use Rattle.kernel_solve.specs.declared.outcome.Inverse.TheVariants.{Singular}
 use Rattle.kernel_solve.specs.declared.systems.Found.{Found}
 use Rattle.kernel_solve.specs.declared.systems.Found.TheVariants.{Solution, Inconsistent}
 use Rattle.kernel_solve.specs.Column.{column, column_matrix}
 use Rattle.kernel_solve.specs.Found.{Answers, HasShape}
-use Rattle.kernel_solve.specs.Inverted.{HasInverseShape, Inverts}
+use Rattle.kernel_solve.specs.Inverted.{HasInverseShape, Inverts, IsSquareOf}
 use Rattle.kernel_solve.proofs.Matrices.{column_again, column_is_matrix, column_vector, one_item}
 use Rattle.spasm_run.specs.declared.answer.Answer.TheVariants as answer
 use Rattle.spasm_run.specs.declared.words.Task.TheVariants as task
@@ -123,27 +123,36 @@ module _ (p : ℕ) (A B : Matrix) (ma : IsMatrix p A) (mb : IsMatrix p B) (heigh
         inr (row y.matrix 0, none, refutes prime none, ap (λ Y. codes "no solution\n" ++ text_of Y) one_row);
   }
 
+-- a matrix that is square and not too large is of the shape that is wanted
+inverse_fits : (A : Matrix) → A.height ≡ A.width → A.height ≤ LARGEST_INVERTED → misfit task.Inverse (A ∷ []) ≡ None
+inverse_fits A square narrow = grind (arith, nat_tests)
+
+pub inverse_answers : (c : Command) (p : ℕ) (A : Matrix) (b : ResidueMatrix) → A.height ≡ A.width → A.height ≤ LARGEST_INVERTED → IsSquareOf p A.width b → (IsPrime p → IsInverse p A b.matrix) →
+    IsAnswerTo (asking task.Inverse p c) (matrices_alone (A ∷ [])) (answer.Inverse b)
+inverse_answers c p A b square narrow shape inverse = record {
+  small = (omega (arith, shape.2), omega (arith, shape.3));
+  fits = inverse_fits A square narrow;
+  ends = refl;
+  answers = λ prime. inl (b.matrix, inverse prime, refl);
+}
+
 -- where a square matrix has a null vector that is not zero, it has no inverse, and what is told is the first row of its kernel basis
-pub singular_answers : (c : Command) (p : ℕ) (A : Matrix) (found : Inverse) (v : ResidueMatrix) → InverseExcludesNull → A.height ≡ A.width → A.height ≤ LARGEST_INVERTED →
-    HasInverseShape p A.width found → (IsPrime p → Inverts p A found) → found ≡ Singular v → IsAnswerTo (asking task.Inverse p c) (matrices_alone (A ∷ [])) (answer.Singular v)
-singular_answers c p A found v law square narrow shape inverts here =
-    let sizes = subst (HasInverseShape p A.width) here shape in record {
-      small = (omega (arith, sizes.2), omega (arith, sizes.3));
-      fits = inverse_fits A square narrow;
-      ends = refl;
-      answers = λ prime.
-          let (null, nonzero, (K, kernel, some, same)) = subst (Inverts p A) here (inverts prime) in
-          inr (
-            K,
-            (λ B inverse. nonzero (law p A B (row v.matrix 0) square inverse null)),
-            kernel,
-            some,
-            ap (λ V. codes "singular\n" ++ text_of V) (row_whole v.matrix sizes.1 sizes.2 ∙ ap as_row same),
-          );
-    }
-  where
-    inverse_fits : (A : Matrix) → A.height ≡ A.width → A.height ≤ LARGEST_INVERTED → misfit task.Inverse (A ∷ []) ≡ None
-    inverse_fits A square narrow = grind (arith, nat_tests)
+pub singular_answers : (c : Command) (p : ℕ) (A : Matrix) (v : ResidueMatrix) → InverseExcludesNull → A.height ≡ A.width → A.height ≤ LARGEST_INVERTED → HasInverseShape p A.width (Singular v) →
+    (IsPrime p → Inverts p A (Singular v)) → IsAnswerTo (asking task.Inverse p c) (matrices_alone (A ∷ [])) (answer.Singular v)
+singular_answers c p A v law square narrow shape inverts = record {
+  small = (omega (arith, shape.2), omega (arith, shape.3));
+  fits = inverse_fits A square narrow;
+  ends = refl;
+  answers = λ prime.
+      let (null, nonzero, (K, kernel, some, same)) = inverts prime in
+      inr (
+        K,
+        (λ B inverse. nonzero (law p A B (row v.matrix 0) square inverse null)),
+        kernel,
+        some,
+        ap (λ V. codes "singular\n" ++ text_of V) (row_whole v.matrix shape.1 shape.2 ∙ ap as_row same),
+      );
+}
 
 -- a zero row that is appended to no rows is the row of its row
 pub first_row : (M R : Matrix) (v : List ℕ) (w : ℕ) → M ≡ with_row R v → R ≡ record { height = 0; width = w; rows = [] } → length v ≡ w → M ≡ as_row (row M 0)

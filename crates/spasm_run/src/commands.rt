@@ -1,10 +1,12 @@
 // What each command answers to the matrices that were read.
-ghost use Rattle.std.specs.Prelude.{◌≡◌, ◌≤◌, ◌<◌, ℕ, List, [], ◌∷◌, IfOk};
-ghost use Rattle.residue_words.specs.Matrix.{IsMatrix, row};
+ghost use Rattle.std.specs.Prelude.{◌≡◌, ◌≤◌, ◌<◌, ℕ, List, [], ◌∷◌, IfOk, IfSome};
+ghost use Rattle.residue_words.specs.Matrix.{IsMatrix, Matrix, row};
 ghost use Rattle.residue_words.specs.Residues.{IsPrime};
 ghost use Rattle.row_space.specs.Solution.{IsRefutingCombination, IsSolution};
 ghost use Rattle.kernel_solve.specs.Column.{column};
 ghost use Rattle.kernel_solve.specs.Found.{HasShape};
+ghost use Rattle.kernel_solve.specs.Inverted.{IsSquareOf, TellsInverse};
+ghost use Rattle.pluq_factor.specs.Basis.{IsBasis};
 ghost use Rattle.sparse_rows.specs.declared.rows.TheConstants.{LARGEST_SIZE};
 ghost use Rattle.spasm_run.specs.Answers.{IsOneAnswer, as_row};
 ghost use Rattle.spasm_run.specs.Computed.{AnswersSystem, ComesOf, ComesOfContents, IsClaimed, IsSmall, asking};
@@ -25,11 +27,10 @@ use crate::words::Command;
 use cert_checker::check;
 use certificates::{CertKind, Certificate};
 use dense_finish::finish;
-use echelon_form::Echelon;
 use fl_pivots::leftmost;
-use kernel_solve::{Found, Inverse, refuting_system, solution};
+use kernel_solve::{Found, doubled, inverse_in, null_row, refuting_system, solution};
 use optimistic_search::{Gate, search};
-use pluq_factor::{Factors, Plan, factor};
+use pluq_factor::{Factors, Plan, factor, form_of_basis};
 use residue_words::Modulus;
 use sparse_rows::{Rows, Sparse};
 use std::alloc::{AllocError, Global};
@@ -44,6 +45,17 @@ pub fn at_most_one_answer()
     ensures { IsOneAnswer }
 {}
 
+// The workers and the rounds of a command.
+fn plan_of(command: Command) -> Plan
+    ensures workers { result.workers ≡ command.workers }
+    ensures rounds { result.rounds ≡ command.rounds }
+{
+    Plan {
+        workers: command.workers,
+        rounds: command.rounds,
+    }
+}
+
 // The rank of a matrix: by a dense elimination where there are no structural rounds, and else by these rounds.
 pub(crate) fn find_rank<R: Threads + Sync, G: Gate>(
     rt: &R,
@@ -56,16 +68,10 @@ pub(crate) fn find_rank<R: Threads + Sync, G: Gate>(
     requires few { command.workers ≤ 64 }
     ensures { ComesOf (asking task.Rank a.now.modulus command) (a.now.matrix ∷ []) result }
 {
-    let Command {
-        workers,
-        rounds,
-        ..
-    } = command;
-    if rounds == 0 {
+    if command.rounds == 0 {
         return count_pivots(rt, alloc, a, command);
     }
-    let plan = Plan { workers, rounds };
-    let rank = pluq_factor::rank(rt, alloc, a, plan, gate)?;
+    let rank = pluq_factor::rank(rt, alloc, a, plan_of(command), gate)?;
     Ok(Answer::Rank(u64::from(rank)))
 }
 
@@ -109,28 +115,30 @@ pub(crate) fn find_pivots<R: Threads + Sync, G: Gate>(
 }
 
 // The echelon form of a matrix.
-pub(crate) fn find_form<R: Threads + Sync>(
+pub(crate) fn find_form<R: Threads + Sync, G: Gate>(
     rt: &R,
     alloc: Global,
     a: &Rows,
     command: Command,
+    gate: &G,
 ) -> Result<Answer, Status>
     requires some { 1 ≤ command.workers }
     requires few { command.workers ≤ 64 }
     requires width { a.now.matrix.width < LARGEST_SIZE }
     ensures { ComesOf (asking task.Rref a.now.modulus command) (a.now.matrix ∷ []) result }
 {
-    let form = Echelon::of(rt, alloc, a, command.workers)?;
+    let form = pluq_factor::form(rt, alloc, a, plan_of(command), gate)?;
     Ok(Answer::Matrix(form.into_rows()))
 }
 
 // A summary of the echelon form of a matrix that is generated modulo p.
-pub(crate) fn find_summary<R: Threads + Sync>(
+pub(crate) fn find_summary<R: Threads + Sync, G: Gate>(
     rt: &R,
     alloc: Global,
     p: &Modulus,
     generator: &Generator,
     command: Command,
+    gate: &G,
 ) -> Result<Answer, Status>
     requires some { 1 ≤ command.workers }
     requires few { command.workers ≤ 64 }
@@ -138,49 +146,55 @@ pub(crate) fn find_summary<R: Threads + Sync>(
     ensures { ComesOf (asking (task.Drill generator.now) p.now command) [] result }
 {
     let a = generator.matrix(alloc, p)?;
-    let form = Echelon::of(rt, alloc, &a, command.workers)?;
+    let form = pluq_factor::form(rt, alloc, &a, plan_of(command), gate)?;
     Ok(Answer::Summary(Summary::of(form.rows())))
 }
 
 // The kernel basis of a matrix.
-pub(crate) fn find_kernel<R: Threads + Sync>(
+pub(crate) fn find_kernel<R: Threads + Sync, G: Gate>(
     rt: &R,
     alloc: Global,
     a: &Rows,
     command: Command,
+    gate: &G,
 ) -> Result<Answer, Status>
     requires some { 1 ≤ command.workers }
     requires few { command.workers ≤ 64 }
     requires width { a.now.matrix.width < LARGEST_SIZE }
     ensures { ComesOf (asking task.Kernel a.now.modulus command) (a.now.matrix ∷ []) result }
 {
-    let form = Echelon::of(rt, alloc, a, command.workers)?;
+    let form = pluq_factor::form(rt, alloc, a, plan_of(command), gate)?;
     let basis = kernel_solve::kernel(alloc, &form)?;
     Ok(Answer::Matrix(basis))
 }
 
 // The kernel basis of the transposed matrix.
-pub(crate) fn find_left_kernel<R: Threads + Sync>(
+pub(crate) fn find_left_kernel<R: Threads + Sync, G: Gate>(
     rt: &R,
     alloc: Global,
     a: &Rows,
     command: Command,
+    gate: &G,
 ) -> Result<Answer, Status>
     requires some { 1 ≤ command.workers }
     requires few { command.workers ≤ 64 }
     requires height { a.now.matrix.height < LARGEST_SIZE }
     ensures { ComesOf (asking task.LeftKernel a.now.modulus command) (a.now.matrix ∷ []) result }
 {
-    let basis = kernel_solve::left_kernel(rt, alloc, a, command.workers)?;
+    let columns = a.transpose(alloc)?;
+    let form = pluq_factor::form(rt, alloc, &columns, plan_of(command), gate)?;
+    drop(columns);
+    let basis = kernel_solve::kernel(alloc, &form)?;
     Ok(Answer::Matrix(basis))
 }
 
 // The inverse of a matrix, or a null vector. A matrix that isn't square is refused, and one of more than 2^30 rows.
-pub(crate) fn find_inverse<R: Threads + Sync>(
+pub(crate) fn find_inverse<R: Threads + Sync, G: Gate>(
     rt: &R,
     alloc: Global,
     a: &Rows,
     command: Command,
+    gate: &G,
 ) -> Result<Answer, Status>
     requires some { 1 ≤ command.workers }
     requires few { command.workers ≤ 64 }
@@ -195,19 +209,50 @@ pub(crate) fn find_inverse<R: Threads + Sync>(
     if LARGEST_INVERTED < height {
         return Err(Status::Wide { height, width });
     }
-    match kernel_solve::inverse(rt, alloc, a, command.workers)? {
-        Inverse::Of(b) => Ok(Answer::Inverse(b)),
-        Inverse::Singular(v) => Ok(Answer::Singular(v)),
+    match inverse_of(rt, alloc, a, plan_of(command), gate)? {
+        Some(b) => Ok(Answer::Inverse(b)),
+        None => {
+            let form = pluq_factor::form(rt, alloc, a, plan_of(command), gate)?;
+            let v = null_row(alloc, &form)?;
+            Ok(Answer::Singular(v))
+        }
     }
 }
 
+// The inverse of a matrix, if there is one.
+fn inverse_of<R: Threads + Sync, G: Gate>(
+    rt: &R,
+    alloc: Global,
+    a: &Rows,
+    plan: Plan,
+    gate: &G,
+) -> Result<Option<Rows>, AllocError>
+    requires some { 1 ≤ plan.workers }
+    requires few { plan.workers ≤ 64 }
+    requires square { a.now.matrix.height ≡ a.now.matrix.width }
+    requires small { a.now.matrix.height ≤ LARGEST_INVERTED }
+    ensures shape { IfOk result (λ found. IfSome found (IsSquareOf a.now.modulus a.now.matrix.width)) }
+    ensures tells { IfOk result (λ found. IsPrime a.now.modulus → TellsInverse a.now.modulus a.now.matrix found) }
+{
+    // The call's contract tells that the entries are residues.
+    let _ = a.height();
+    let Some(both) = doubled(alloc, a)? else {
+        return Ok(None);
+    };
+    let form = pluq_factor::form(rt, alloc, &both, plan, gate)?;
+    drop(both);
+    let found = inverse_in(alloc, &form, a.width())?;
+    Ok(found)
+}
+
 // The reduced solution of A x = b, or what refutes it. A right-hand side that isn't a column as long as A is high is refused.
-pub(crate) fn find_solution<R: Threads + Sync>(
+pub(crate) fn find_solution<R: Threads + Sync, G: Gate>(
     rt: &R,
     alloc: Global,
     a: &Rows,
     b: &Rows,
     command: Command,
+    gate: &G,
 ) -> Result<Answer, Status>
     requires some { 1 ≤ command.workers }
     requires few { command.workers ≤ 64 }
@@ -221,10 +266,11 @@ pub(crate) fn find_solution<R: Threads + Sync>(
     if height != a.height() || width != 1 {
         return Err(Status::Shape { height, width });
     }
-    match solve(rt, alloc, a.beside(alloc, b)?, command.workers)? {
+    let plan = plan_of(command);
+    match solve(rt, alloc, a.beside(alloc, b)?, plan, gate)? {
         Found::Solution(x) => Ok(Answer::Solution(x)),
         Found::Inconsistent => {
-            let y = refutation(rt, alloc, a, b, command.workers)?;
+            let y = refutation(rt, alloc, a, b, plan, gate)?;
             Ok(Answer::Refutation(y))
         }
     }
@@ -245,12 +291,8 @@ pub(crate) fn find_certificate<R: Threads + Sync, G: Gate>(
     requires width { a.now.matrix.width < LARGEST_SIZE }
     ensures { ComesOf (asking (task.Certify kind) a.now.modulus command) (a.now.matrix ∷ []) result }
 {
-    let plan = Plan {
-        workers: command.workers,
-        rounds: command.rounds,
-    };
-    let Factors { pivots, l, u } = factor(rt, alloc, a, plan, gate)?;
-    let extra = claimed(rt, alloc, a, kind, command.workers)?;
+    let Factors { pivots, l, u } = factor(rt, alloc, a, plan_of(command), gate)?;
+    let extra = claimed(rt, alloc, &u, kind, command.workers)?;
     Ok(Answer::Certificate(Certificate {
         kind,
         p: a.modulus().p(),
@@ -262,31 +304,30 @@ pub(crate) fn find_certificate<R: Threads + Sync, G: Gate>(
     }))
 }
 
-// The matrix that a certificate of this kind claims, if it claims one: the echelon form of a matrix, or its kernel basis.
+// The matrix that a certificate of this kind claims of a matrix with this row basis, if it claims one: its echelon form, or its
+// kernel basis.
 fn claimed<R: Threads + Sync>(
     rt: &R,
     alloc: Global,
-    a: &Rows,
+    basis: &Rows,
     kind: CertKind,
     workers: u32,
 ) -> Result<Option<Rows>, AllocError>
     requires some { 1 ≤ workers }
     requires few { workers ≤ 64 }
-    requires width { a.now.matrix.width < LARGEST_SIZE }
-    ensures { IfOk result (IsClaimed a.now.modulus a.now.matrix kind) }
+    requires width { basis.now.matrix.width < LARGEST_SIZE }
+    ensures { IfOk result (λ extra. (p : ℕ) (A : Matrix) → IsMatrix p A → IsBasis p A basis.now → IsClaimed p A kind extra) }
 {
-    // The call's contract tells that the entries are residues.
-    let _ = a.height();
     match kind {
         CertKind::Rank => Ok(None),
         CertKind::Rref => {
-            let form = Echelon::of(rt, alloc, a, workers)?;
+            let form = form_of_basis(rt, alloc, basis, workers)?;
             Ok(Some(form.into_rows()))
         }
         CertKind::Kernel => {
-            let form = Echelon::of(rt, alloc, a, workers)?;
-            let basis = kernel_solve::kernel(alloc, &form)?;
-            Ok(Some(basis))
+            let form = form_of_basis(rt, alloc, basis, workers)?;
+            let null = kernel_solve::kernel(alloc, &form)?;
+            Ok(Some(null))
         }
     }
 }
@@ -307,19 +348,20 @@ pub(crate) fn find_verdict(
 }
 
 // What the echelon form of a system [A | b] tells of A x = b. The system is let go once its form is made.
-fn solve<R: Threads + Sync>(
+fn solve<R: Threads + Sync, G: Gate>(
     rt: &R,
     alloc: Global,
     system: Rows,
-    workers: u32,
+    plan: Plan,
+    gate: &G,
 ) -> Result<Found, AllocError>
-    requires some { 1 ≤ workers }
-    requires few { workers ≤ 64 }
+    requires some { 1 ≤ plan.workers }
+    requires few { plan.workers ≤ 64 }
     requires width { 1 ≤ system.matrix.width }
     ensures shape { IfOk result (HasShape system.modulus system.matrix.width) }
     ensures tells { IfOk result (AnswersSystem system.modulus system.matrix) }
 {
-    let form = Echelon::of(rt, alloc, &system, workers)?;
+    let form = pluq_factor::form(rt, alloc, &system, plan, gate)?;
     drop(system);
     let found = solution(alloc, &form)?;
     Ok(found)
@@ -327,15 +369,16 @@ fn solve<R: Threads + Sync>(
 
 // The refuting combination of A x = b, as a row, where there is no solution. For a modulus that isn't prime there may be no combination
 // either, and then it is a zero row.
-fn refutation<R: Threads + Sync>(
+fn refutation<R: Threads + Sync, G: Gate>(
     rt: &R,
     alloc: Global,
     a: &Rows,
     b: &Rows,
-    workers: u32,
+    plan: Plan,
+    gate: &G,
 ) -> Result<Rows, AllocError>
-    requires some { 1 ≤ workers }
-    requires few { workers ≤ 64 }
+    requires some { 1 ≤ plan.workers }
+    requires few { plan.workers ≤ 64 }
     requires matrix { IsMatrix a.now.modulus a.now.matrix }
     requires side { IsMatrix b.now.modulus b.now.matrix }
     requires moduli { a.now.modulus ≡ b.now.modulus }
@@ -351,7 +394,7 @@ fn refutation<R: Threads + Sync>(
 {
     row_space::refuting_is_solvable();
     row_space::refuting_system_refutes();
-    match solve(rt, alloc, refuting_system(alloc, a, b)?, workers)? {
+    match solve(rt, alloc, refuting_system(alloc, a, b)?, plan, gate)? {
         Found::Solution(y) => {
             let row = y.transpose(alloc)?;
             Ok(row)

@@ -32,7 +32,7 @@ use std::thread::Threads;
 /// Words that aren't accepted are refused before anything is read, and nothing is read for a matrix that is generated. A source is read up
 /// to the last line that is wanted and no further, in at most `LARGEST_INPUT` bytes, and the first faulty line is named. Memory is wanted for
 /// the entries, at most 40 bytes each while they are read, for the rows, and for the echelon forms and what is made of them; none for writing.
-/// `rt` starts the threads of a command's workers, and `gate` serves commands that search.
+/// `rt` starts the threads of a command's workers, and `gate` serves their searches for pivots.
 pub fn run<'a, R: Threads + Sync, S: Source, K: Sink, E: Sink, G: Gate>(
     rt: &R,
     alloc: Global,
@@ -169,16 +169,38 @@ fn find_for<R: Threads + Sync, S: Source, G: Gate>(
             command,
             gate,
         ),
-        Task::Rref => find_form(rt, alloc, &read_one(alloc, &p, source, limit)?, command),
-        Task::Kernel => find_kernel(rt, alloc, &read_one(alloc, &p, source, limit)?, command),
+        Task::Rref => find_form(
+            rt,
+            alloc,
+            &read_one(alloc, &p, source, limit)?,
+            command,
+            gate,
+        ),
+        Task::Kernel => find_kernel(
+            rt,
+            alloc,
+            &read_one(alloc, &p, source, limit)?,
+            command,
+            gate,
+        ),
         Task::Solve => {
             let (a, b) = read_two(alloc, &p, source, limit)?;
-            find_solution(rt, alloc, &a, &b, command)
+            find_solution(rt, alloc, &a, &b, command, gate)
         }
-        Task::LeftKernel => {
-            find_left_kernel(rt, alloc, &read_one(alloc, &p, source, limit)?, command)
-        }
-        Task::Inverse => find_inverse(rt, alloc, &read_one(alloc, &p, source, limit)?, command),
+        Task::LeftKernel => find_left_kernel(
+            rt,
+            alloc,
+            &read_one(alloc, &p, source, limit)?,
+            command,
+            gate,
+        ),
+        Task::Inverse => find_inverse(
+            rt,
+            alloc,
+            &read_one(alloc, &p, source, limit)?,
+            command,
+            gate,
+        ),
         Task::Pivots => {
             let a = read_one(alloc, &p, source, limit)?;
             find_pivots(rt, alloc, &a, command, gate)
@@ -188,7 +210,7 @@ fn find_for<R: Threads + Sync, S: Source, G: Gate>(
             find_verdict(alloc, &a, &certificate)
         }
         Task::Trace | Task::Replay | Task::Grow => Err(Status::Memory),
-        Task::Drill(generator) => find_summary(rt, alloc, &p, &generator, command),
+        Task::Drill(generator) => find_summary(rt, alloc, &p, &generator, command, gate),
         Task::Certify(kind) => {
             let a = read_one(alloc, &p, source, limit)?;
             find_certificate(rt, alloc, &a, kind, command, gate)

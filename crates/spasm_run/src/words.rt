@@ -59,8 +59,8 @@ pub struct Command {
     pub modulus: u64,
     /// How many workers share the elimination, from 1 to 64.
     pub workers: u32,
-    /// How many structural rounds may come first, from 0 to 16: so the pivots of a certificate are chosen. With 0 the rank is counted by
-    /// the dense elimination; to other commands no number makes a difference.
+    /// How many structural rounds may come first, from 0 to 16, in each elimination: so the pivots of a certificate are chosen, and no
+    /// other answer depends on it. With 0 a rank is counted by the dense elimination, and a form found by it where that is small.
     pub rounds: u32,
 }
 

@@ -1,20 +1,22 @@
--- What is claimed is shown to any factors.
-use Rattle.std.proofs.Common.{Some, subst, sym}
+-- What is claimed of a matrix with this row basis is shown to any of its factors.
+use Rattle.std.proofs.Common.{None, Some, arith, subst, sym}
+use Rattle.pluq_factor.proofs.Turning.{form_based}
 use Rattle.spasm_run.specs.Computed.{IsClaimed}
-use Rattle.spasm_run.proofs.Certifying.{form_claimed, kernel_claimed}
+use Rattle.spasm_run.proofs.Certifying.{form_claimed, kernel_claimed, nothing_claimed}
 use Rattle.spasm_run.proofs.commands.claimed.Goals as goal
 
-pub returns-in_ok-form-in-Rref : goal.returns-in_ok-form-in-Rref
-returns-in_ok-form-in-Rref g c =
-    let A = c.args.a.now in
-    let form = c.in_ok-form-in-Rref in
-    subst (λ k. IsClaimed A.modulus A.matrix k (Some c.into_rows.result)) (sym c.in-Rref.is)
-    (form_claimed A.modulus A.matrix form.form c.into_rows.result c.height.ensures.sound c.requires.width form.ensures c.into_rows.ensures.modulus c.into_rows.ensures.matrix)
+pub returns-in-Rank : goal.returns-in-Rank
+returns-in-Rank g c = λ p A m basis. subst (λ k. IsClaimed p A k None) (sym c.in-Rank.is) (nothing_claimed p A)
 
-pub returns-in_ok-basis-in-Kernel : goal.returns-in_ok-basis-in-Kernel
-returns-in_ok-basis-in-Kernel g c =
-    let A = c.args.a.now in
+pub returns-in_ok-form-in-Rref : goal.returns-in_ok-form-in-Rref
+returns-in_ok-form-in-Rref g c = λ p A m basis.
+    let form = c.in_ok-form-in-Rref in
+    subst (λ k. IsClaimed p A k (Some c.into_rows.result)) (sym c.in-Rref.is)
+    (form_claimed p A form.form c.into_rows.result m (omega (arith, basis.width, c.requires.width)) (form_based basis form.ensures) c.into_rows.ensures.modulus c.into_rows.ensures.matrix)
+
+pub returns-in_ok-null-in-Kernel : goal.returns-in_ok-null-in-Kernel
+returns-in_ok-null-in-Kernel g c = λ p A m basis.
     let form = c.in_ok-form-in-Kernel in
-    let basis = c.in_ok-basis-in-Kernel in
-    subst (λ k. IsClaimed A.modulus A.matrix k (Some basis.basis)) (sym c.in-Kernel.is)
-    (kernel_claimed A.modulus A.matrix form.form basis.basis c.height.ensures.sound c.requires.width form.ensures basis.ensures.modulus basis.ensures.width basis.ensures.height basis.ensures.kernel)
+    let null = c.in_ok-null-in-Kernel in
+    subst (λ k. IsClaimed p A k (Some null.null)) (sym c.in-Kernel.is)
+    (kernel_claimed p A form.form null.null m (omega (arith, basis.width, c.requires.width)) (form_based basis form.ensures) null.ensures.modulus null.ensures.width null.ensures.height null.ensures.kernel)
