@@ -18,7 +18,6 @@ use Rattle.pluq_factor.specs.Rounds.{AreFactorsOf}
 use Rattle.pluq_factor.specs.Staged.{Staged}
 use Rattle.certificates.specs.declared.certificate.CertKind.{CertKind}
 use Rattle.certificates.specs.declared.certificate.CertKind.TheVariants as kind
-use Rattle.certificates.specs.declared.certificate.Certificate.{Certificate}
 use Rattle.certificates.specs.Certificate.{HasExtra, certificate_of, claim_of}
 use Rattle.certificates.specs.CertificateText.{IsTextPlace, claim_word, kind_word}
 use Rattle.spasm_run.specs.declared.answer.Answer.TheVariants as answer

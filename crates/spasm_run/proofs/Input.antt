@@ -17,8 +17,11 @@ use Rattle.sms_text.proofs.Runs.{with_items_got}
 use Rattle.sparse_rows.specs.Rows.{ResidueMatrix}
 use Rattle.certificates.specs.declared.certificate.Certificate.{Certificate}
 use Rattle.certificates.specs.CertificateText.{HasLines, SaysCertificate}
-use Rattle.spasm_run.specs.Contents.{AreToCheck, Contents, contents, matrices_alone}
-use Rattle.spasm_run.specs.Input.{Input, SaysContents, WasRead, WereRead, one_value}
+use Rattle.certificates.proofs.CertificateLines.{words_have}
+use Rattle.run_trace.specs.declared.trace.Trace.{Trace}
+use Rattle.run_trace.specs.TraceText.{SaysTrace}
+use Rattle.spasm_run.specs.Contents.{Contents, contents, matrices_alone}
+use Rattle.spasm_run.specs.Input.{Input, SaysContents, WasRead, WereRead, WereReadToReplay, one_value}
 
 -- what is due from the first line on
 abbrev pub from_start : ℕ → ℕ → List Due → Request
@@ -133,6 +136,10 @@ AreTwo p both items rest = (rest ≡ []) × (contents p items ≡ matrices_alone
 abbrev pub to_check : List Due
 to_check = Header ∷ Outer form.Certificate ∷ []
 
+-- and a trace
+abbrev pub to_replay : List Due
+to_replay = Header ∷ Outer form.Trace ∷ []
+
 -- these items say these contents
 abbrev AreSaid : ℕ → Contents → List Item → List Due → Type 0
 AreSaid p said items rest = (rest ≡ []) × (contents p items ≡ said)
@@ -192,3 +199,28 @@ module _ (p limit : ℕ) (reader : ReaderState) (source : SourceState) (mid new 
       let s = behind_first (Outer form.Certificate ∷ []) refl in
       parts_unread p limit to_check (AreSaid p) reader source new e begins
       (part_missed (wants p to_check) (Outer form.Certificate ∷ []) [] (SaysCertificate p) (input reader source) mid new s.0 s.2 refl (AreSaid p) e second)
+
+  -- a trace was read
+  pub trace_read : (t : Trace) → PartDid (wants p (Outer form.Trace ∷ [])) SaysTrace mid new (Ok t) → WereReadToReplay (from_start p limit to_replay) (Ok (A, t)) source new.source
+  trace_read t second =
+      let s = behind_first (Outer form.Trace ∷ []) refl in
+      let r = part_reads (wants p (Outer form.Trace ∷ [])) SaysTrace mid new (Ok t) s.2.stands.sound second in
+      let m = r.reads.means in
+      let has : HasLines p r.reads.items m.lines [] = subst (λ i. HasLines p i m.lines []) (sym m.items_are) (words_have p m.lines) in
+      let so_far = part_taken (wants p to_replay) (Outer form.Trace ∷ []) [] SaysTrace (input reader source) mid new s.0 s.2 refl t r in
+      let said : Contents = record { matrices = A.matrix ∷ []; lines = m.lines } in
+      let are : contents p (s.0 ++ r.reads.items) ≡ said = contents_are p (s.0 ++ r.reads.items) (A.matrix ∷ []) m.lines
+      (s.1.matrix r.reads.items ∙ ap (λ ms. A.matrix ∷ ms) (all_matrices p r.reads.items m.lines [] has))
+      (s.1.inside r.reads.items ∙ all_lines p r.reads.items m.lines [] has) in (
+        said,
+        parts_read p limit to_replay (AreSaid p) reader source new said said begins (λ items rest is. is)
+            (so_far_ends (wants p to_replay) (AreSaid p) (input reader source) new (s.0 ++ r.reads.items) (r.reads.due ++ []) said so_far (append-nil r.reads.due ∙ m.whole, are)),
+        record { matrices = refl; says = m.said },
+      )
+
+  -- or not
+  pub trace_unread : (e : TextError) → PartDid (wants p (Outer form.Trace ∷ [])) SaysTrace mid new (Err e) → WasRead (from_start p limit to_replay) (Err e) source new.source
+  trace_unread e second =
+      let s = behind_first (Outer form.Trace ∷ []) refl in
+      parts_unread p limit to_replay (AreSaid p) reader source new e begins
+      (part_missed (wants p to_replay) (Outer form.Trace ∷ []) [] SaysTrace (input reader source) mid new s.0 s.2 refl (AreSaid p) e second)

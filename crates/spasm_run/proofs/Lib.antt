@@ -10,6 +10,7 @@ pub mod Input
 pub mod Matching
 pub mod OneAnswer
 pub mod OneSelection
+pub mod OneTrace
 pub mod PlaceSums
 pub mod Program
 pub mod Reading
@@ -18,6 +19,7 @@ pub mod Spelled
 pub mod Spreading
 pub mod Stays
 pub mod Summaries
+pub mod TraceAnswers
 pub mod SpelledNumbers
 pub mod Verdicts
 pub mod Walks

@@ -36,7 +36,7 @@ place_among A qs rs k a b l =
     let place = place_of rs found.0 found.1 in
     (place.0, place.1, sym (col_is qs k l) ∙ sym found.2 ∙ sym place.3)
 
-leftmost_one : (A : Matrix) (qs rs : List Pair) → IsLeftmost A qs → IsLeftmost A rs → qs ≡ rs
+pub leftmost_one : (A : Matrix) (qs rs : List Pair) → IsLeftmost A qs → IsLeftmost A rs → qs ≡ rs
 leftmost_one A qs rs a b =
     let same : (length qs ≡ length rs) × ((k : ℕ) → k < length qs → col_at qs k ≡ col_at rs k) =
     rising_equal (length qs) (length rs) (col_at qs) (col_at rs) a.ascending b.ascending (λ k l. place_among A qs rs k a b l) (λ k l. place_among A rs qs k b a l) in

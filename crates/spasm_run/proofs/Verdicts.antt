@@ -1,8 +1,6 @@
 -- From what a checker says of a certificate to the answer.
-use Rattle.std.proofs.Common.{ℕ, Bool, true, false, ◌≡◌, ◌∙◌, IsTrue, List, ◌∷◌, Some, inl, inr, refl, sym, ap, subst}
+use Rattle.std.proofs.Common.{ℕ, Bool, true, false, ◌≡◌, ◌∙◌, IsTrue, ◌∷◌, Some, inl, inr, refl, sym, ap, subst}
 use Rattle.std.specs.Prelude.{◌↔◌}
-use Rattle.residue_words.specs.Matrix.{Matrix}
-use Rattle.row_space.specs.Factors as plain
 use Rattle.row_space.specs.Factors.{IsValid}
 use Rattle.sparse_rows.specs.Rows.{ResidueMatrix}
 use Rattle.certificates.specs.declared.certificate.Certificate.{Certificate}

@@ -287,6 +287,7 @@ ends_done_or_no (answer.Singular v) = inl refl
 ends_done_or_no (answer.Pivots pairs) = inl refl
 ends_done_or_no (answer.Summary s) = inl refl
 ends_done_or_no (answer.Certificate c) = inl refl
+ends_done_or_no (answer.Trace t) = inl refl
 ends_done_or_no (answer.Verdict true) = inl refl
 ends_done_or_no (answer.Verdict false) = inr refl
 

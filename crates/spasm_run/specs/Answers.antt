@@ -25,7 +25,10 @@ use Rattle.spasm_run.specs.declared.status.Status.TheVariants.{Done, No, Shape, 
 use Rattle.spasm_run.specs.declared.words.Command.{Command}
 use Rattle.spasm_run.specs.declared.words.Task.{Task}
 use Rattle.spasm_run.specs.declared.words.Task.TheVariants.{Rank, Rref, Kernel, Solve, LeftKernel, Inverse, Pivots, Check, Trace, Replay, Grow, Drill, Certify}
-use Rattle.spasm_run.specs.Contents.{Contents, IsCertified}
+use Rattle.run_trace.specs.declared.trace.Trace as run
+use Rattle.run_trace.specs.Lawful.{IsTraceOf}
+use Rattle.run_trace.specs.TraceText.{trace_text}
+use Rattle.spasm_run.specs.Contents.{Contents, HasLawfulTrace, IsCertified}
 use Rattle.spasm_run.specs.Generator.{generated, summary_of}
 
 -- the lines that are due at first: the headers of the matrices that are read, and the first line of a certificate or of a trace; the header
@@ -77,6 +80,10 @@ abbrev pub CertifiesAs : CertKind → Command → Matrix → List ℕ → Type 0
 CertifiesAs kind c A text = (s : plain.Certificate) × (claim_word s.claim ≡ kind_word kind) × IsValid c.modulus A s
     × Staged c.modulus A c.workers c.rounds s.pivots × (text ≡ certificate_text s)
 
+-- the text of a trace of a search by so many workers
+abbrev pub TracesTo : Command → Matrix → List ℕ → Type 0
+TracesTo c A text = (t : run.Trace) × IsTraceOf c.modulus A c.workers t × (text ≡ trace_text t.p t.publications)
+
 -- the text is the answer to the task of this command, which reads matrices alone, for these matrices
 abbrev pub MatricesAnswer : Task → Command → List Matrix → List ℕ → Type 0
 MatricesAnswer Rank c (A ∷ []) text = (r : ℕ) × HasRank c.modulus A r × (text ≡ rank_text r)
@@ -86,39 +93,50 @@ MatricesAnswer Solve c (A ∷ B ∷ []) text = SolvesTo c.modulus A (column B) t
 MatricesAnswer LeftKernel c (A ∷ []) text = (K : Matrix) × IsKernel c.modulus (transposed A) K × (text ≡ text_of K)
 MatricesAnswer Inverse c (A ∷ []) text = InvertsTo c.modulus A text
 MatricesAnswer Pivots c (A ∷ []) text = (qs : List Pair) × Selected A c.workers qs × (text ≡ pivots_text qs)
+MatricesAnswer Trace c (A ∷ []) text = TracesTo c A text
 MatricesAnswer (Drill g) c [] text =
     (E : Matrix) × IsRref c.modulus (generated c.modulus g) E × (text ≡ summary_of c.modulus E)
 MatricesAnswer (Certify kind) c (A ∷ []) text = CertifiesAs kind c A text
 MatricesAnswer task c values text = ⊥
 
--- whether the certificate is valid
-abbrev pub VerdictOn : ℕ → Contents → List ℕ → Type 0
-VerdictOn p said text =
-    (IsCertified p said × (text ≡ codes "yes\n"))
-    ⊎ (¬ IsCertified p said × (text ≡ codes "no\n"))
+-- whether a claim holds
+abbrev pub VerdictOn : Type 0 → List ℕ → Type 0
+VerdictOn Claim text = (Claim × (text ≡ codes "yes\n")) ⊎ (¬ Claim × (text ≡ codes "no\n"))
 
 -- the text is the answer to the task of this command for what was read
 abbrev pub AnswerTo : Task → Command → Contents → List ℕ → Type 0
-AnswerTo Check c said text = VerdictOn c.modulus said text
+AnswerTo Check c said text = VerdictOn (IsCertified c.modulus said) text
+AnswerTo Replay c said text = VerdictOn (HasLawfulTrace c.modulus said) text
 AnswerTo task c said text = MatricesAnswer task c said.matrices text
 
 -- the text is the answer to the command for what was read
 abbrev pub AnswerOf : Command → Contents → List ℕ → Type 0
 AnswerOf c said text = AnswerTo c.task c said text
 
--- what an answer rests on: that the modulus is prime; whether a certificate is valid is told for every modulus
+-- what an answer rests on: that the modulus is prime; traces, and whether a certificate is valid or a trace lawful, are told for every modulus
 abbrev pub RestsOn : Task → ℕ → Type 0
 RestsOn Check p = Unit {0}
+RestsOn Trace p = Unit {0}
+RestsOn Replay p = Unit {0}
 RestsOn task p = IsPrime p
 
--- the status of a run that wrote its answer: No for a certificate that isn't valid, and else Done
+-- a verdict ends with Done where the claim holds, and else with No
+abbrev pub EndsBy : Type 0 → Status → Type 0
+EndsBy Claim s = (Claim × (s ≡ Done)) ⊎ (¬ Claim × (s ≡ No))
+
+-- the status of a run that wrote its answer: No for a certificate that isn't valid and for a trace that isn't lawful, and else Done
 abbrev pub EndsWith : Task → ℕ → Contents → Status → Type 0
-EndsWith Check p said s = (IsCertified p said × (s ≡ Done)) ⊎ (¬ IsCertified p said × (s ≡ No))
+EndsWith Check p said s = EndsBy (IsCertified p said) s
+EndsWith Replay p said s = EndsBy (HasLawfulTrace p said) s
 EndsWith task p said s = s ≡ Done
 
--- the answer to a command for what was read, with matrices of the shapes that are wanted, is one text: the pivots where one worker searches,
--- and a certificate, of which a matrix has many, apart
+-- if the command searches and writes what is found in its order, one worker does it
+abbrev pub SearchesAlone : Command → Type 0
+SearchesAlone c = (c.task ≡ Pivots) ⊎ (c.task ≡ Trace) → c.workers ≡ 1
+
+-- the answer to a command for what was read, with matrices of the shapes that are wanted, is one text: the pivots and the trace where one
+-- worker searches, and a certificate, of which a matrix has many, apart
 abbrev pub IsOneAnswer : Type 0
 IsOneAnswer = (c : Command) (said : Contents) (text other : List ℕ) → 2 ≤ c.modulus →
-    misfit c.task said.matrices ≡ None → (c.task ≡ Pivots → c.workers ≡ 1) → ((kind : CertKind) → c.task ≢ Certify kind) →
+    misfit c.task said.matrices ≡ None → SearchesAlone c → ((kind : CertKind) → c.task ≢ Certify kind) →
     AnswerOf c said text → AnswerOf c said other → text ≡ other

@@ -8,6 +8,7 @@ use Rattle.sparse_rows.specs.Rows.{ResidueMatrix, beside}
 use Rattle.certificates.specs.declared.certificate.CertKind.{CertKind}
 use Rattle.certificates.specs.Certificate.{HasExtra, IsFormed, certificate_of, claim_of}
 use Rattle.certificates.specs.CertificateText.{ClaimFitsText, HasText, certificate_text}
+use Rattle.run_trace.specs.TraceText as trace
 use Rattle.sparse_rows.specs.declared.rows.TheConstants.{LARGEST_SIZE}
 use Rattle.kernel_solve.specs.Column.{column}
 use Rattle.kernel_solve.specs.declared.systems.Found.{Found}
@@ -40,6 +41,7 @@ answer_text (answer.Singular v) = codes "singular\n" ++ text_of v.matrix
 answer_text (answer.Pivots pairs) = pivots_text pairs.items
 answer_text (answer.Summary s) = summary_text s.rank s.entries s.sum
 answer_text (answer.Certificate c) = certificate_text (certificate_of c)
+answer_text (answer.Trace t) = trace.trace_text t.p t.publications
 answer_text (answer.Verdict valid) = if valid then codes "yes\n" else codes "no\n"
 
 -- the status of a run that wrote this answer
@@ -61,6 +63,7 @@ IsSmall (answer.Singular v) = HasSmallSizes v.matrix
 IsSmall (answer.Pivots pairs) = All IsSmallPlace pairs.items
 IsSmall (answer.Summary s) = Unit {0}
 IsSmall (answer.Certificate c) = IsFormed c.l.modulus c × HasText (certificate_of c)
+IsSmall (answer.Trace t) = trace.HasText t
 IsSmall (answer.Verdict valid) = Unit {0}
 
 -- the matrix that a certificate of this kind claims of A: one that can be written, and that shows it to any factors of A

@@ -8,6 +8,9 @@ use Rattle.sms_text.specs.Text.{Item, matrices, outer_lines}
 use Rattle.certificates.specs.declared.certificate.Certificate.{Certificate}
 use Rattle.certificates.specs.Certificate.{certificate_of}
 use Rattle.certificates.specs.CertificateText.{certificate_said}
+use Rattle.run_trace.specs.declared.trace.Trace.{Trace}
+use Rattle.run_trace.specs.Lawful.{IsLawfulTrace}
+use Rattle.run_trace.specs.TraceText.{trace_said}
 
 pub record Contents : Type 0 where
   pub matrices : List Matrix
@@ -35,3 +38,16 @@ pub record AreToCheck (A : ResidueMatrix) (c : Certificate) (said : Contents) : 
   pub behind : List Matrix
   pub matrices : said.matrices ≡ A.matrix ∷ behind
   pub says : certificate_said said.lines behind ≡ Some (certificate_of c)
+
+-- the contents are a matrix, and a trace behind it that is lawful for it
+pub record HasLawfulTrace (p : ℕ) (said : Contents) : Type 0 where
+  pub matrix : Matrix
+  pub trace : Trace
+  pub matrices : said.matrices ≡ matrix ∷ []
+  pub says : trace_said said.lines ≡ Some trace
+  pub lawful : IsLawfulTrace p matrix trace
+
+-- the contents are this matrix, and this trace behind it
+pub record AreToReplay (A : ResidueMatrix) (t : Trace) (said : Contents) : Type 0 where
+  pub matrices : said.matrices ≡ A.matrix ∷ []
+  pub says : trace_said said.lines ≡ Some t

@@ -8,7 +8,8 @@ use Rattle.sms_text.specs.Text.{Item, Reads, Request, reading}
 use Rattle.sparse_rows.specs.Rows.{ResidueMatrix}
 use Rattle.sparse_rows.specs.declared.rows.TheConstants.{LARGEST_SIZE}
 use Rattle.certificates.specs.declared.certificate.Certificate.{Certificate}
-use Rattle.spasm_run.specs.Contents.{AreToCheck, Contents, contents, matrices_alone}
+use Rattle.run_trace.specs.declared.trace.Trace.{Trace}
+use Rattle.spasm_run.specs.Contents.{AreToCheck, AreToReplay, Contents, contents, matrices_alone}
 
 -- what was taken from a source: these bytes, and whether the end was found behind them
 pub record Input : Type 0 where
@@ -52,6 +53,11 @@ two_values (Err e) = Err e
 abbrev pub WereRead : Request → Result (ResidueMatrix × Certificate) TextError → SourceState → SourceState → Type 0
 WereRead r (Ok (A, c)) old new = (said : Contents) × WasRead r (Ok said) old new × AreToCheck A c said
 WereRead r (Err e) old new = WasRead r (Err e) old new
+
+-- a matrix and a trace behind it were read, or not
+abbrev pub WereReadToReplay : Request → Result (ResidueMatrix × Trace) TextError → SourceState → SourceState → Type 0
+WereReadToReplay r (Ok (A, t)) old new = (said : Contents) × WasRead r (Ok said) old new × AreToReplay A t said
+WereReadToReplay r (Err e) old new = WasRead r (Err e) old new
 
 -- what holds of each matrix that was read
 pub record IsOfText (p : ℕ) (A : ResidueMatrix) : Type 0 where

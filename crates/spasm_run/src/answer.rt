@@ -8,6 +8,7 @@ use crate::summary::Summary;
 use crate::written_pivots::write_pivots;
 use certificates::Certificate;
 use pivot_table::Pair;
+use run_trace::Trace;
 use sms_text::{Sink, WriteFault, write_rows, write_text, write_titled};
 use sparse_rows::Rows;
 
@@ -32,7 +33,9 @@ pub(crate) enum Answer {
     Summary(Summary),
     // A certificate of a matrix.
     Certificate(Certificate),
-    // Whether a certificate is valid.
+    // What a search published.
+    Trace(Trace),
+    // Whether a certificate is valid, or a trace lawful.
     Verdict(bool),
 }
 
@@ -54,6 +57,7 @@ impl Answer {
             Answer::Pivots(pairs) => write_pivots(out, pairs),
             Answer::Summary(summary) => summary.write(out),
             Answer::Certificate(certificate) => certificates::write(out, certificate),
+            Answer::Trace(trace) => run_trace::write(out, trace),
             Answer::Verdict(true) => write_text(out, "yes\n"),
             Answer::Verdict(false) => write_text(out, "no\n"),
         }

@@ -10,7 +10,7 @@ ghost use Rattle.pluq_factor.specs.Basis.{IsBasis};
 ghost use Rattle.sparse_rows.specs.declared.rows.TheConstants.{LARGEST_SIZE};
 ghost use Rattle.spasm_run.specs.Answers.{IsOneAnswer, as_row};
 ghost use Rattle.spasm_run.specs.Computed.{AnswersSystem, ComesOf, ComesOfContents, IsClaimed, IsSmall, asking};
-ghost use Rattle.spasm_run.specs.Contents.{AreToCheck, Contents};
+ghost use Rattle.spasm_run.specs.Contents.{AreToCheck, AreToReplay, Contents};
 ghost use Rattle.certificates.specs.Certificate.{IsFormed};
 ghost use Rattle.spasm_run.specs.Generator.{HasSizesInRange};
 ghost use Rattle.spasm_run.specs.declared.words.Command.{Command};
@@ -32,6 +32,7 @@ use kernel_solve::{Found, doubled, inverse_in, null_row, refuting_system, soluti
 use optimistic_search::{Gate, search};
 use pluq_factor::{Factors, Plan, factor, form_of_basis};
 use residue_words::Modulus;
+use run_trace::{Trace, replay, trace_of};
 use sparse_rows::{Rows, Sparse};
 use std::alloc::{AllocError, Global};
 use std::thread::Threads;
@@ -345,6 +346,34 @@ pub(crate) fn find_verdict(
 {
     let valid = check(alloc, a, certificate)?;
     Ok(Answer::Verdict(valid))
+}
+
+// What a search published that begins with the leftmost pivots, in its order.
+pub(crate) fn find_trace<R: Threads + Sync, G: Gate>(
+    rt: &R,
+    alloc: Global,
+    a: &Rows,
+    command: Command,
+    gate: &G,
+) -> Result<Answer, Status>
+    requires some { 1 ≤ command.workers }
+    requires few { command.workers ≤ 64 }
+    requires height { a.now.matrix.height < LARGEST_SIZE }
+    requires width { a.now.matrix.width < LARGEST_SIZE }
+    ensures { ComesOf (asking task.Trace a.now.modulus command) (a.now.matrix ∷ []) result }
+{
+    let trace = trace_of(rt, alloc, a, command.workers, gate)?;
+    Ok(Answer::Trace(trace))
+}
+
+// Whether a trace is lawful for a matrix, by a walk for each of its publications.
+pub(crate) fn find_lawfulness(alloc: Global, a: &Rows, trace: &Trace) -> Result<Answer, Status>
+    ensures comes { (c : Command) (said : Contents) → AreToReplay a.now trace.now said
+        → ComesOfContents (asking task.Replay a.now.modulus c) said result }
+    ensures small { IfOk result IsSmall }
+{
+    let lawful = replay(alloc, a, trace)?;
+    Ok(Answer::Verdict(lawful))
 }
 
 // What the echelon form of a system [A | b] tells of A x = b. The system is let go once its form is made.

@@ -1,13 +1,14 @@
-// The matrices of an input, and a certificate behind one.
+// The matrices of an input, and a certificate or a trace behind one.
 ghost use Rattle.std.specs.Prelude.{◌≤◌, [], ◌∷◌, IfOk};
 ghost use Rattle.sms_text.specs.OuterLines as form;
 ghost use Rattle.sms_text.specs.Text.{Header, Outer};
 ghost use Rattle.sms_text.specs.declared.reader.TheConstants.{LARGEST_INPUT};
 ghost use Rattle.certificates.specs.Certificate.{IsFormed};
-ghost use Rattle.spasm_run.specs.Input.{IsOfText, WasRead, WereRead, one_value, two_values};
+ghost use Rattle.spasm_run.specs.Input.{IsOfText, WasRead, WereRead, WereReadToReplay, one_value, two_values};
 
 use certificates::Certificate;
 use residue_words::Modulus;
+use run_trace::Trace;
 use sms_text::{Reader, Source, TextError, read_rows};
 use sparse_rows::Rows;
 use std::alloc::Global;
@@ -71,4 +72,25 @@ pub(crate) fn read_to_check<S: Source>(
     let a = read_rows(&mut reader, alloc, source, p)?;
     let certificate = certificates::read(&mut reader, alloc, source, p)?;
     Ok((a, certificate))
+}
+
+// Reads a matrix and the trace behind it, in an input of at most `limit` bytes.
+pub(crate) fn read_to_replay<S: Source>(
+    alloc: Global,
+    p: &Modulus,
+    source: &mut S,
+    limit: u64,
+) -> Result<(Rows, Trace), TextError>
+    requires { limit ≤ LARGEST_INPUT }
+    ensures did { WereReadToReplay
+        (record { modulus = p.now; limit = limit; due = Header ∷ Outer form.Trace ∷ [] })
+        result (S.state source.old) (S.state source.new) }
+    ensures matrix { IfOk result (λ both. IsOfText p.now both.0) }
+{
+    let Ok(mut reader) = Reader::new(alloc, limit) else {
+        return Err(TextError::Memory);
+    };
+    let a = read_rows(&mut reader, alloc, source, p)?;
+    let trace = run_trace::read(&mut reader, alloc, source)?;
+    Ok((a, trace))
 }

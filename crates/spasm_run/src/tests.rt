@@ -81,6 +81,17 @@ const KNOWN: &[(&[&str], &str, &[&str])] = &[
         Y,
         &["pivots 2\n2 2\n1 1\n", "pivots 2\n3 2\n1 1\n"],
     ),
+    (&["trace", "--modulus=7"], Y, &["trace 7 2\n1 1 0\n2 2 1\n"]),
+    (
+        &["trace", "--modulus=7", "--workers=64"],
+        Y,
+        &["trace 7 2\n1 1 0\n2 2 1\n", "trace 7 2\n1 1 0\n3 2 1\n"],
+    ),
+    (
+        &["trace", "--workers", "2"],
+        "0 5 M\n0 0 0\n",
+        &["trace 42013 0\n"],
+    ),
 ];
 
 fn check_pivots<R: Threads + Sync + Abort>(rt: &R, alloc: Global) -> Result<(), Fail> {
@@ -125,20 +136,40 @@ impl Gate for Hold {
     }
 }
 
-// Whether the third row overtakes the second where the gate holds it, so that the second is dropped: two workers go at once.
-fn is_overtaken<R: Threads + Sync>(rt: &R, alloc: Global) -> Result<bool, AllocError> {
+// What is written where the third row overtakes the second, by commands and matrices: in the first matrix the second row is dropped, in
+// the other one it is published behind, with the version of its claim.
+const OVERTAKEN: &[(&str, &str, &str)] = &[
+    ("pivots", Y, "pivots 2\n3 2\n1 1\n"),
+    ("trace", Y, "trace 7 2\n1 1 0\n3 2 1\n"),
+    (
+        "trace",
+        "3 3 M\n1 1 1\n2 1 1\n2 2 1\n3 1 1\n3 3 1\n0 0 0\n",
+        "trace 7 3\n1 1 0\n3 3 1\n2 2 1\n",
+    ),
+];
+
+// Whether this is written where the gate holds the second row: two workers go at once.
+fn is_overtaken<R: Threads + Sync>(
+    rt: &R,
+    alloc: Global,
+    command: &str,
+    text: &str,
+    answer: &str,
+) -> Result<bool, AllocError> {
     let gate = Hold {
         owner: AtomicU64::new(0),
         published: AtomicU64::new(0),
     };
-    let words = ["pivots", "--modulus=7", "--workers=2"];
-    let out = written(rt, alloc, &words, Y.as_bytes(), &gate)?;
-    Ok(is_among(&out, &["pivots 2\n3 2\n1 1\n"]) && gate.published.load(Ordering::SeqCst) == 1)
+    let words = [command, "--modulus=7", "--workers=2"];
+    let out = written(rt, alloc, &words, text.as_bytes(), &gate)?;
+    Ok(is_among(&out, &[answer]) && gate.published.load(Ordering::SeqCst) == 1)
 }
 
 #[test]
 fn two_workers_go_at_once(rt: HostRuntime) -> Result<(), Fail> {
-    assert!(rt; is_overtaken(&rt, rt.alloc())?);
+    for (command, text, answer) in OVERTAKEN {
+        assert!(rt; is_overtaken(&rt, rt.alloc(), command, text, answer)?);
+    }
     Ok(())
 }
 

@@ -650,6 +650,38 @@ const CERTIFICATES: &[(&str, &str, &str, &str, &str, Status, &str)] = &[
     ),
 ];
 
+// Runs a command with a modulus on an input, in each way: what is told goes to the output where the run ends with a verdict, and else to
+// the error stream.
+fn check_verdict<'a, R: Threads + Sync + Abort>(
+    rt: &R,
+    alloc: Global,
+    command: [&'a str; 2],
+    input: &'a [u8],
+    status: Status,
+    text: &'a str,
+) -> Result<(), Fail> {
+    let none: &[u8] = b"";
+    let (out, told) = if status.code() < 2 {
+        (text.as_bytes(), none)
+    } else {
+        (none, text.as_bytes())
+    };
+    for way in WAYS {
+        let mut words = Vec::from_slice(alloc, &[command[0], "--modulus", command[1]])?;
+        words.extend_from_slice(way)?;
+        let trial = Trial {
+            words: &words,
+            text: input,
+            streams: CALM,
+            status,
+            out,
+            told,
+        };
+        check(rt, alloc, &trial)?;
+    }
+    Ok(())
+}
+
 #[test]
 fn certificates_are_judged_as_known(rt: HostRuntime) -> Result<(), Fail> {
     let alloc = rt.alloc();
@@ -658,25 +690,51 @@ fn certificates_are_judged_as_known(rt: HostRuntime) -> Result<(), Fail> {
         input.extend_from_slice(head.as_bytes())?;
         input.extend_from_slice(factors.as_bytes())?;
         input.extend_from_slice(behind.as_bytes())?;
-        let none: &[u8] = b"";
-        let (out, told) = if status.code() < 2 {
-            (text.as_bytes(), none)
-        } else {
-            (none, text.as_bytes())
-        };
-        for way in WAYS {
-            let mut words = Vec::from_slice(alloc, &["check", "--modulus", *p])?;
-            words.extend_from_slice(way)?;
-            let trial = Trial {
-                words: &words,
-                text: &input,
-                streams: CALM,
-                status: *status,
-                out,
-                told,
-            };
-            check(&rt, alloc, &trial)?;
-        }
+        check_verdict(&rt, alloc, ["check", *p], &input, *status, text)?;
+    }
+    Ok(())
+}
+
+// Traces behind the matrix of three rows, with how a replay ends modulo 7, and what is told.
+const TRACES: &[(&str, Status, &str)] = &[
+    ("trace 7 2\n1 1 0\n2 3 1\n", Status::Done, "yes\n"),
+    ("trace 7 0\n", Status::Done, "yes\n"),
+    ("trace 7 3\n1 1 0\n2 2 1\n3 3 1\n", Status::No, "no\n"),
+    ("trace 7 1\n1 1 1\n", Status::No, "no\n"),
+    ("trace 5 0\n", Status::No, "no\n"),
+    (
+        "trace 7 1\n1 1\n",
+        Status::BadText {
+            line: 11,
+            kind: Kind::Trace,
+        },
+        "error 3 line 11 kind 11\n",
+    ),
+    (
+        "trace 7\n",
+        Status::BadText {
+            line: 10,
+            kind: Kind::Trace,
+        },
+        "error 3 line 10 kind 11\n",
+    ),
+    (
+        "trace 7 2147483647\n",
+        Status::BadText {
+            line: 11,
+            kind: Kind::NoEnd,
+        },
+        "error 3 line 11 kind 7\n",
+    ),
+];
+
+#[test]
+fn traces_are_judged_as_known(rt: HostRuntime) -> Result<(), Fail> {
+    let alloc = rt.alloc();
+    for (trace, status, text) in TRACES {
+        let mut input = Vec::from_slice(alloc, Y.as_bytes())?;
+        input.extend_from_slice(trace.as_bytes())?;
+        check_verdict(&rt, alloc, ["replay", "7"], &input, *status, text)?;
     }
     Ok(())
 }

@@ -97,5 +97,24 @@ pub returns-in_err-a-in-Certify-clause-found : goal.returns-in_err-a-in-Certify-
 returns-in_err-a-in-Certify-clause-found g c = λ words accepted.
     found_unread words c.args.command (task.Certify c.in-Certify.kind) c.new-p.result c.args.limit _ _ c.in_err-a-in-Certify.field-0.0 _ c.in-Certify.is c.new-p.ensures c.from_residual-in_err-a-in-Certify.ensures.1 accepted c.in_err-a-in-Certify.ensures.did
 
-pub returns-in-Trace-clause-found : goal.returns-in-Trace-clause-found
-returns-in-Trace-clause-found g c = λ words accepted. found_memory words c.args.limit _
+pub returns-in_ok-a-in-Trace-clause-found : goal.returns-in_ok-a-in-Trace-clause-found
+returns-in_ok-a-in-Trace-clause-found g c = λ words accepted.
+    let a = c.in_ok-a-in-Trace in
+    found_given words c.args.command task.Trace c.new-p.result a.a.modulus c.args.limit _ _ (matrices_alone (a.a.matrix ∷ [])) _ c.in-Trace.is c.new-p.ensures a.ensures.matrix.modulus accepted a.ensures.did c.find_trace.ensures
+
+pub returns-in_err-a-in-Trace-clause-found : goal.returns-in_err-a-in-Trace-clause-found
+returns-in_err-a-in-Trace-clause-found g c = λ words accepted.
+    found_unread words c.args.command task.Trace c.new-p.result c.args.limit _ _ c.in_err-a-in-Trace.field-0.0 _ c.in-Trace.is c.new-p.ensures c.from_residual-in_err-a-in-Trace.ensures.1 accepted c.in_err-a-in-Trace.ensures.did
+
+pub returns-in_ok-a-in-Replay-clause-found : goal.returns-in_ok-a-in-Replay-clause-found
+returns-in_ok-a-in-Replay-clause-found g c = λ words accepted.
+    let both = c.in_ok-a-in-Replay in
+    let (said, was, are) = both.ensures.did in
+    found_given words c.args.command task.Replay c.new-p.result both.a.modulus c.args.limit _ _ said _ c.in-Replay.is c.new-p.ensures both.ensures.matrix.modulus accepted was (c.find_lawfulness.ensures.comes c.args.command said are)
+
+pub returns-in_err-a-in-Replay-clause-found : goal.returns-in_err-a-in-Replay-clause-found
+returns-in_err-a-in-Replay-clause-found g c = λ words accepted.
+    found_unread words c.args.command task.Replay c.new-p.result c.args.limit _ _ c.in_err-a-in-Replay.field-0.0 _ c.in-Replay.is c.new-p.ensures c.from_residual-in_err-a-in-Replay.ensures.1 accepted c.in_err-a-in-Replay.ensures.did
+
+pub returns-in-Grow-clause-found : goal.returns-in-Grow-clause-found
+returns-in-Grow-clause-found g c = λ words accepted. found_memory words c.args.limit _
