@@ -95,13 +95,14 @@ inserted_old old new v (Some c) h = ((λ e. absurd (subst IsFound e tt)), (λ c.
 inserted_old old new v None h = ((λ e. h.1), (λ c. refl))
 
 -- a row that was inserted was appended, as callers are told
-pub appends_inserted : {old : KeptRows} (new : KeptRows) {v : List ℕ} → IsSound old → IsVector old.modulus old.matrix.width v → (lead : Option ℕ) → Inserts old new v lead →
+pub appends_inserted : {old : KeptRows} (new : KeptRows) {v : List ℕ} → IsSound old → IsSound new → IsVector old.modulus old.matrix.width v → (lead : Option ℕ) → Inserts old new v lead →
     AppendsRow (seen old) (seen new) v (is_some lead)
-appends_inserted {old} new {v} sound vector lead h =
+appends_inserted {old} new {v} sound after vector lead h =
     let same = inserts_same old new v lead h in
     record {
       modulus = same.0;
       width = same.1;
+      matrix = subst (λ q. IsMatrix q new.matrix) same.0 after.matrix;
       height = inserted_height old new v lead h;
       spanned = inserted_old old new v lead h;
       span = inserted_span new sound vector lead h;

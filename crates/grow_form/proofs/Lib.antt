@@ -1,2 +1,5 @@
 pub mod Growing
+pub mod ScriptReading
 pub mod ScriptTerms
+pub mod ScriptAnswers
+pub mod Spanning

@@ -8,9 +8,10 @@ use Rattle.std.proofs.lemmas.List.{drop_all, drop_more}
 use Rattle.sparse_rows.specs.Rows.{Building, ResidueMatrix, Triple, built, sum_at}
 use Rattle.sparse_rows.proofs.Building.{matrix_by_equal}
 use Rattle.sms_text.specs.Numbers.{value, value_modulo, is_value, divides_by_zero}
-use Rattle.sms_text.specs.OuterLines.{IsUpTo, are_terms, is_from_one_up_to, is_script, is_up_to}
+use Rattle.sms_text.specs.OuterLines.{IsUpTo, are_terms, is_from_one_up_to, is_script, is_up_to, takes_terms}
 use Rattle.sms_text.specs.Reading.{ValueOf}
-use Rattle.std.specs.Prelude.{codes}
+use Rattle.std.specs.Prelude.{Option, codes}
+use Rattle.std.specs.Option.{is_some}
 use Rattle.std.specs.Str.{bytes_eq}
 use Rattle.grow_form.specs.Answers.{FitsRows, IsRowFor}
 use Rattle.grow_form.specs.Script.{IsTermsRow, row_of_terms, script_line_of, term_sum, terms_of}
@@ -79,8 +80,8 @@ same_place a n j e some = elim (cases_eq a (j + 1)) [
       l ∙ sym r
 ]
 
--- A pair of words stands at k.
-module _ (p n : ℕ) (ws : List (List ℕ)) (k : ℕ) (b : Building) (is : TermsRead p n ws k b) (l : k + 1 < length ws) where
+-- A pair of words stands at k, and those from k on test as all do.
+module _ (p n : ℕ) (ws : List (List ℕ)) (k : ℕ) (test : are_terms p n (drop k ws) ≡ are_terms p n (terms_of ws)) (l : k + 1 < length ws) where
   abbrev column_word : List ℕ
   column_word = slice_index_or ws k []
 
@@ -93,27 +94,15 @@ module _ (p n : ℕ) (ws : List (List ℕ)) (k : ℕ) (b : Building) (is : Terms
       drop_more ws k [] (omega (arith, l)) ∙ ap (λ t. column_word ∷ t) (drop_more ws (k + 1) [] l) ∙ ap (λ m. column_word ∷ value_of ∷ drop m ws) next
 
   tested : are_terms p n (column_word ∷ value_of ∷ drop (k + 2) ws) ≡ are_terms p n (terms_of ws)
-  tested = ap (are_terms p n) (sym two_more) ∙ is.test
+  tested = ap (are_terms p n) (sym two_more) ∙ test
 
   -- it is a column and a value
-  pub terms_go : (column x : ℕ) (b' : Building) → IsUpTo n column_word column → column ≢ 0 → ValueOf p value_of (Some x) →
-      b' ≡ record b { pushed = b.pushed ++ record { i = 0; j = column - 1; v = x } ∷ [] } → TermsRead p n ws (k + 2) b'
-  terms_go column x b' up some v e =
+  pub test_goes : (column : ℕ) (o : Option ℕ) → IsUpTo n column_word column → column ≢ 0 → ValueOf p value_of o → is_some o ≡ true →
+      are_terms p n (drop (k + 2) ws) ≡ are_terms p n (terms_of ws)
+  test_goes column None up some v there = absurd cc
+  test_goes column (Some x) up some v there =
       let at_zero : (value column_word == 0) ≡ false = let nonzero : value column_word ≢ 0 = λ z. some (up.spelled ∙ z) in grind (arith, nat_tests) in
-      record {
-        modulus = ap (λ (b : Building). b.modulus) e ∙ is.modulus;
-        height = ap (λ (b : Building). b.height) e ∙ is.height;
-        width = ap (λ (b : Building). b.width) e ∙ is.width;
-        test = sym (all_hold _ _ _ (are_terms p n (drop (k + 2) ws)) (both_hold _ _ up.test at_zero) v.0 v.1) ∙ tested;
-        sums = λ j.
-            let t : Triple = record { i = 0; j = column - 1; v = x } in
-            let pushed : sum_at 0 j b'.pushed ≡ sum_at 0 j b.pushed + cond ((column - 1) == j) x 0 =
-            ap (λ (b : Building). sum_at 0 j b.pushed) e ∙ sum_pushed 0 j b.pushed t in
-            let here : cond (value column_word == (j + 1)) (value_modulo p value_of) 0 ≡ cond ((column - 1) == j) x 0 =
-            ap (λ s. cond s (value_modulo p value_of) 0) (same_place (value column_word) column j up.spelled some) ∙ ap (λ y. cond ((column - 1) == j) y 0) (sym v.2) in
-            let parts : term_sum p j (drop k ws) ≡ cond (value column_word == (j + 1)) (value_modulo p value_of) 0 + term_sum p j (drop (k + 2) ws) = ap (term_sum p j) two_more in
-            omega (arith, pushed, here, parts, is.sums j);
-      }
+      sym (all_hold _ _ _ (are_terms p n (drop (k + 2) ws)) (both_hold _ _ up.test at_zero) v.0 v.1) ∙ tested
 
   -- or it isn't
   pub terms_no_column : is_up_to n column_word ≡ false → are_terms p n (terms_of ws) ≡ false
@@ -128,10 +117,46 @@ module _ (p n : ℕ) (ws : List (List ℕ)) (k : ℕ) (b : Building) (is : Terms
   terms_no_value (inl h) = sym tested ∙ second_fails (is_from_one_up_to n column_word) (is_value value_of) (divides_by_zero p value_of) (are_terms p n (drop (k + 2) ws)) h
   terms_no_value (inr h) = sym tested ∙ third_fails (is_from_one_up_to n column_word) (is_value value_of) (divides_by_zero p value_of) (are_terms p n (drop (k + 2) ws)) h
 
+-- It is a column and a value, which a builder is given.
+module _ (p n : ℕ) (ws : List (List ℕ)) (k : ℕ) (b : Building) (is : TermsRead p n ws k b) (l : k + 1 < length ws) where
+  pub terms_go : (column x : ℕ) (b' : Building) → IsUpTo n (slice_index_or ws k []) column → column ≢ 0 → ValueOf p (slice_index_or ws (k + 1) []) (Some x) →
+      b' ≡ record b { pushed = b.pushed ++ record { i = 0; j = column - 1; v = x } ∷ [] } → TermsRead p n ws (k + 2) b'
+  terms_go column x b' up some v e =
+      let column_word = slice_index_or ws k [] in
+      let value_of = slice_index_or ws (k + 1) [] in
+      record {
+        modulus = ap (λ (b : Building). b.modulus) e ∙ is.modulus;
+        height = ap (λ (b : Building). b.height) e ∙ is.height;
+        width = ap (λ (b : Building). b.width) e ∙ is.width;
+        test = test_goes p n ws k is.test l column (Some x) up some v refl;
+        sums = λ j.
+            let t : Triple = record { i = 0; j = column - 1; v = x } in
+            let pushed : sum_at 0 j b'.pushed ≡ sum_at 0 j b.pushed + cond ((column - 1) == j) x 0 =
+            ap (λ (b : Building). sum_at 0 j b.pushed) e ∙ sum_pushed 0 j b.pushed t in
+            let here : cond (value column_word == (j + 1)) (value_modulo p value_of) 0 ≡ cond ((column - 1) == j) x 0 =
+            ap (λ s. cond s (value_modulo p value_of) 0) (same_place (value column_word) column j up.spelled some) ∙ ap (λ y. cond ((column - 1) == j) y 0) (sym v.2) in
+            let parts : term_sum p j (drop k ws) ≡ cond (value column_word == (j + 1)) (value_modulo p value_of) 0 + term_sum p j (drop (k + 2) ws) = ap (term_sum p j) (two_more p n ws k is.test l) in
+            omega (arith, pushed, here, parts, is.sums j);
+      }
+
 -- a column without a value
-pub terms_odd : (p n : ℕ) (ws : List (List ℕ)) (k : ℕ) (b : Building) → TermsRead p n ws k b → length ws ≡ k + 1 → are_terms p n (terms_of ws) ≡ false
-terms_odd p n ws k b is one =
-    sym is.test ∙ ap (are_terms p n) (drop_more ws k [] (omega (arith, one)) ∙ ap (λ t. slice_index_or ws k [] ∷ t) (drop_all (k + 1) ws (omega (arith, one))))
+pub terms_odd : (p n : ℕ) (ws : List (List ℕ)) (k : ℕ) → are_terms p n (drop k ws) ≡ are_terms p n (terms_of ws) → length ws ≡ k + 1 → are_terms p n (terms_of ws) ≡ false
+terms_odd p n ws k test one =
+    sym test ∙ ap (are_terms p n) (drop_more ws k [] (omega (arith, one)) ∙ ap (λ t. slice_index_or ws k [] ∷ t) (drop_all (k + 1) ws (omega (arith, one))))
+
+-- no word is left
+pub terms_all : (p n : ℕ) (ws : List (List ℕ)) (k : ℕ) → are_terms p n (drop k ws) ≡ are_terms p n (terms_of ws) → length ws ≤ k → true ≡ are_terms p n (terms_of ws)
+terms_all p n ws k test done = sym (ap (are_terms p n) (drop_all k ws done)) ∙ test
+
+-- no value stands there
+pub value_missing : (p : ℕ) (w : List ℕ) (o : Option ℕ) → ValueOf p w o → is_some o ≡ false → ValueOf p w None
+value_missing p w None h none = h
+value_missing p w (Some x) h none = absurd cc
+
+-- none was tested but the first, which is no column
+pub test_begins : (p n : ℕ) (ws : List (List ℕ)) → 0 < length ws → are_terms p n (drop 1 ws) ≡ are_terms p n (terms_of ws)
+test_begins p n [] some = absurd (omega (arith, some))
+test_begins p n (w ∷ ws) some = refl
 
 -- all were read
 pub terms_end : (p n : ℕ) (ws : List (List ℕ)) (k : ℕ) (b : Building) → TermsRead p n ws k b → length ws ≤ k → (row : ResidueMatrix) → row.modulus ≡ b.modulus →
@@ -164,3 +189,8 @@ fits_read grow p n (name ∷ ws) m w =
     fits_either (FitsRows grow) (bytes_eq name (codes "row")) (Append (row_of_terms p n ws)) _ fits
     (fits_either (FitsRows grow) (bytes_eq name (codes "in")) (Contains (row_of_terms p n ws)) _ fits
     (fits_either (FitsRows grow) (bytes_eq name (codes "rank")) Rank _ tt (fits_either (FitsRows grow) (bytes_eq name (codes "rref")) Form End tt tt)))
+
+-- where the first word is `row` or `in`, a line is of a script's form exactly where terms follow
+pub terms_are_script : (p n : ℕ) (w : List ℕ) (ws : List (List ℕ)) → takes_terms w ≡ true → are_terms p n ws ≡ true → is_script p n (w ∷ ws) ≡ true
+terms_are_script p n w [] takes are = rw takes refl
+terms_are_script p n w (c ∷ ws) takes are = rw (takes, are) refl

@@ -1,6 +1,6 @@
 -- Rows that are appended to others.
 use Rattle.std.specs.Prelude.{◌≡◌, ◌+◌, ◌↔◌, Bool, false, if◌then◌else◌, ℕ, List, []}
-use Rattle.residue_words.specs.Matrix.{Matrix, IsCombination}
+use Rattle.residue_words.specs.Matrix.{Matrix, IsCombination, IsMatrix}
 use Rattle.residue_words.specs.Residues.{IsPrime}
 use Rattle.row_space.specs.Echelon.{IsRref, SameSpan}
 use Rattle.sparse_rows.specs.Rows.{ResidueMatrix}
@@ -15,8 +15,16 @@ without_rows p n = record { modulus = p; matrix = record { height = 0; width = n
 pub record AppendsRow (old new : ResidueMatrix) (v : List ℕ) (rose : Bool) : Type 0 where
   pub modulus : new.modulus ≡ old.modulus
   pub width : new.matrix.width ≡ old.matrix.width
+  pub matrix : IsMatrix old.modulus new.matrix
   pub height : new.matrix.height ≡ (if rose then old.matrix.height + 1 else old.matrix.height)
   pub spanned : (rose ≡ false) ↔ IsCombination old.modulus old.matrix v
   pub span : IsPrime old.modulus → SameSpan old.modulus new.matrix (with_row old.matrix v)
   pub form : IsPrime old.modulus → (E F : Matrix) → IsRref old.modulus old.matrix E →
       IsRref old.modulus new.matrix F ↔ IsRref old.modulus (with_row E v) F
+
+-- these rows span what those of a matrix do, where the modulus is prime
+pub record SpansRowsOf (A grow : ResidueMatrix) : Type 0 where
+  pub modulus : grow.modulus ≡ A.modulus
+  pub width : grow.matrix.width ≡ A.matrix.width
+  pub matrix : IsMatrix A.modulus grow.matrix
+  pub span : IsPrime A.modulus → SameSpan A.modulus grow.matrix A.matrix

@@ -1,3 +1,4 @@
 pub mod Answers
 pub mod Growing
 pub mod Script
+pub mod Scripts

@@ -5,7 +5,7 @@ ghost use Rattle.residue_words.specs.Residues.{IsPrime};
 ghost use Rattle.row_space.specs.Echelon.{HasRank, IsRref};
 ghost use Rattle.sparse_rows.specs.Stored.{IsSparse, spread};
 ghost use Rattle.sparse_rows.specs.declared.rows.TheConstants.{LARGEST_SIZE};
-ghost use Rattle.grow_form.specs.Growing.{AppendsRow, without_rows};
+ghost use Rattle.grow_form.specs.Growing.{AppendsRow, SpansRowsOf, without_rows};
 
 use crate::reduced_form::form_of;
 use residue_words::Modulus;
@@ -45,6 +45,17 @@ impl Grow {
         })
     }
 
+    /// The rows of a matrix, appended one after another.
+    pub fn of(alloc: Global, rows: &Rows) -> Result<Grow, AllocError>
+        ensures { IfOk result (SpansRowsOf rows.now) }
+    {
+        let mut grow = Grow::new(alloc, rows.width(), &rows.modulus())?;
+        for i in 0..rows.height() {
+            grow.append(rows.cols(i), rows.vals(i))?;
+        }
+        Ok(grow)
+    }
+
     /// Appends the row that stands in these columns and values, and answers whether the rank rose: false exactly where the row
     /// is a combination of those before. Where memory is wanted nothing changes.
     ///
@@ -55,9 +66,11 @@ impl Grow {
             (AppendsRow self.old self.new (spread self.old.matrix.width cols.now vals.now)) }
         ensures err { OnErr result (self.new ≡ self.old) }
     {
-        // The call tells what the kept rows promise before they change.
+        // The calls tell what the kept rows promise before they change and after it.
         let _ = self.kept.height();
-        Ok(self.kept.insert(cols, vals)?.is_some())
+        let lead = self.kept.insert(cols, vals)?;
+        let _ = self.kept.height();
+        Ok(lead.is_some())
     }
 
     /// Whether the row that stands in these columns and values is a combination of the rows. The time is that of the entries

@@ -6,9 +6,13 @@ mod answering;
 mod grow;
 mod reduced_form;
 mod script;
+mod scripts;
 #[cfg(test)]
 mod tests;
+mod writing;
 
 pub use answering::{Answer, answer_line};
 pub use grow::Grow;
 pub use script::{ScriptLine, script_line};
+pub use scripts::answer_script;
+pub use writing::write_answers;

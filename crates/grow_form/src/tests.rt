@@ -1,10 +1,11 @@
 // Scripts with answers that are known from outside.
-ghost use Rattle.std.specs.Prelude.{◌≤◌};
+ghost use Rattle.std.specs.Prelude.{◌<◌, ◌≤◌, All, IfOk};
 ghost use Rattle.sparse_rows.specs.declared.rows.TheConstants.{LARGEST_SIZE};
+ghost use Rattle.grow_form.specs.Scripts.{FitsText};
 
-use crate::{Answer, Grow, answer_line, script_line};
+use crate::{Answer, Grow, answer_line, answer_script, script_line, write_answers};
 use residue_words::Modulus;
-use sms_text::{Line, Reader, SteadySource};
+use sms_text::{Kind, Line, MemorySink, Reader, SteadySource, TextError, read_rows};
 use std::alloc::{AllocError, Global};
 use std::test::Fail;
 
@@ -97,6 +98,80 @@ fn answers_to(alloc: Global, width: u32, lines: &[&[u8]]) -> Result<Vec<u64>, Al
 fn scripts_are_answered(rt: HostRuntime) -> Result<(), Fail> {
     for (width, lines, answers) in &SCRIPTS {
         assert_eq!(rt; answers_to(rt.alloc(), *width, lines)?.as_slice(), *answers);
+    }
+    Ok(())
+}
+
+// Each row: a matrix and the script behind it, modulo 7, and what is written, or the line and kind of the first fault.
+const TEXTS: [(&[u8], &[u8], u64, Kind); 9] = [
+    (
+        b"0 3 M\n0 0 0\nrow 1 2 2 4 3 1\nrank\nrow 1 1 2 2\nrow 1 3 2 6 3 1\nrref\nin 1 1\nin\nend\n",
+        b"rank 1\n2 3 M\n1 1 1\n1 2 2\n2 3 1\n0 0 0\nno\nyes\n",
+        0,
+        Kind::Long,
+    ),
+    (
+        b"2 2 M\n1 1 3\n2 1 1\n0 0 0\n% a\n rank\nin 1 1/2\nin 2 7\nrow 2 1\n\nrank\nin 1 1 2 1\nend\nrank\n",
+        b"rank 1\nyes\nyes\nrank 2\nyes\n",
+        0,
+        Kind::Long,
+    ),
+    (b"3 0 M\n0 0 0\nrref\nend", b"0 0 M\n0 0 0\n", 0, Kind::Long),
+    (b"0 3 M\n0 0 0\nend\n", b"", 0, Kind::Long),
+    (b"0 3 M\n0 0 0\nrow 4 1\nend\n", b"", 3, Kind::Script),
+    (b"0 3 M\n0 0 0\nrank\nin 1 1/7\nend\n", b"", 4, Kind::Script),
+    (b"0 3 M\n0 0 0\nend 1\n", b"", 3, Kind::Script),
+    (b"0 3 M\n0 0 0\nrank\n", b"", 4, Kind::NoEnd),
+    (
+        b"0 3 M\n0 0 0\nrank\nend and more bytes than are read\n",
+        b"",
+        4,
+        Kind::Script,
+    ),
+];
+
+// The answers to the script behind the matrix of a text, modulo 7.
+fn answers_in(
+    alloc: Global,
+    text: &[u8],
+    at_once: usize,
+) -> Result<Result<Vec<Answer>, TextError>, Fail>
+    requires { 0 < at_once }
+    ensures { IfOk result (λ r. IfOk r (λ answers. All FitsText answers.items)) }
+{
+    let seven = Modulus::new(7);
+    let mut source = SteadySource::new(Vec::from_slice(alloc, text)?, at_once);
+    let mut reader = Reader::new(alloc, 1000)?;
+    let Ok(a) = read_rows(&mut reader, alloc, &mut source, &seven) else {
+        return Err(Fail::new("the matrix isn't read"));
+    };
+    let outcome = answer_script(&mut reader, alloc, &mut source, &a);
+    Ok(outcome)
+}
+
+// Whether just this text is written of answers.
+fn are_written_as(alloc: Global, answers: &[Answer], text: &[u8]) -> Result<bool, Fail>
+    requires { All FitsText answers.now }
+{
+    let mut sink = MemorySink::new(alloc, 400, 16, Vec::new(alloc))?;
+    let done = write_answers(&mut sink, answers);
+    Ok(done.is_ok() && sink.content() == text)
+}
+
+#[test]
+fn scripts_behind_matrices_are_answered_or_their_first_fault_is_named(
+    rt: HostRuntime,
+) -> Result<(), Fail> {
+    for at_once in [1, 100] {
+        for (text, written, line, kind) in TEXTS {
+            match answers_in(rt.alloc(), text, at_once)? {
+                Ok(answers) => {
+                    assert_eq!(rt; line, 0);
+                    assert!(rt; are_written_as(rt.alloc(), &answers, written)?);
+                }
+                Err(error) => assert_eq!(rt; error, TextError::Bad { line, kind }),
+            }
+        }
     }
     Ok(())
 }

@@ -15,4 +15,4 @@ returns-clause-ok c =
     spread_vector (omega (arith, c.height.ensures.sound.two_or_more)) sparse in
     subst (λ (g : ResidueMatrix). AppendsRow g (seen c.insert.new.self) (spread g.matrix.width c.args.cols.now c.args.vals.now) c.is_some.result) c.self.view_is
     (subst (AppendsRow (seen c.self.inside.kept) (seen c.insert.new.self) (spread c.self.inside.kept.matrix.width c.args.cols.now c.args.vals.now)) (sym c.is_some.ensures)
-    (appends_inserted c.insert.new.self c.height.ensures.sound vector c.in_ok-insert.field-0 c.in_ok-insert.ensures.inserted))
+    (appends_inserted c.insert.new.self c.height.ensures.sound c.height-2.ensures.sound vector c.in_ok-lead.lead c.in_ok-lead.ensures.inserted))
