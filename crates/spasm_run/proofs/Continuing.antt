@@ -155,7 +155,7 @@ says_yes r d bytes s said asks e has certified =
     ]
   where
     -- its answer was `yes`
-    yes : (answer : List ℕ) (told : Contents) → VerdictOn d.modulus told answer → EndsWith Check d.modulus told Done → answer ≡ codes "yes\n"
+    yes : (answer : List ℕ) (told : Contents) → VerdictOn (IsCertified d.modulus told) answer → EndsWith Check d.modulus told Done → answer ≡ codes "yes\n"
     yes answer told (inl valid) ends = valid.1
     yes answer told (inr invalid) (inl valid) = absurd (invalid.0 valid.0)
     yes answer told (inr invalid) (inr other) = absurd (let e = other.1 in let none : ⊥ = cc in none)
@@ -165,7 +165,7 @@ says_yes r d bytes s said asks e has certified =
     done (inl valid) =
         let w = wrote r d (subst (Ran r) valid.1 e.ran) e.offered.accepted in
         let h = w.1.has in
-        let verdict : RestsOn Check d.modulus → VerdictOn d.modulus h.said w.0 = subst (λ t. RestsOn t d.modulus → AnswerTo t d h.said w.0) asks h.answers in
+        let verdict : RestsOn Check d.modulus → VerdictOn (IsCertified d.modulus h.said) w.0 = subst (λ t. RestsOn t d.modulus → AnswerTo t d h.said w.0) asks h.answers in
         let is = yes w.0 h.said (verdict tt) (subst (λ t. EndsWith t d.modulus h.said Done) asks h.ends) in
         inl (valid.1, subst (λ t. Gained t r.out r.out_after) is w.1.gained)
 

@@ -14,6 +14,7 @@ pub mod OneTrace
 pub mod PlaceSums
 pub mod Program
 pub mod Reading
+pub mod Scripted
 pub mod Solving
 pub mod Spelled
 pub mod Spreading

@@ -6,6 +6,7 @@ use Rattle.residue_words.specs.Matrix.{Matrix, row}
 use Rattle.row_space.proofs.InverseLaws.{inverse_unique}
 use Rattle.row_space.proofs.Unique.{kernel_unique, rank_unique, refutation_unique, rref_unique, solution_unique}
 use Rattle.kernel_solve.specs.Column.{column, column_matrix}
+use Rattle.grow_form.proofs.OneScript.{one_script}
 use Rattle.sms_text.specs.Written.{text_of}
 use Rattle.sparse_rows.specs.Rows.{transposed}
 use Rattle.certificates.specs.declared.certificate.CertKind.{CertKind}
@@ -14,7 +15,7 @@ use Rattle.spasm_run.specs.declared.words.Command.{Command}
 use Rattle.spasm_run.specs.declared.words.Task.{Task}
 use Rattle.spasm_run.specs.Contents.{HasLawfulTrace, IsCertified}
 use Rattle.spasm_run.specs.Generator.{generated, summary_of}
-use Rattle.spasm_run.specs.Answers.{AnswerTo, InvertsTo, IsOneAnswer, MatricesAnswer, SolvesTo, VerdictOn, as_row, misfit, pivots_text, rank_text}
+use Rattle.spasm_run.specs.Answers.{AnswerTo, AnswersScript, InvertsTo, IsOneAnswer, MatricesAnswer, SolvesTo, VerdictOn, as_row, misfit, pivots_text, rank_text}
 use Rattle.spasm_run.proofs.OneSelection.{selection_one}
 use Rattle.spasm_run.proofs.OneTrace.{trace_one}
 
@@ -89,6 +90,11 @@ answers_one task.Grow c values x y two fits alone other s t = absurd s
 answers_one (task.Certify k) c values x y two fits alone other s t = absurd (other k refl)
 answers_one (task.Drill g) c (A ∷ values) x y two fits alone other s t = absurd s
 
+one_answers : (p : ℕ) (values : List Matrix) (lines : List (List (List ℕ))) (x y : List ℕ) → 2 ≤ p → AnswersScript p values lines x → AnswersScript p values lines y → x ≡ y
+one_answers p (A ∷ []) lines x y two s t = one_script p A lines x y two s t
+one_answers p [] lines x y two s t = absurd s
+one_answers p (A ∷ B ∷ values) lines x y two s t = absurd s
+
 pub one_answer : IsOneAnswer
 one_answer c said x y two fits alone other s t = go c.task fits alone other s t
   where
@@ -103,6 +109,6 @@ one_answer c said x y two fits alone other s t = go c.task fits alone other s t
     go task.Check fits alone other s t = one_verdict (IsCertified c.modulus said) x y s t
     go task.Trace fits alone other s t = answers_one task.Trace c said.matrices x y two fits alone other s t
     go task.Replay fits alone other s t = one_verdict (HasLawfulTrace c.modulus said) x y s t
-    go task.Grow fits alone other s t = answers_one task.Grow c said.matrices x y two fits alone other s t
+    go task.Grow fits alone other s t = one_answers c.modulus said.matrices said.lines x y two s t
     go (task.Certify k) fits alone other s t = absurd (other k refl)
     go (task.Drill g) fits alone other s t = answers_one (task.Drill g) c said.matrices x y two fits alone other s t

@@ -290,6 +290,7 @@ ends_done_or_no (answer.Certificate c) = inl refl
 ends_done_or_no (answer.Trace t) = inl refl
 ends_done_or_no (answer.Verdict true) = inl refl
 ends_done_or_no (answer.Verdict false) = inr refl
+ends_done_or_no (answer.Script answers) = inl refl
 
 -- the answer was written
 written : (r : Run) (input : Input) (a : Answer) (s : Status) → status_behind a ≡ s → IsAnswered r.words r.limit input (answer_text a) (status_behind a) → Gained (answer_text a) r.out r.out_after →

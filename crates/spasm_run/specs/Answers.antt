@@ -19,6 +19,7 @@ use Rattle.sparse_rows.specs.Rows.{transposed}
 use Rattle.pluq_factor.specs.Staged.{Staged}
 use Rattle.certificates.specs.declared.certificate.CertKind.{CertKind}
 use Rattle.certificates.specs.CertificateText.{certificate_text, claim_word, kind_word}
+use Rattle.grow_form.specs.Scripts.{AnswersLines}
 use Rattle.spasm_run.specs.declared.commands.TheConstants.{LARGEST_INVERTED}
 use Rattle.spasm_run.specs.declared.status.Status.{Status}
 use Rattle.spasm_run.specs.declared.status.Status.TheVariants.{Done, No, Shape, Wide}
@@ -103,10 +104,16 @@ MatricesAnswer task c values text = ⊥
 abbrev pub VerdictOn : Type 0 → List ℕ → Type 0
 VerdictOn Claim text = (Claim × (text ≡ codes "yes\n")) ⊎ (¬ Claim × (text ≡ codes "no\n"))
 
+-- the answers to the lines of a script behind a matrix
+abbrev pub AnswersScript : ℕ → List Matrix → List (List (List ℕ)) → List ℕ → Type 0
+AnswersScript p (A ∷ []) lines text = AnswersLines p A lines text
+AnswersScript p values lines text = ⊥
+
 -- the text is the answer to the task of this command for what was read
 abbrev pub AnswerTo : Task → Command → Contents → List ℕ → Type 0
 AnswerTo Check c said text = VerdictOn (IsCertified c.modulus said) text
 AnswerTo Replay c said text = VerdictOn (HasLawfulTrace c.modulus said) text
+AnswerTo Grow c said text = AnswersScript c.modulus said.matrices said.lines text
 AnswerTo task c said text = MatricesAnswer task c said.matrices text
 
 -- the text is the answer to the command for what was read

@@ -16,6 +16,7 @@ use Rattle.kernel_solve.specs.Found.{Answers}
 use Rattle.sms_text.specs.Reading.{Draws, untouched}
 use Rattle.sms_text.specs.Stream.{SourceState}
 use Rattle.sms_text.specs.Written.{IsSmallPlace, text_of}
+use Rattle.grow_form.specs.Scripts.{FitsText, answers_text}
 use Rattle.spasm_run.specs.declared.answer.Answer.{Answer}
 use Rattle.spasm_run.specs.declared.answer.Answer.TheVariants as answer
 use Rattle.spasm_run.specs.declared.status.Status.{Status}
@@ -43,6 +44,7 @@ answer_text (answer.Summary s) = summary_text s.rank s.entries s.sum
 answer_text (answer.Certificate c) = certificate_text (certificate_of c)
 answer_text (answer.Trace t) = trace.trace_text t.p t.publications
 answer_text (answer.Verdict valid) = if valid then codes "yes\n" else codes "no\n"
+answer_text (answer.Script answers) = answers_text answers.items
 
 -- the status of a run that wrote this answer
 abbrev pub status_behind : Answer → Status
@@ -65,6 +67,7 @@ IsSmall (answer.Summary s) = Unit {0}
 IsSmall (answer.Certificate c) = IsFormed c.l.modulus c × HasText (certificate_of c)
 IsSmall (answer.Trace t) = trace.HasText t
 IsSmall (answer.Verdict valid) = Unit {0}
+IsSmall (answer.Script answers) = All FitsText answers.items
 
 -- the matrix that a certificate of this kind claims of A: one that can be written, and that shows it to any factors of A
 pub record IsClaimed (p : ℕ) (A : Matrix) (kind : CertKind) (extra : Option ResidueMatrix) : Type 0 where

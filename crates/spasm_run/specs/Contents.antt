@@ -11,6 +11,9 @@ use Rattle.certificates.specs.CertificateText.{certificate_said}
 use Rattle.run_trace.specs.declared.trace.Trace.{Trace}
 use Rattle.run_trace.specs.Lawful.{IsLawfulTrace}
 use Rattle.run_trace.specs.TraceText.{trace_said}
+use Rattle.residue_words.specs.Residues.{IsPrime}
+use Rattle.grow_form.specs.declared.answering.Answer.{Answer}
+use Rattle.grow_form.specs.Scripts.{AnswersLines, answers_text}
 
 pub record Contents : Type 0 where
   pub matrices : List Matrix
@@ -51,3 +54,9 @@ pub record HasLawfulTrace (p : ℕ) (said : Contents) : Type 0 where
 pub record AreToReplay (A : ResidueMatrix) (t : Trace) (said : Contents) : Type 0 where
   pub matrices : said.matrices ≡ A.matrix ∷ []
   pub says : trace_said said.lines ≡ Some t
+
+-- the contents are a matrix and the lines of a script behind it, which has these answers where the modulus is prime
+pub record AreAnswered (p : ℕ) (answers : List Answer) (said : Contents) : Type 0 where
+  pub matrix : Matrix
+  pub matrices : said.matrices ≡ matrix ∷ []
+  pub answered : IsPrime p → AnswersLines p matrix said.lines (answers_text answers)

@@ -1,5 +1,6 @@
 -- The input of a run, and the contents that it is read as.
-use Rattle.std.specs.Prelude.{◌≡◌, ◌<◌, Bool, ℕ, List, [], ◌∷◌, Result, Ok, Err}
+use Rattle.std.specs.Prelude.{◌≡◌, ◌<◌, Bool, ℕ, List, [], ◌∷◌, Result, Ok, Err, Vec}
+use Rattle.std.specs.declared.alloc.Global.{Global}
 use Rattle.sms_text.specs.declared.kind.TextError.{TextError}
 use Rattle.sms_text.specs.Lines.{Line}
 use Rattle.sms_text.specs.Reading.{Draws, IsShort, Says, Supply, is_failed, untouched}
@@ -9,7 +10,8 @@ use Rattle.sparse_rows.specs.Rows.{ResidueMatrix}
 use Rattle.sparse_rows.specs.declared.rows.TheConstants.{LARGEST_SIZE}
 use Rattle.certificates.specs.declared.certificate.Certificate.{Certificate}
 use Rattle.run_trace.specs.declared.trace.Trace.{Trace}
-use Rattle.spasm_run.specs.Contents.{AreToCheck, AreToReplay, Contents, contents, matrices_alone}
+use Rattle.grow_form.specs.declared.answering.Answer.{Answer}
+use Rattle.spasm_run.specs.Contents.{AreAnswered, AreToCheck, AreToReplay, Contents, contents, matrices_alone}
 
 -- what was taken from a source: these bytes, and whether the end was found behind them
 pub record Input : Type 0 where
@@ -58,6 +60,12 @@ WereRead r (Err e) old new = WasRead r (Err e) old new
 abbrev pub WereReadToReplay : Request → Result (ResidueMatrix × Trace) TextError → SourceState → SourceState → Type 0
 WereReadToReplay r (Ok (A, t)) old new = (said : Contents) × WasRead r (Ok said) old new × AreToReplay A t said
 WereReadToReplay r (Err e) old new = WasRead r (Err e) old new
+
+-- a matrix and a script behind it were read, and the script was answered, or not
+abbrev pub WasAnswered : Request → Result (Vec Answer Global) TextError → SourceState → SourceState → Type 0
+WasAnswered r (Ok answers) old new =
+    (said : Contents) × WasRead r (Ok said) old new × AreAnswered r.modulus answers.items said
+WasAnswered r (Err e) old new = WasRead r (Err e) old new
 
 -- what holds of each matrix that was read
 pub record IsOfText (p : ℕ) (A : ResidueMatrix) : Type 0 where

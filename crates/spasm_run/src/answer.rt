@@ -7,6 +7,7 @@ use crate::status::Status;
 use crate::summary::Summary;
 use crate::written_pivots::write_pivots;
 use certificates::Certificate;
+use grow_form::write_answers;
 use pivot_table::Pair;
 use run_trace::Trace;
 use sms_text::{Sink, WriteFault, write_rows, write_text, write_titled};
@@ -37,6 +38,8 @@ pub(crate) enum Answer {
     Trace(Trace),
     // Whether a certificate is valid, or a trace lawful.
     Verdict(bool),
+    // The answers to a script.
+    Script(Vec<grow_form::Answer>),
 }
 
 impl Answer {
@@ -60,6 +63,7 @@ impl Answer {
             Answer::Trace(trace) => run_trace::write(out, trace),
             Answer::Verdict(true) => write_text(out, "yes\n"),
             Answer::Verdict(false) => write_text(out, "no\n"),
+            Answer::Script(answers) => write_answers(out, answers),
         }
     }
 

@@ -1,12 +1,14 @@
-// The matrices of an input, and a certificate or a trace behind one.
-ghost use Rattle.std.specs.Prelude.{◌≤◌, [], ◌∷◌, IfOk};
+// The matrices of an input, and a certificate, a trace or a script behind one.
+ghost use Rattle.std.specs.Prelude.{◌≤◌, [], ◌∷◌, All, IfOk};
 ghost use Rattle.sms_text.specs.OuterLines as form;
-ghost use Rattle.sms_text.specs.Text.{Header, Outer};
+ghost use Rattle.sms_text.specs.Text.{Header, Outer, Scripted};
 ghost use Rattle.sms_text.specs.declared.reader.TheConstants.{LARGEST_INPUT};
 ghost use Rattle.certificates.specs.Certificate.{IsFormed};
-ghost use Rattle.spasm_run.specs.Input.{IsOfText, WasRead, WereRead, WereReadToReplay, one_value, two_values};
+ghost use Rattle.grow_form.specs.Scripts.{FitsText};
+ghost use Rattle.spasm_run.specs.Input.{IsOfText, WasAnswered, WasRead, WereRead, WereReadToReplay, one_value, two_values};
 
 use certificates::Certificate;
+use grow_form::{Answer, answer_script};
 use residue_words::Modulus;
 use run_trace::Trace;
 use sms_text::{Reader, Source, TextError, read_rows};
@@ -93,4 +95,24 @@ pub(crate) fn read_to_replay<S: Source>(
     let a = read_rows(&mut reader, alloc, source, p)?;
     let trace = run_trace::read(&mut reader, alloc, source)?;
     Ok((a, trace))
+}
+
+// Reads a matrix, and answers the script behind it, in an input of at most `limit` bytes.
+pub(crate) fn read_and_answer<S: Source>(
+    alloc: Global,
+    p: &Modulus,
+    source: &mut S,
+    limit: u64,
+) -> Result<Vec<Answer>, TextError>
+    requires { limit ≤ LARGEST_INPUT }
+    ensures did { WasAnswered (record { modulus = p.now; limit = limit; due = Scripted ∷ [] })
+        result (S.state source.old) (S.state source.new) }
+    ensures fits { IfOk result (λ answers. All FitsText answers.items) }
+{
+    let Ok(mut reader) = Reader::new(alloc, limit) else {
+        return Err(TextError::Memory);
+    };
+    let a = read_rows(&mut reader, alloc, source, p)?;
+    let answers = answer_script(&mut reader, alloc, source, &a)?;
+    Ok(answers)
 }

@@ -17,7 +17,7 @@ use crate::commands::{
     find_certificate, find_form, find_inverse, find_kernel, find_lawfulness, find_left_kernel,
     find_pivots, find_rank, find_solution, find_summary, find_trace, find_verdict,
 };
-use crate::read_matrices::{read_one, read_to_check, read_to_replay, read_two};
+use crate::read_matrices::{read_and_answer, read_one, read_to_check, read_to_replay, read_two};
 use crate::status::Status;
 use crate::words::{Command, Task, read_words};
 use optimistic_search::Gate;
@@ -217,7 +217,10 @@ fn find_for<R: Threads + Sync, S: Source, G: Gate>(
             let (a, trace) = read_to_replay(alloc, &p, source, limit)?;
             find_lawfulness(alloc, &a, &trace)
         }
-        Task::Grow => Err(Status::Memory),
+        Task::Grow => {
+            let answers = read_and_answer(alloc, &p, source, limit)?;
+            Ok(Answer::Script(answers))
+        }
         Task::Drill(generator) => find_summary(rt, alloc, &p, &generator, command, gate),
         Task::Certify(kind) => {
             let a = read_one(alloc, &p, source, limit)?;

@@ -307,6 +307,19 @@ const ANSWERS: &[(&str, &str, &str, &str)] = &[
     ),
     ("inverse", "7", X, "singular\n1 3 M\n1 1 5\n1 2 1\n0 0 0\n"),
     ("inverse", "7", "0 0 M\n0 0 0\n", "inverse\n0 0 M\n0 0 0\n"),
+    (
+        "grow",
+        "7",
+        "0 3 M\n0 0 0\nrow 1 2 2 4 3 1\nrank\nrow 1 1 2 2\nrow 1 3 2 6 3 1\nrref\nin 1 1\nin\nend\n",
+        "rank 1\n2 3 M\n1 1 1\n1 2 2\n2 3 1\n0 0 0\nno\nyes\n",
+    ),
+    (
+        "grow",
+        "7",
+        "2 2 M\n1 1 3\n2 1 1\n0 0 0\nrank\nin 2 7\nrow 2 1/2\nrank\nend\nno line of it",
+        "rank 1\nyes\nrank 2\n",
+    ),
+    ("grow", "7", "0 1 M\n0 0 0\nend", ""),
     ("rank", "7", X, "rank 2\n"),
     ("rref", "7", X, "2 3 M\n1 1 1\n1 2 2\n2 3 1\n0 0 0\n"),
 ];
@@ -951,6 +964,33 @@ const FAULTS: &[(&str, &str, Status, &str)] = &[
             kind: Kind::Words,
         },
         "error 3 line 3 kind 1\n",
+    ),
+    (
+        "grow",
+        "0 3 M\n0 0 0\nrow 4 1\nend\n",
+        Status::BadText {
+            line: 3,
+            kind: Kind::Script,
+        },
+        "error 3 line 3 kind 12\n",
+    ),
+    (
+        "grow",
+        "0 3 M\n0 0 0\nrank\n",
+        Status::BadText {
+            line: 4,
+            kind: Kind::NoEnd,
+        },
+        "error 3 line 4 kind 7\n",
+    ),
+    (
+        "grow",
+        "0 3 M\n0 0 1\nend\n",
+        Status::BadText {
+            line: 2,
+            kind: Kind::Row,
+        },
+        "error 3 line 2 kind 4\n",
     ),
 ];
 

@@ -1,9 +1,10 @@
 -- What is found for the matrices of a command is found for its words.
-use Rattle.std.proofs.Common.{[], ◌∷◌, subst, sym}
+use Rattle.std.proofs.Common.{[], ◌∷◌, refl, subst, sym}
 use Rattle.certificates.specs.Certificate.{IsFormed}
 use Rattle.spasm_run.specs.declared.words.Task.TheVariants as task
 use Rattle.spasm_run.specs.Contents.{matrices_alone}
-use Rattle.spasm_run.proofs.Whole.{found_generated, found_given, found_memory, found_unread}
+use Rattle.spasm_run.proofs.Scripted.{script_answers}
+use Rattle.spasm_run.proofs.Whole.{found_generated, found_given, found_unread}
 use Rattle.spasm_run.proofs.running.find_for.Goals as goal
 
 pub returns-in_ok-read_one-in-Rank-clause-found : goal.returns-in_ok-read_one-in-Rank-clause-found
@@ -116,5 +117,12 @@ pub returns-in_err-a-in-Replay-clause-found : goal.returns-in_err-a-in-Replay-cl
 returns-in_err-a-in-Replay-clause-found g c = λ words accepted.
     found_unread words c.args.command task.Replay c.new-p.result c.args.limit _ _ c.in_err-a-in-Replay.field-0.0 _ c.in-Replay.is c.new-p.ensures c.from_residual-in_err-a-in-Replay.ensures.1 accepted c.in_err-a-in-Replay.ensures.did
 
-pub returns-in-Grow-clause-found : goal.returns-in-Grow-clause-found
-returns-in-Grow-clause-found g c = λ words accepted. found_memory words c.args.limit _
+pub returns-in_ok-answers-in-Grow-clause-found : goal.returns-in_ok-answers-in-Grow-clause-found
+returns-in_ok-answers-in-Grow-clause-found g c = λ words accepted.
+    let (said, was, are) = c.in_ok-answers-in-Grow.ensures.did in
+    found_given words c.args.command task.Grow c.new-p.result c.new-p.result c.args.limit _ _ said _ c.in-Grow.is c.new-p.ensures refl accepted was
+    (script_answers c.new-p.result c.in_ok-answers-in-Grow.answers said c.args.command c.in_ok-answers-in-Grow.ensures.fits are)
+
+pub returns-in_err-answers-in-Grow-clause-found : goal.returns-in_err-answers-in-Grow-clause-found
+returns-in_err-answers-in-Grow-clause-found g c = λ words accepted.
+    found_unread words c.args.command task.Grow c.new-p.result c.args.limit _ _ c.in_err-answers-in-Grow.field-0.0 _ c.in-Grow.is c.new-p.ensures c.from_residual-in_err-answers-in-Grow.ensures.1 accepted c.in_err-answers-in-Grow.ensures.did
