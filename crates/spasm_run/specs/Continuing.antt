@@ -7,7 +7,7 @@ use Rattle.certificates.specs.declared.certificate.CertKind.{CertKind}
 use Rattle.spasm_run.specs.declared.status.Status.{Status}
 use Rattle.spasm_run.specs.declared.status.Status.TheVariants.{Done, Memory}
 use Rattle.spasm_run.specs.declared.words.Command.{Command}
-use Rattle.spasm_run.specs.declared.words.Task.TheVariants.{Check, Certify}
+use Rattle.spasm_run.specs.declared.words.Task.TheVariants.{Check, Trace, Replay, Certify}
 use Rattle.spasm_run.specs.Ran.{IsOffered, Ran, Run, request}
 use Rattle.spasm_run.specs.Words.{Accepted}
 
@@ -48,6 +48,15 @@ abbrev pub CertifiedIsChecked : Type 0
 CertifiedIsChecked = (first second : Run) (c d : Command) (text answer : List ℕ) (s : Status) →
     IsPrime c.modulus → CertifyAndCheck c d → Answered first c text answer →
     EndedOn second d (text ++ answer) s → SaysYes second s
+
+-- the first command traces, and the second replays, modulo the same number
+abbrev pub TraceAndReplay : Command → Command → Type 0
+TraceAndReplay c d = (c.task ≡ Trace) × (d.task ≡ Replay) × (d.modulus ≡ c.modulus)
+
+-- What `trace` wrote for a matrix text, put behind this text, is answered `yes` by `replay`, for every modulus.
+abbrev pub TracedIsReplayed : Type 0
+TracedIsReplayed = (first second : Run) (c d : Command) (text answer : List ℕ) (s : Status) →
+    TraceAndReplay c d → Answered first c text answer → EndedOn second d (text ++ answer) s → SaysYes second s
 
 -- the matrix (5) and the certificate of its rank modulo 7
 abbrev pub five_text : List ℕ
