@@ -1,5 +1,6 @@
 pub mod Growing
+pub mod OneScript
+pub mod ScriptAnswers
 pub mod ScriptReading
 pub mod ScriptTerms
-pub mod ScriptAnswers
 pub mod Spanning

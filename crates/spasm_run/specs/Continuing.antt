@@ -58,7 +58,7 @@ abbrev pub TracedIsReplayed : Type 0
 TracedIsReplayed = (first second : Run) (c d : Command) (text answer : List ℕ) (s : Status) →
     TraceAndReplay c d → Answered first c text answer → EndedOn second d (text ++ answer) s → SaysYes second s
 
--- the matrix (5) and the certificate of its rank modulo 7
+-- the text of the matrix (5), and what is wanted of it
 abbrev pub five_text : List ℕ
 five_text = codes "1 1 M\n1 1 5\n0 0 0\n"
 
