@@ -32,6 +32,10 @@ expect 3 '' 'error 3 line 1 kind 6\n' '' rank
 expect 4 '' 'error 4 shape 1 2\n' '1 2 M\n0 0 0\n' inverse
 expect 0 'yes\n' '' '1 1 M\n0 0 0\ncertificate rank 7 0\n1 0 M\n0 0 0\n0 1 M\n0 0 0\n' check --modulus 7
 expect 1 'no\n' '' '1 1 M\n1 1 1\n0 0 0\ncertificate rank 7 0\n1 0 M\n0 0 0\n0 1 M\n0 0 0\n' check --modulus 7
+expect 0 'trace 7 1\n1 1 0\n' '' "$answer" trace --modulus 7
+expect 0 'yes\n' '' '1 1 M\n1 1 1\n0 0 0\ntrace 7 1\n1 1 0\n' replay --modulus 7
+expect 1 'no\n' '' '1 1 M\n1 1 1\n0 0 0\ntrace 7 1\n1 1 1\n' replay --modulus 7
+expect 0 'rank 1\nyes\n' '' '0 2 M\n0 0 0\nrow 1 3\nrank\nin 1 5\nend\n' grow --modulus 7
 
 # A source that fails, and an output and an error stream that take nothing.
 ./spasm rank </ >"$results/out" 2>"$results/err"
