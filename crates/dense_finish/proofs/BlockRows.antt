@@ -1,9 +1,11 @@
 -- Rows that change one after another.
-use Rattle.std.proofs.Common.{ℕ, ◌≡◌, ◌+◌, ◌<◌, inl, inr, List, [], ◌∷◌, ◌++◌, length, slice_index_or, slice_set, sym, ap, subst, ◌∙◌, arith, length-append}
+use Rattle.std.proofs.Common.{ℕ, ◌≡◌, ◌+◌, ◌-◌, ◌<◌, ◌≤◌, drop, inl, inr, length-drop, take, List, [], ◌∷◌, ◌++◌, length, slice_index_or, slice_set, sym, ap, subst, ◌∙◌, arith, length-append}
 use Rattle.std.proofs.Math.ListN.{get_or-append}
 use Rattle.std.proofs.Math.Seq.{get_or-append_seam}
 use Rattle.std.proofs.lemmas.Bool.{cases_eq}
-use Rattle.std.proofs.lemmas.List.{get_or_default, get_or-set_same, get_or-set_other}
+use borrow.Rule.Slice.PartMut.{post_of, put_mid}
+use Rattle.std.proofs.lemmas.List.{get_or-append_right, get_or-drop, get_or-set_other, get_or-set_same, get_or-take, get_or_append_left, get_or_default, length-take-le}
+use Rattle.std.proofs.lemmas.Slice.{drop-put_mid}
 use Rattle.dense_finish.specs.Block.{block_row}
 use Rattle.dense_finish.specs.Panel.{PanelReduces, PanelRows}
 
@@ -32,3 +34,34 @@ appended P xs v here before t l =
 -- a row that was read and reduced
 pub reduced_row : (p : ℕ) (panel : PanelRows) (block : List (List ℕ)) (i : ℕ) (d v : List ℕ) → i < length block → PanelReduces p panel (slice_index_or block i d) v → PanelReduces p panel (block_row block i) v
 reduced_row p panel block i d v l h = subst (λ u. PanelReduces p panel u v) (read_row block i d l) h
+
+-- a part of the rows, and the rows when the part is put back changed
+pub part_row : (a k : ℕ) (rows : List (List ℕ)) (t : ℕ) → t < k → block_row (take k (drop a rows)) t ≡ block_row rows (a + t)
+part_row a k rows t l = get_or-take k (drop a rows) t [] l ∙ get_or-drop a rows t []
+
+pub put_row_below : (a k : ℕ) (rows part : List (List ℕ)) (t : ℕ) → a ≤ length rows → t < a → block_row (put_mid a k rows part) t ≡ block_row rows t
+put_row_below a k rows part t within l = get_or_append_left (take a rows) _ [] t (omega (arith, length-take-le a rows within)) ∙ get_or-take a rows t [] l
+
+pub put_row_at : (a k : ℕ) (rows part : List (List ℕ)) (t : ℕ) → a ≤ length rows → t < length part → block_row (put_mid a k rows part) (a + t) ≡ block_row part t
+put_row_at a k rows part t within l =
+    let back : a + t - a ≡ t = omega arith in
+    get_or-append_right (take a rows) _ a (a + t) [] (length-take-le a rows within) (omega arith) ∙ ap (λ i. slice_index_or (part ++ post_of a k rows) i []) back ∙ get_or_append_left part _ [] t l
+
+pub put_row_behind : (a k : ℕ) (rows part : List (List ℕ)) (t : ℕ) → a ≤ length rows → length part ≡ k → a + k ≤ t → block_row (put_mid a k rows part) t ≡ block_row rows t
+put_row_behind a k rows part t within long le =
+    let place : a + k + (t - (a + k)) ≡ t = omega arith in
+    ap (block_row (put_mid a k rows part)) (sym place) ∙ sym (get_or-drop (a + k) (put_mid a k rows part) (t - (a + k)) [])
+    ∙ ap (λ l. slice_index_or l (t - (a + k)) []) (drop-put_mid a k rows part (a + k) (omega arith) within long) ∙ get_or-drop (a + k) rows (t - (a + k)) [] ∙ ap (block_row rows) place
+
+-- what holds of each row of the last part and what it becomes
+pub put_each : (P : List ℕ → List ℕ → Type 0) (a : ℕ) (rows part : List (List ℕ)) → a ≤ length rows → length part ≡ length (take (length rows - a) (drop a rows)) →
+    ((t : ℕ) → t < length (take (length rows - a) (drop a rows)) → P (block_row (take (length rows - a) (drop a rows)) t) (block_row part t)) →
+    (t : ℕ) → a ≤ t → t < length rows → P (block_row rows t) (block_row (put_mid a (length rows - a) rows part) t)
+put_each P a rows part within same each t le l =
+    let k : ℕ = length rows - a in
+    let long : length (take k (drop a rows)) ≡ k = length-take-le k (drop a rows) (omega (arith, length-drop a rows)) in
+    let place : a + (t - a) ≡ t = omega arith in
+    let less : t - a < k = omega arith in
+    let old = part_row a k rows (t - a) less ∙ ap (block_row rows) place in
+    let now = sym (put_row_at a k rows part (t - a) within (omega arith)) ∙ ap (block_row (put_mid a k rows part)) place in
+    subst (P (block_row rows t)) now (subst (λ v. P v (block_row part (t - a))) old (each (t - a) (omega arith)))

@@ -1,4 +1,5 @@
 pub mod Adding
+pub mod AddingEach
 pub mod Assembling
 pub mod BlockRows
 pub mod Dividing
@@ -7,9 +8,11 @@ pub mod Gathering
 pub mod Growing
 pub mod Indexing
 pub mod Parts
+pub mod ProductSums
 pub mod Progress
 pub mod Putting
 pub mod Splitting
 pub mod Stages
 pub mod TakingOut
+pub mod UnitRows
 pub mod Vectors

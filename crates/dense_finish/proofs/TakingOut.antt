@@ -6,7 +6,8 @@ use Rattle.std.proofs.lemmas.List.{get_or-set_same, get_or-set_other, length-set
 use Rattle.residue_words.specs.Matrix.{IsVector, list_of}
 use Rattle.residue_words.proofs.Residues.{add_same, multiple_zero, product_zero_left, right_zero}
 use Rattle.residue_words.proofs.Vectors.{at_list_of, length_list_of}
-use Rattle.dense_finish.specs.Dense.{TakesOut}
+use Rattle.dense_finish.specs.Dense.{IsCleared, TakesOut}
+use Rattle.dense_finish.specs.Splitting.{IsTaken}
 
 -- v less a q, and a q, is v
 added_back : (p v q a : ℕ) → a < p → v < p → v ≡ ((v + ((p - a) % p) * q) % p + a * q) % p
@@ -52,3 +53,23 @@ taken_out {p} {c} {q} {v} {w} {x} a inside h coefficient added set =
       sum = λ j l d. added_back p (slice_index v j) (slice_index q j) a small (h.residues j l)
           ∙ ap₂ (λ y z. (y + z * slice_index q j) % p) (sym (there j l d)) coefficient;
     }
+
+-- no column is cleared yet
+pub cleared_none : {p : ℕ} {column : ℕ → ℕ} {v : List ℕ} → IsVector p (length v) v → IsCleared p 0 column v v
+cleared_none h = record { vector = h; clear = λ j l t. absurd (omega (arith, t.1)); kept = λ j l no. refl }
+
+-- one more is
+pub cleared_more : {p r : ℕ} {column : ℕ → ℕ} {v w : List ℕ} → column r < length v → IsVector p (length v) v → IsCleared p r column v w → IsCleared p (r + 1) column v (slice_set w (column r) 0)
+cleared_more {p} {r} {column} {v} {w} inside residues h = record {
+  vector = vector_set (column r) 0 (omega (arith, residues.residues (column r) inside)) h.vector;
+  clear = λ j l t. elim (cases_eq j (column r)) [
+    | inl e ↦ ap (slice_index (slice_set w (column r) 0)) e ∙ get_or-set_same w (column r) 0 0 (omega (arith, h.vector.len))
+    | inr d ↦
+        let before : t.0 < r = omega (arith, t.1, last j t d) in
+        get_or-set_other w (column r) j 0 0 d ∙ h.clear j l (t.0, before, t.2)
+  ];
+  kept = λ j l no. get_or-set_other w (column r) j 0 0 (λ e. no (r, omega arith, sym e)) ∙ h.kept j l (λ t. no (t.0, omega (arith, t.1), t.2));
+}
+  where
+    last : (j : ℕ) (t : IsTaken (r + 1) column j) → j ≢ column r → t.0 ≢ r
+    last j t d e = d (sym t.2 ∙ ap column e)

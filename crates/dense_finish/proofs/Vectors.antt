@@ -138,3 +138,51 @@ lane_of_differences n p a m y e k long fits long_e residue small m_is e_is l =
 pub lane_of_sums : (n p : ℕ) (x z : List ℕ) (k : ℕ) → length x ≡ n → length z ≡ n → p < 2147483648 → k < n → get_or x k 0 < p → get_or z k 0 < p →
     get_or (zip2 (λ a b. (a + b) % 4294967296) x z) k 0 ≡ get_or x k 0 + get_or z k 0
 lane_of_sums n p x z k long_x long_z small l left right = lane_of_two (λ a b. (a + b) % 4294967296) n x z k long_x long_z l ∙ mod-eq_of_lt (omega arith)
+
+-- a vector and the products of another with a number, which fit 64 bits
+abbrev pub with_products : ℕ → ℕ → List ℕ → List ℕ → List ℕ
+with_products n c x y = zip2 (λ a b. (a + b) % 18446744073709551616) x (zip2 (λ a b. a * b % 18446744073709551616) y (replicate n c))
+
+pub lane_of_products : (n c d : ℕ) (x y : List ℕ) (k : ℕ) → length x ≡ n → length y ≡ n → k < n → d ≡ c → get_or x k 0 + get_or y k 0 * c < 18446744073709551616 →
+    get_or (with_products n d x y) k 0 ≡ get_or x k 0 + get_or y k 0 * c
+lane_of_products n c d x y k long_x long_y l same room =
+    let times = λ (a b : ℕ). a * b % 18446744073709551616 in
+    let plus = λ (a b : ℕ). (a + b) % 18446744073709551616 in
+    let long : length (zip2 times y (replicate n d)) ≡ n = length-zip2 times y (replicate n d) (long_y ∙ sym (length-replicate n d)) ∙ long_y in
+    let product : get_or y k 0 * c % 18446744073709551616 ≡ get_or y k 0 * c = mod-eq_of_lt (omega (arith, room)) in
+    lane_of_two plus n x (zip2 times y (replicate n d)) k long_x long l
+    ∙ ap (λ t. (get_or x k 0 + t) % 18446744073709551616) (lane_of_splat times n y d k long_y l ∙ ap (λ t. get_or y k 0 * t % 18446744073709551616) same ∙ product)
+    ∙ mod-eq_of_lt room
+
+-- the lanes' quotients by 2^32, and what is left below
+abbrev pub highs : ℕ → List ℕ → List ℕ
+highs n x = zip2 (λ x s. x / 2 ^ s) x (replicate n 32)
+
+pub length_highs : (n : ℕ) (x : List ℕ) → length x ≡ n → length (highs n x) ≡ n
+length_highs n x long = length-zip2 (λ x s. x / 2 ^ s) x (replicate n 32) (long ∙ sym (length-replicate n 32)) ∙ long
+
+pub lane_of_highs : (n : ℕ) (x : List ℕ) (k : ℕ) → length x ≡ n → k < n → get_or (highs n x) k 0 ≡ get_or x k 0 / 4294967296
+lane_of_highs n x k long l = lane_of_splat (λ x s. x / 2 ^ s) n x 32 k long l
+
+pub highs_fit : (n : ℕ) (x : List ℕ) → length x ≡ n → ((k : ℕ) → k < n → get_or x k 0 < 18446744073709551616) → Each1 (Fits w32) (highs n x)
+highs_fit n x long fits =
+    Each1-from_get_or (Fits w32) (highs n x) 0 (λ k l.
+    let inside : k < n = omega (arith, length_highs n x long) in
+    let fit : Fits w32 (get_or x k 0 / 4294967296) = record { fits = omega (arith, fits k inside) } in
+    subst (Fits w32) (sym (lane_of_highs n x k long inside)) fit)
+
+abbrev pub raised : ℕ → List ℕ → List ℕ
+raised n x = zip2 (λ x s. x * 2 ^ s % 18446744073709551616) x (replicate n 32)
+
+pub length_raised : (n : ℕ) (x : List ℕ) → length x ≡ n → length (raised n x) ≡ n
+length_raised n x long = length-zip2 (λ x s. x * 2 ^ s % 18446744073709551616) x (replicate n 32) (long ∙ sym (length-replicate n 32)) ∙ long
+
+pub lane_of_raised : (n : ℕ) (x : List ℕ) (k : ℕ) → length x ≡ n → k < n → get_or (raised n x) k 0 ≡ get_or x k 0 * 4294967296 % 18446744073709551616
+lane_of_raised n x k long l = lane_of_splat (λ x s. x * 2 ^ s % 18446744073709551616) n x 32 k long l
+
+pub lane_of_lows : (n : ℕ) (x : List ℕ) (k : ℕ) → length x ≡ n → k < n → get_or (highs n (raised n x)) k 0 ≡ get_or x k 0 % 4294967296
+lane_of_lows n x k long l =
+    lane_of_highs n (raised n x) k (length_raised n x long) l ∙ ap (λ t. t / 4294967296) (lane_of_raised n x k long l) ∙ low_half (get_or x k 0)
+  where
+    low_half : (a : ℕ) → a * 4294967296 % 18446744073709551616 / 4294967296 ≡ a % 4294967296
+    low_half a = omega arith

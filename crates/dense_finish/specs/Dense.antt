@@ -3,6 +3,7 @@ use Rattle.std.specs.Prelude.{◌≡◌, ◌≢◌, ◌<◌, ◌+◌, ◌*◌, �
 use Rattle.residue_words.specs.Matrix.{IsVector}
 use Rattle.residue_words.specs.Residues.{IsPrime}
 use Rattle.sparse_rows.specs.Stored.{entry_at}
+use Rattle.dense_finish.specs.Splitting.{IsTaken}
 
 -- the entries, at these columns, of the row of these columns and values
 abbrev pub AreEntriesAt : List ℕ → List ℕ → List ℕ → List ℕ → Type 0
@@ -61,3 +62,9 @@ Scatters n columns v row = IsPut n (length columns) (slice_index columns) (slice
 -- a row of n entries that begins with those of v that stand at these columns
 abbrev pub Gathers : ℕ → List ℕ → List ℕ → List ℕ → Type 0
 Gathers n columns v row = IsPut n (length columns) (λ k. k) (λ k. slice_index v (slice_index columns k)) row
+
+-- w is v, with zeros at the first r of these columns
+pub record IsCleared (p r : ℕ) (column : ℕ → ℕ) (v w : List ℕ) : Type 0 where
+  pub vector : IsVector p (length v) w
+  pub clear : (j : ℕ) → j < length v → IsTaken r column j → slice_index w j ≡ 0
+  pub kept : (j : ℕ) → j < length v → (IsTaken r column j → ⊥) → slice_index w j ≡ slice_index v j

@@ -4,4 +4,6 @@ pub mod Factors
 pub mod Multiples
 pub mod Panel
 pub mod Pivots
+pub mod Products
 pub mod Splitting
+pub mod Units

@@ -1,17 +1,23 @@
 // One dense row.
-ghost use Rattle.std.specs.Prelude.{◌≡◌, ◌<◌, ◌≤◌, ℕ, length, slice_index, slice_set, IfOk, OnOk, IfSome, IfNone};
+ghost use Rattle.std.specs.Prelude.{◌≡◌, ◌<◌, ◌≤◌, ◌+◌, ◌-◌, ℕ, length, slice_index, slice_set, IfOk, OnOk, IfSome, IfNone};
 ghost use Rattle.residue_words.specs.Matrix.{IsVector, zeros};
 ghost use Rattle.sparse_rows.specs.Rows.{AreRising};
 ghost use Rattle.sparse_rows.specs.declared.rows.TheConstants.{LARGEST_SIZE};
-ghost use Rattle.dense_finish.specs.Dense.{AreEntriesAt, Gathers, IsZeroAtFree, IsFirstFree, IsPivotOf, KeepsCoefficients, Scatters, TakesOut};
+ghost use Rattle.dense_finish.specs.Dense.{AreEntriesAt, Gathers, IsZeroAtFree, IsCleared, IsFirstFree, IsPivotOf, KeepsCoefficients, Scatters, TakesOut};
 ghost use Rattle.sparse_rows.specs.Rows.{AreBelow};
 ghost use Rattle.dense_finish.specs.Multiples.{plus_multiple};
+ghost use Rattle.dense_finish.specs.Products.{AddsAt};
+ghost use Rattle.dense_finish.specs.declared.panel.TheConstants.{PANEL};
+ghost use Rattle.residue_words.specs.declared.shoup.TheConstants.{LANE_BOUND};
 
+use crate::panel::PANEL;
+use crate::products::{Columns, Folding, add_lanes};
 use crate::residue::Residue;
 use residue_words::Modulus;
 use sparse_rows::Sparse;
 use std::alloc::{AllocError, Global};
 use std::marker::Model;
+use std::simd::prelude::*;
 
 // A row of residues, zeros too. Contracts see the list of the residues.
 #[derive(Drop)]
@@ -178,6 +184,47 @@ impl<W: Residue> Dense<W> {
         }
     }
 
+    // The entries at these columns, and zeros behind them.
+    pub(crate) fn entries_at(&self, columns: &[u32]) -> [u64; PANEL]
+        requires inside { AreBelow (length self.now) columns.now }
+        requires few { length columns.now ≤ PANEL }
+        ensures entries { (k : ℕ) → k < length columns.now
+            → slice_index result k ≡ slice_index self.now (slice_index columns.now k) }
+        ensures rest { (k : ℕ) → length columns.now ≤ k → slice_index result k ≡ 0 }
+    {
+        let mut entries = [0u64; PANEL];
+        for k in 0..columns.len() {
+            entries[k] = self.get(columns[k] as usize);
+        }
+        entries
+    }
+
+    // Clears these columns.
+    pub(crate) fn clear(&mut self, columns: &[u32], p: &Modulus)
+        requires modulus { W.serves p.now }
+        requires residues { IsVector p.now (length self.old) self.old }
+        requires inside { AreBelow (length self.old) columns.now }
+        ensures { IsCleared p.now (length columns.now) (slice_index columns.now) self.old self.new }
+    {
+        for k in 0..columns.len() {
+            self.set(columns[k] as usize, 0, p);
+        }
+    }
+
+    // How many of the first `limit` entries come before one that is not 0.
+    pub(crate) fn leading_zeros(&self, limit: usize) -> usize
+        requires inside { limit ≤ length self.now }
+        ensures within { result ≤ limit }
+        ensures zeros { (j : ℕ) → j < result → slice_index self.now j ≡ 0 }
+    {
+        for j in 0..limit {
+            if self.get(j) != 0 {
+                return j;
+            }
+        }
+        limit
+    }
+
     // Sets the zero row `to` to the entries, the j-th at `columns[j]`.
     pub(crate) fn scatter(&self, columns: &[u32], to: &mut Sparse) -> Result<(), AllocError>
         requires long { length self.now ≡ length columns.now }
@@ -214,5 +261,46 @@ impl<W: Residue> Dense<W> {
             }
         }
         Ok(())
+    }
+}
+
+impl Dense<u32> {
+    // The four entries from `at` on.
+    #[inline(always)]
+    pub(crate) fn lanes(&self, at: usize) -> u64x4
+        requires inside { at + 4 ≤ length self.now }
+        ensures { (k : ℕ) → k < 4 → slice_index result k ≡ slice_index self.now (at + k) }
+    {
+        u32x4::from_slice(&self.places[at..]).cast::<u64>()
+    }
+
+    // Adds sums at these columns, of which there are at most eight.
+    #[inline(always)]
+    pub(crate) fn add_sums(&mut self, columns: Columns, sums: u64x8, folding: &Folding)
+        requires residues { IsVector folding.now.p (length self.old) self.old }
+        requires order { columns.start ≤ columns.end }
+        requires narrow { columns.end ≤ columns.start + 8 }
+        requires inside { columns.start + 8 ≤ length self.old }
+        ensures { AddsAt folding.now.p columns (λ j. slice_index sums (j - columns.start)) self.old self.new }
+    {
+        if columns.end - columns.start == 8 {
+            add_lanes(&mut self.places, columns.start, sums, folding);
+        } else {
+            self.add_singly(columns, &sums.to_array(), &folding.p);
+        }
+    }
+
+    // Adds the sums entry by entry.
+    fn add_singly(&mut self, columns: Columns, sums: &[u64; 8], p: &Modulus)
+        requires modulus { p.now < LANE_BOUND }
+        requires residues { IsVector p.now (length self.old) self.old }
+        requires order { columns.start ≤ columns.end }
+        requires narrow { columns.end ≤ columns.start + 8 }
+        requires inside { columns.start + 8 ≤ length self.old }
+        ensures { AddsAt p.now columns (λ j. slice_index sums.now (j - columns.start)) self.old self.new }
+    {
+        for j in columns.start..columns.end {
+            self.set(j, p.add(self.get(j), sums[j - columns.start] % p.p()), p);
+        }
     }
 }

@@ -13,16 +13,14 @@ ghost use Rattle.dense_finish.specs.Pivots.{AddsPivot, AreEliminated, AreFound, 
 use crate::block::block_of;
 use crate::dense::Dense;
 use crate::factors::{Factors, left_factor};
-use crate::panel::Panel;
+use crate::panel::{PANEL, Panel};
 use crate::pivots::Pivots;
+use crate::reducing::Reducing;
 use crate::residue::Residue;
 use residue_words::{LANE_BOUND, Modulus};
 use sparse_rows::Rows;
 use std::alloc::{AllocError, Global};
 use std::thread::Threads;
-
-// How many rows are searched for pivots before these are taken out of all rows behind.
-const PANEL: usize = 64;
 
 /// Factors of a matrix, by so many workers: the same for every number of them.
 ///
@@ -48,7 +46,7 @@ pub fn finish<R: Threads + Sync>(
 }
 
 // The same with the residues kept so.
-fn finish_in<R: Threads + Sync, W: Residue>(
+fn finish_in<R: Threads + Sync, W: Reducing>(
     rt: &R,
     alloc: Global,
     rows: &Rows,
@@ -84,7 +82,7 @@ fn finish_in<R: Threads + Sync, W: Residue>(
 }
 
 // Eliminates the block, panel by panel.
-fn eliminate<R: Threads + Sync, W: Residue>(
+fn eliminate<R: Threads + Sync, W: Reducing>(
     rt: &R,
     alloc: Global,
     block: &mut [Dense<W>],
@@ -112,7 +110,7 @@ fn eliminate<R: Threads + Sync, W: Residue>(
     while start < block.len() {
         let end = block.len().min(start + PANEL);
         let panel = find_pivots(alloc, block, start, end, columns, p, &mut pivots)?;
-        panel.reduce_behind(rt, block, end, p, workers);
+        panel.reduce_behind(rt, alloc, block, end, p, workers)?;
         start = end;
     }
     Ok(pivots)

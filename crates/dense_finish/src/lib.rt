@@ -9,6 +9,8 @@ mod lane_addition;
 mod multiplier;
 mod panel;
 mod pivots;
+mod products;
+mod reducing;
 mod residue;
 mod row_addition;
 #[cfg(test)]

@@ -1,16 +1,23 @@
 // The pivots of one panel, and what they leave of other rows.
-ghost use Rattle.std.specs.Prelude.{◌≡◌, ◌<◌, ◌≤◌, ℕ, length, OnOk, OnErr};
+ghost use Rattle.std.specs.Prelude.{◌≡◌, ◌<◌, ◌≤◌, ℕ, length, IfOk, OnOk, OnErr};
 ghost use Rattle.residue_words.specs.Matrix.{IsVector};
-ghost use Rattle.dense_finish.specs.Block.{AreVectors, block_row};
+ghost use Rattle.dense_finish.specs.Block.{AreVectors, block_row, entry_of};
 ghost use Rattle.dense_finish.specs.Panel.{ArePivots, PanelReduces, PanelReducesEach, no_pivots, with_pivot};
+ghost use Rattle.dense_finish.specs.Units.{AreUnits, AreUnitRows};
+ghost use Rattle.residue_words.specs.declared.shoup.TheConstants.{LANE_BOUND};
 
 use crate::dense::Dense;
+use crate::products::{Columns, Folding, TILE_COLUMNS, TILE_ROWS, add_products};
+use crate::reducing::Reducing;
 use crate::residue::Residue;
 use rayon::prelude::*;
 use residue_words::Modulus;
 use std::alloc::{AllocError, Global};
 use std::marker::Model;
 use std::thread::Threads;
+
+/// How many rows are searched for pivots before these are taken out of all rows behind.
+pub(crate) const PANEL: usize = 64;
 
 // The columns of some pivots, and their rows, of so many entries: each row is 1 at its column, and 0 before it and at the
 // columns of the pivots before. Contracts see these as `PanelRows`.
@@ -64,7 +71,7 @@ impl<W: Residue> Panel<W> {
     }
 
     // Takes the pivots out of each row.
-    fn reduce_each(&self, rows: &mut [Dense<W>], p: &Modulus)
+    pub(crate) fn reduce_each(&self, rows: &mut [Dense<W>], p: &Modulus)
         requires modulus { W.serves p.now }
         requires residues { AreVectors p.now self.now.width rows.old }
         requires pivots { ArePivots p.now self.now }
@@ -75,15 +82,35 @@ impl<W: Residue> Panel<W> {
         }
     }
 
+    // The unit rows at the pivots' columns.
+    fn unit_rows(&self, alloc: Global, p: &Modulus) -> Result<Vec<Dense<W>>, AllocError>
+        requires modulus { W.serves p.now }
+        requires pivots { ArePivots p.now self.now }
+        ensures { IfOk result (λ units. AreUnitRows p.now self.now units.items) }
+    {
+        // The call's contract tells the range of the modulus.
+        let _ = p.p();
+        let mut units = Vec::with_capacity(alloc, self.columns.len())?;
+        for k in 0..self.columns.len() {
+            let mut row = Dense::zeros(alloc, self.width, p)?;
+            row.set(self.columns[k] as usize, 1, p);
+            units.push(row)?;
+        }
+        Ok(units)
+    }
+}
+
+impl<W: Reducing> Panel<W> {
     // Takes the pivots out of the rows from `from` on, in as many pieces as workers.
     pub(crate) fn reduce_behind<R: Threads + Sync>(
         &self,
         rt: &R,
+        alloc: Global,
         rows: &mut [Dense<W>],
         from: usize,
         p: &Modulus,
         workers: usize,
-    )
+    ) -> Result<(), AllocError>
         requires modulus { W.serves p.now }
         requires some { 1 ≤ workers }
         requires inside { from ≤ length rows.old }
@@ -91,23 +118,36 @@ impl<W: Residue> Panel<W> {
         requires pivots { ArePivots p.now self.now }
         ensures long { length rows.new ≡ length rows.old }
         ensures before { (t : ℕ) → t < from → block_row rows.new t ≡ block_row rows.old t }
-        ensures behind { (t : ℕ) → from ≤ t → t < length rows.old
-            → PanelReduces p.now self.now (block_row rows.old t) (block_row rows.new t) }
+        ensures behind { OnOk result ((t : ℕ) → from ≤ t → t < length rows.old
+            → PanelReduces p.now self.now (block_row rows.old t) (block_row rows.new t)) }
     {
+        let mut units = self.unit_rows(alloc, p)?;
+        self.reduce_each(&mut units, p);
+        let first = zeros_before(&units, self.width);
         let later = &mut rows[from..];
         if workers == 1 || self.columns.is_empty() {
-            self.reduce_each(later, p);
+            W::take_out(self, &units, first, later, p);
         } else {
-            self.share(rt, later, p, workers);
+            self.share(rt, &units, first, later, p, workers);
         }
+        Ok(())
     }
 
     // Takes the pivots out of each row, by several workers.
-    fn share<R: Threads + Sync>(&self, rt: &R, rows: &mut [Dense<W>], p: &Modulus, workers: usize)
+    fn share<R: Threads + Sync>(
+        &self,
+        rt: &R,
+        units: &[Dense<W>],
+        first: usize,
+        rows: &mut [Dense<W>],
+        p: &Modulus,
+        workers: usize,
+    )
         requires modulus { W.serves p.now }
         requires some { 1 ≤ workers }
         requires residues { AreVectors p.now self.now.width rows.old }
         requires pivots { ArePivots p.now self.now }
+        requires units { AreUnits p.now self.now first units.now }
         ensures { PanelReducesEach p.now self.now rows.old rows.new }
     {
         if rows.is_empty() {
@@ -120,9 +160,94 @@ impl<W: Residue> Panel<W> {
             size,
             |_at: usize, piece: &mut [Dense<W>]|
                 requires { W.serves p.now × AreVectors p.now self.now.width piece.old
-                    × ArePivots p.now self.now }
+                    × ArePivots p.now self.now × AreUnits p.now self.now first units.now }
                 ensures { PanelReducesEach p.entry.now self.entry.now piece.old piece.new }
-            { self.reduce_each(piece, p) },
+            { W::take_out(self, units, first, piece, p) },
         );
     }
+}
+
+impl Panel<u32> {
+    // Takes the pivots out of each row by products with the reduced unit rows, some rows at a time.
+    pub(crate) fn reduce_by_products(
+        &self,
+        units: &[Dense<u32>],
+        from: usize,
+        rows: &mut [Dense<u32>],
+        p: &Modulus,
+    )
+        requires modulus { p.now < LANE_BOUND }
+        requires residues { AreVectors p.now self.now.width rows.old }
+        requires pivots { ArePivots p.now self.now }
+        requires units { AreUnits p.now self.now from units.now }
+        ensures { PanelReducesEach p.now self.now rows.old rows.new }
+    {
+        if self.columns.len() > PANEL || self.width < TILE_COLUMNS {
+            self.reduce_each(rows, p);
+        } else {
+            self.reduce_tiles(units, from, rows, p);
+        }
+    }
+
+    // The same for a panel of at least a tile's width.
+    fn reduce_tiles(&self, units: &[Dense<u32>], from: usize, rows: &mut [Dense<u32>], p: &Modulus)
+        requires modulus { p.now < LANE_BOUND }
+        requires residues { AreVectors p.now self.now.width rows.old }
+        requires pivots { ArePivots p.now self.now }
+        requires units { AreUnits p.now self.now from units.now }
+        requires few { length self.now.columns ≤ PANEL }
+        requires wide { TILE_COLUMNS ≤ self.now.width }
+        ensures { PanelReducesEach p.now self.now rows.old rows.new }
+    {
+        let folding = Folding::of(p);
+        let mut at = 0;
+        while at < rows.len() {
+            let end = rows.len().min(at + TILE_ROWS);
+            self.reduce_tile(units, from, &mut rows[at..end], &folding);
+            at = end;
+        }
+    }
+
+    // Takes the pivots out of up to four rows.
+    fn reduce_tile(
+        &self,
+        units: &[Dense<u32>],
+        from: usize,
+        rows: &mut [Dense<u32>],
+        folding: &Folding,
+    )
+        requires few_rows { length rows.old ≤ TILE_ROWS }
+        requires residues { AreVectors folding.now.p self.now.width rows.old }
+        requires pivots { ArePivots folding.now.p self.now }
+        requires units { AreUnits folding.now.p self.now from units.now }
+        requires few { length self.now.columns ≤ PANEL }
+        requires wide { TILE_COLUMNS ≤ self.now.width }
+        ensures { PanelReducesEach folding.now.p self.now rows.old rows.new }
+    {
+        // The call's contract tells the range of the modulus.
+        let _ = folding.p.p();
+        let mut by = [[0u64; PANEL]; TILE_ROWS];
+        for t in 0..rows.len() {
+            by[t] = rows[t].entries_at(&self.columns);
+            rows[t].clear(&self.columns, &folding.p);
+        }
+        let columns = Columns {
+            start: from,
+            end: self.width,
+        };
+        add_products(rows, &by, units, columns, folding);
+    }
+}
+
+// How many columns come before the first in which one of these rows is not 0.
+fn zeros_before<W: Residue>(rows: &[Dense<W>], width: usize) -> usize
+    requires wide { (k : ℕ) → k < length rows.now → length (block_row rows.now k) ≡ width }
+    ensures within { result ≤ width }
+    ensures zeros { (k j : ℕ) → k < length rows.now → j < result → entry_of rows.now k j ≡ 0 }
+{
+    let mut before = width;
+    for k in 0..rows.len() {
+        before = rows[k].leading_zeros(before);
+    }
+    before
 }

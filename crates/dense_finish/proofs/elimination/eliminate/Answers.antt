@@ -35,8 +35,8 @@ loop-start-preserved g c =
       inside = omega arith;
       found = found;
       eliminated = eliminated_behind found c.reduce_behind.ensures.long c.reduce_behind.ensures.before
-          (λ t a l. subst (λ n. IsVector p n (block_row c.reduce_behind.new.rows t)) c.in_ok-panel.ensures.panel.wide (c.reduce_behind.ensures.behind t a l).vector) c.in_ok-panel.ensures.eliminated;
-      split = λ prime. split_behind c.in_ok-panel.ensures.panel found.steps c.reduce_behind.ensures.long c.reduce_behind.ensures.before c.reduce_behind.ensures.behind
+          (λ t a l. subst (λ n. IsVector p n (block_row c.reduce_behind.new.rows t)) c.in_ok-panel.ensures.panel.wide (c.in_ok-reduce_behind.ensures.behind t a l).vector) c.in_ok-panel.ensures.eliminated;
+      split = λ prime. split_behind c.in_ok-panel.ensures.panel found.steps c.reduce_behind.ensures.long c.reduce_behind.ensures.before c.in_ok-reduce_behind.ensures.behind
           (c.in_ok-panel.ensures.split prime c.args.block.now (c.loop-start.invariant.split prime));
     }
 

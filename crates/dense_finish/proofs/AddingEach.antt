@@ -1,0 +1,151 @@
+-- Sums added to rows, some columns or some products at a time.
+use Rattle.std.proofs.Common.{ℕ, List, [], ◌∷◌, zero, suc, ◌≡◌, ◌+◌, ◌-◌, ◌*◌, ◌%◌, ◌<◌, ◌≤◌, inl, inr, length, slice_index, slice_index_or, sym, refl, ap, ◌∙◌, arith, mod-eq_of_lt, mod-lt, mul-le-mul_left, mul-le-mul_right, mul-zero}
+use Rattle.std.proofs.lemmas.Bool.{cases_lt}
+use Rattle.residue_words.specs.Matrix.{IsVector}
+use native.Mathlib.Nat.{mod-mod}
+use Rattle.residue_words.proofs.Residues.{add_same}
+use Rattle.residue_words.proofs.Sums.{sum_bound, sum_equal, sum_split, sum_zero}
+use Rattle.dense_finish.specs.Block.{AreVectors, block_row, entry_of}
+use Rattle.dense_finish.specs.Products.{AddsAt, AddsToEach, columns_of, products, run_of}
+use Rattle.dense_finish.specs.declared.products.Columns.{Columns}
+use Rattle.dense_finish.specs.declared.products.Run.{Run}
+
+-- equal sums
+pub adds_equal : {p : ℕ} {columns : Columns} {f g : ℕ → ℕ} {old new : List ℕ} → ((j : ℕ) → columns.start ≤ j → j < columns.end → f j ≡ g j) → AddsAt p columns f old new → AddsAt p columns g old new
+adds_equal {p} {columns} {f} {g} {old} {new} same h = record {
+  long = h.long;
+  added = λ j from l. h.added j from l ∙ ap (λ t. (slice_index old j + t) % p) (same j from l);
+  before = h.before;
+  behind = h.behind;
+}
+
+-- a row of residues stays one
+pub adds_vector : {p n : ℕ} {columns : Columns} {f : ℕ → ℕ} {old new : List ℕ} → IsVector p n old → AddsAt p columns f old new → IsVector p n new
+adds_vector {p} {n} {columns} {f} {old} {new} vector h = record {
+  len = h.long ∙ vector.len;
+  residues = λ j l. elim (cases_lt j columns.start) [
+    | inl low ↦ omega (arith, h.before j low, vector.residues j l)
+    | inr high ↦ elim (cases_lt j columns.end) [
+      | inl inside ↦ omega (arith, h.added j high inside, mod-lt (slice_index old j + f j) (positive j l))
+      | inr past ↦ omega (arith, h.behind j past, vector.residues j l)
+    ]
+  ];
+}
+  where
+    positive : (j : ℕ) → j < n → 0 < p
+    positive j l = omega (arith, vector.residues j l)
+
+pub adds_vectors : {p n : ℕ} {columns : Columns} {f : ℕ → ℕ → ℕ} {old new : List (List ℕ)} → AreVectors p n old → AddsToEach p columns f old new → AreVectors p n new
+adds_vectors {old = old} vectors h t l = let inside : t < length old = omega (arith, h.long, l) in adds_vector (vectors t inside) (h.each t inside)
+
+-- no columns
+pub adds_none : {p end : ℕ} {f : ℕ → ℕ → ℕ} (rows : List (List ℕ)) → AddsToEach p (columns_of end end) f rows rows
+adds_none rows = record {
+  long = refl;
+  each = λ t l. record { long = refl; added = λ j from less. absurd (omega arith); before = λ j less. refl; behind = λ j le. refl };
+}
+
+-- the columns before
+pub adds_before : {p start end width : ℕ} {f : ℕ → ℕ → ℕ} {old mid new : List (List ℕ)} → start ≤ end → end ≤ width → AddsToEach p (columns_of end width) f old mid →
+    AddsToEach p (columns_of start end) f mid new → AddsToEach p (columns_of start width) f old new
+adds_before {p} {start} {end} {width} {f} {old} {mid} {new} low high h g = record {
+  long = g.long ∙ h.long;
+  each = λ t l.
+      let a = h.each t l in
+      let b = g.each t (omega (arith, h.long)) in
+      record {
+        long = b.long ∙ a.long;
+        added = λ j from less. elim (cases_lt j end) [
+          | inl before ↦ b.added j from before ∙ ap (λ x. (x + f t j) % p) (a.before j before)
+          | inr behind ↦ b.behind j behind ∙ a.added j behind less
+        ];
+        before = λ j less. b.before j less ∙ a.before j (omega arith);
+        behind = λ j le. b.behind j (omega arith) ∙ a.behind j le;
+      };
+}
+
+-- nothing added
+pub adds_nothing : {p end width : ℕ} {f : ℕ → ℕ → ℕ} {old new : List (List ℕ)} → AreVectors p width old → ((t j : ℕ) → t < length old → j < end → f t j ≡ 0) → end ≤ width →
+    AddsToEach p (columns_of end width) f old new → AddsToEach p (columns_of 0 width) f old new
+adds_nothing {p} {end} {width} {f} {old} {new} vectors none le h = record {
+  long = h.long;
+  each = λ t l. record {
+    long = (h.each t l).long;
+    added = λ j from less. elim (cases_lt j end) [
+      | inl before ↦
+          let plain : slice_index (block_row old t) j + f t j ≡ slice_index (block_row old t) j = omega (arith, none t j l before) in
+          (h.each t l).before j before ∙ sym (ap (λ x. x % p) plain ∙ mod-eq_of_lt ((vectors t l).residues j less))
+      | inr behind ↦ (h.each t l).added j behind less
+    ];
+    before = λ j less. absurd (omega arith);
+    behind = (h.each t l).behind;
+  };
+}
+
+-- sums added one after the other
+pub adds_then : {p : ℕ} {columns : Columns} {f g h : ℕ → ℕ → ℕ} {old mid new : List (List ℕ)} → ((t j : ℕ) → f t j + g t j ≡ h t j) → AddsToEach p columns f old mid →
+    AddsToEach p columns g mid new → AddsToEach p columns h old new
+adds_then {p} {columns} {f} {g} {h} {old} {mid} {new} sum first second = record {
+  long = second.long ∙ first.long;
+  each = λ t l.
+      let a = first.each t l in
+      let b = second.each t (omega (arith, first.long)) in
+      record {
+        long = b.long ∙ a.long;
+        added = λ j from less.
+            let x = slice_index (block_row old t) j in
+            let whole : x + f t j + g t j ≡ x + h t j = omega (arith, sum t j) in
+            b.added j from less ∙ ap (λ y. (y + g t j) % p) (a.added j from less)
+            ∙ add_same p ((x + f t j) % p) (x + f t j) (g t j) (g t j) (mod-mod (x + f t j) p) refl ∙ ap (λ y. y % p) whole;
+        before = λ j less. b.before j less ∙ a.before j less;
+        behind = λ j le. b.behind j le ∙ a.behind j le;
+      };
+}
+
+-- products of two runs, and of a run where the rows are 0
+pub products_split : (c : List ℕ) (rows : List (List ℕ)) (s n j : ℕ) → products c rows (run_of 0 s) j + products c rows (run_of s n) j ≡ products c rows (run_of 0 (s + n)) j
+products_split c rows s n j =
+    let f : ℕ → ℕ = λ i. slice_index c (0 + i) * entry_of rows (0 + i) j in
+    let g : ℕ → ℕ = λ i. slice_index c (s + i) * entry_of rows (s + i) j in
+    omega (arith, sum_split s n f, sum_equal n g (λ i. f (s + i)) (λ i l. let plain : s + i ≡ 0 + (s + i) = omega arith in ap (λ k. slice_index c k * entry_of rows k j) plain))
+
+pub products_zero : (c : List ℕ) (rows : List (List ℕ)) (run : Run) (j : ℕ) → ((k : ℕ) → k < run.first + run.count → entry_of rows k j ≡ 0) → products c rows run j ≡ 0
+products_zero c rows run j none =
+    sum_zero run.count (λ i. slice_index c (run.first + i) * entry_of rows (run.first + i) j)
+    (λ i l. ap (λ y. slice_index c (run.first + i) * y) (none (run.first + i) (omega arith)) ∙ mul-zero (slice_index c (run.first + i)))
+
+-- products of residues are small where there are few
+pub products_small : (p most : ℕ) (c : List ℕ) (rows : List (List ℕ)) (run : Run) (j : ℕ) → most * (p * p) < 18446744073709551616 → run.count ≤ most →
+    ((k : ℕ) → slice_index c k < p) → ((k : ℕ) → k < run.first + run.count → entry_of rows k j < p) → products c rows run j < 18446744073709551616
+products_small p most c rows run j room few left right =
+    let bound : products c rows run j ≤ run.count * (p * p) = sum_bound run.count (p * p) (λ i. slice_index c (run.first + i) * entry_of rows (run.first + i) j)
+    (λ i l.
+    let a = slice_index c (run.first + i) in
+    let b = entry_of rows (run.first + i) j in
+    let b_less : b < p = right (run.first + i) (omega arith) in
+    let a_less : a < p = left (run.first + i) in
+    let one : a * b ≤ a * p = mul-le-mul_left a (omega arith) in
+    let two : a * p ≤ p * p = mul-le-mul_right p (omega arith) in
+    omega arith) in
+    let more : run.count * (p * p) ≤ most * (p * p) = mul-le-mul_right (p * p) few in
+    omega arith
+
+-- the lanes of two vectors side by side
+pub joined_lanes : (at : ℕ) (f : ℕ → ℕ) (left right v : List ℕ) → ((k : ℕ) → k < 4 → slice_index v k ≡ slice_index left k) → ((k : ℕ) → k < 4 → slice_index v (4 + k) ≡ slice_index right k) →
+    ((k : ℕ) → k < 4 → slice_index left k ≡ f (at + k)) → ((k : ℕ) → k < 4 → slice_index right k ≡ f (at + 4 + k)) → (k : ℕ) → k < 8 → slice_index v k ≡ f (at + k)
+joined_lanes at f left right v front back low high k l = elim (cases_lt k 4) [
+  | inl less ↦ front k less ∙ low k less
+  | inr more ↦
+      let place : 4 + (k - 4) ≡ k = omega arith in
+      let there : at + 4 + (k - 4) ≡ at + k = omega arith in
+      let inside : k - 4 < 4 = omega arith in
+      ap (slice_index v) (sym place) ∙ back (k - 4) inside ∙ high (k - 4) inside ∙ ap f there
+]
+
+-- one of four
+pub each_of_four : (P : ℕ → List ℕ → Type 0) (a b c d e : List ℕ) → P 0 a → P 1 b → P 2 c → P 3 d → (t : ℕ) → t < 4 → P t (slice_index_or (a ∷ b ∷ c ∷ d ∷ []) t e)
+each_of_four P a b c d e pa pb pc pd zero l = pa
+each_of_four P a b c d e pa pb pc pd (suc zero) l = pb
+each_of_four P a b c d e pa pb pc pd (suc (suc zero)) l = pc
+each_of_four P a b c d e pa pb pc pd (suc (suc (suc zero))) l = pd
+each_of_four P a b c d e pa pb pc pd (suc (suc (suc (suc t)))) l = absurd (omega arith)

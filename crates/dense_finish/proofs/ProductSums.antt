@@ -1,0 +1,99 @@
+-- Sums of products, split and made residues.
+use Rattle.std.proofs.Common.{ℕ, List, ◌≡◌, ◌+◌, ◌-◌, ◌*◌, ◌/◌, ◌%◌, ◌<◌, ◌≤◌, zero, suc, inl, inr, length, length-set, replicate, slice_index, slice_set, subst, sym, refl, ap, ◌∙◌, arith}
+use Rattle.std.specs.Simd.Lanes.{put_chunk}
+use Rattle.std.proofs.lemmas.Simd.{get_or-put_chunk_above, get_or-put_chunk_at, get_or-put_chunk_below, length-put_chunk}
+use Rattle.std.proofs.Math.Nat.{mul_comm}
+use Rattle.std.proofs.lemmas.Bool.{cases_eq}
+use Rattle.std.proofs.lemmas.List.{get_or-set_other, get_or-set_same}
+use Rattle.std.proofs.lemmas.Nat.{mul-mod_first}
+use native.Mathlib.Nat.{mod-mod}
+use Rattle.residue_words.specs.Residues.{sum_below}
+use Rattle.residue_words.proofs.Residues.{add_same}
+use Rattle.residue_words.proofs.Sums.{sum_equal, sum_more, sum_none, sum_split}
+use Rattle.dense_finish.specs.Block.{block_row, entry_of}
+use Rattle.dense_finish.specs.Products.{AddsAt, AreSmall, columns_of, products, products_of, run_of}
+use Rattle.dense_finish.specs.declared.products.Run.{Run}
+
+-- the residue of x and s, by the halves of s
+pub folded : (p x s y z : ℕ) → y ≡ (x + 1 * (s % 4294967296)) % p → z ≡ (y + 4294967296 % p * (s / 4294967296)) % p → z ≡ (x + s) % p
+folded p x s y z low high =
+    let whole : x + 1 * (s % 4294967296) + 4294967296 * (s / 4294967296) ≡ x + s = omega arith in
+    high ∙ add_same p y (x + 1 * (s % 4294967296)) (4294967296 % p * (s / 4294967296)) (4294967296 * (s / 4294967296))
+    (ap (λ t. t % p) low ∙ twice p (x + 1 * (s % 4294967296))) (mul-mod_first 4294967296 (s / 4294967296) p) ∙ ap (λ t. t % p) whole
+  where
+    twice : (p a : ℕ) → a % p % p ≡ a % p
+    twice p a = mod-mod a p
+
+-- one column more
+pub adds_one : (p start j : ℕ) (f : ℕ → ℕ) (old mid : List ℕ) (u : ℕ) → j < length old → AddsAt p (columns_of start j) f old mid → start ≤ j → u ≡ (slice_index mid j + f j) % p →
+    AddsAt p (columns_of start (j + 1)) f old (slice_set mid j u)
+adds_one p start j f old mid u inside h order is = record {
+  long = length-set mid j u ∙ h.long;
+  added = λ x from l. elim (cases_eq x j) [
+    | inl e ↦
+        ap (slice_index (slice_set mid j u)) e ∙ get_or-set_same mid j u 0 (omega (arith, h.long)) ∙ is ∙ ap (λ t. (t + f j) % p) (h.behind j (omega arith))
+        ∙ ap (λ t. (slice_index old t + f t) % p) (sym e)
+    | inr d ↦ get_or-set_other mid j x u 0 d ∙ h.added x from (omega arith)
+  ];
+  before = λ x l. get_or-set_other mid j x u 0 (omega arith) ∙ h.before x l;
+  behind = λ x l. get_or-set_other mid j x u 0 (omega arith) ∙ h.behind x (omega arith);
+}
+
+-- no product, and one more
+pub products_none : (c : List ℕ) (rows : List (List ℕ)) (s j : ℕ) → products c rows (run_of s 0) j ≡ 0
+products_none c rows s j = sum_none (λ i. slice_index c (s + i) * entry_of rows (s + i) j)
+
+pub products_more : (c : List ℕ) (rows : List (List ℕ)) (s n j : ℕ) → products c rows (run_of s (n + 1)) j ≡ products c rows (run_of s n) j + slice_index c (s + n) * entry_of rows (s + n) j
+products_more c rows s n j = sum_more n (λ i. slice_index c (s + i) * entry_of rows (s + i) j)
+
+-- fewer products make no larger sum
+products_front : (c : List ℕ) (rows : List (List ℕ)) (s n m j : ℕ) → n ≤ m → products c rows (run_of s n) j ≤ products c rows (run_of s m) j
+products_front c rows s n m j le =
+    let f : ℕ → ℕ = λ i. slice_index c (s + i) * entry_of rows (s + i) j in
+    let whole : n + (m - n) ≡ m = omega arith in
+    omega (arith, sum_split n (m - n) f, ap (λ t. sum_below t f) whole)
+
+-- a product more in a sum that is small
+module _ (by units : List (List ℕ)) (run : Run) (width : ℕ) (small : AreSmall by units run width) (i t j x y c : ℕ) (inside : i < run.count) (row : t < 4) (column : j < width)
+    (sum : x ≡ products_of by units (run_of run.first i) t j) (left : y ≡ entry_of units (run.first + i) j) (right : c ≡ entry_of by t (run.first + i)) where
+  pub sum_then : x + y * c ≡ products_of by units (run_of run.first (i + 1)) t j
+  sum_then =
+      let product : y * c ≡ entry_of by t (run.first + i) * entry_of units (run.first + i) j = (λ k. left k * right k) ∙ mul_comm (entry_of units (run.first + i) j) (entry_of by t (run.first + i)) in
+      (λ k. sum k + product k) ∙ sym (products_more (block_row by t) units run.first i j)
+
+  pub sum_small : x + y * c < 18446744073709551616
+  sum_small = omega (arith, sum_then, products_front (block_row by t) units run.first (i + 1) run.count j (omega arith), small.sums t j row column)
+
+-- eight columns from `at` on
+pub adds_lanes : (p at : ℕ) (f : ℕ → ℕ) (row v : List ℕ) → at + 8 ≤ length row → length v ≡ 8 → ((k : ℕ) → k < 8 → slice_index v k ≡ (slice_index row (at + k) + f k) % p) →
+    AddsAt p (columns_of at (at + 8)) (λ j. f (j - at)) row (put_chunk at row v)
+adds_lanes p at f row v room long lanes = record {
+  long = length-put_chunk at row v;
+  added = λ j from l.
+      let place : at + (j - at) ≡ j = omega arith in
+      subst (λ t. slice_index (put_chunk at row v) t ≡ (slice_index row t + f (j - at)) % p) place
+      (get_or-put_chunk_at at row v (j - at) 0 (omega arith) (omega arith) ∙ lanes (j - at) (omega arith));
+  before = λ j l. get_or-put_chunk_below at row v j 0 l;
+  behind = λ j l. get_or-put_chunk_above at row v j 0 (omega arith);
+}
+
+-- zeros, in one row and in several
+pub zero_at : (n k : ℕ) → slice_index (replicate n 0) k ≡ 0
+zero_at zero k = refl
+zero_at (suc n) zero = refl
+zero_at (suc n) (suc k) = zero_at n k
+
+pub zeros_at : (m n t k : ℕ) → entry_of (replicate m (replicate n 0)) t k ≡ 0
+zeros_at zero n t k = refl
+zeros_at (suc m) n zero k = zero_at n k
+zeros_at (suc m) n (suc t) k = zeros_at m n t k
+
+-- the products with all units
+pub products_units : (c : List ℕ) (units : List (List ℕ)) (s j : ℕ) (g : ℕ → ℕ) → length units ≡ s → ((k : ℕ) → k < s → slice_index c k ≡ g k) →
+    products c units (run_of 0 (length units)) j ≡ sum_below s (λ k. g k * entry_of units k j)
+products_units c units s j g long same =
+    sum_equal (length units) (λ i. slice_index c (0 + i) * entry_of units (0 + i) j) (λ k. g k * entry_of units k j)
+    (λ i l.
+    let plain : 0 + i ≡ i = omega arith in
+    ap (λ k. slice_index c k * entry_of units k j) plain ∙ ap (λ x. x * entry_of units i j) (same i (omega arith)))
+    ∙ ap (λ n. sum_below n (λ k. g k * entry_of units k j)) long

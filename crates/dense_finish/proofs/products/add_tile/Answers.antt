@@ -1,0 +1,60 @@
+use Rattle.std.proofs.Common.{ℕ, [], ◌≡◌, ◌<◌, ◌+◌, ◌-◌, ◌∙◌, ap, below_more, arith, length, refl, set, slice_index, slice_index_or, subst, sym}
+use Rattle.std.proofs.lemmas.List.{get_or-set_other, get_or-set_same}
+use Rattle.residue_words.specs.Matrix.{IsVector}
+use Rattle.dense_finish.specs.Block.{block_row}
+use Rattle.dense_finish.specs.Products.{AddsAt, products_of}
+use Rattle.dense_finish.proofs.AddingEach.{adds_equal, each_of_four, joined_lanes}
+use Rattle.dense_finish.proofs.BlockRows.{read_row}
+use Rattle.dense_finish.proofs.products.add_tile.Goals as goal
+
+pub loop-t-init : goal.loop-t-init
+loop-t-init c = record { done = λ t l. absurd (omega arith); ahead = λ t l. refl }
+
+pub add_sums-requires-clause-residues : goal.add_sums-requires-clause-residues
+add_sums-requires-clause-residues c =
+    let t = c.loop-t.t in
+    let rows = c.loop-t.rows in
+    let here = read_row rows t c.index-rows-t.result (omega (arith, c.loop-t.auto.rows, c.loop-t-test.true)) ∙ c.loop-t.invariant.ahead t (omega arith) in
+    let vector : IsVector c.args.folding.now.p c.args.width (block_row c.args.rows.now t) = c.requires.residues t c.loop-t-test.true in
+    rw (here, vector.len) vector
+
+pub add_sums-requires-clause-inside : goal.add_sums-requires-clause-inside
+add_sums-requires-clause-inside c =
+    let t = c.loop-t.t in
+    let rows = c.loop-t.rows in
+    let here = read_row rows t c.index-rows-t.result (omega (arith, c.loop-t.auto.rows, c.loop-t-test.true)) ∙ c.loop-t.invariant.ahead t (omega arith) in
+    omega (arith, ap length here, (c.requires.residues t c.loop-t-test.true).len, c.requires.inside)
+
+pub loop-t-preserved : goal.loop-t-preserved
+loop-t-preserved c =
+    let p = c.args.folding.now.p in
+    let columns = c.args.columns in
+    let start = columns.start in
+    let f = products_of c.args.by.now c.args.units.now c.args.run in
+    let t = c.loop-t.t in
+    let rows = c.loop-t.rows in
+    let olds = c.args.rows.now in
+    let v = c.add_sums.new.self in
+    let left = c.sums_at-left in
+    let right = c.sums_at-right in
+    let inside : t < length rows = omega (arith, c.loop-t.auto.rows, c.loop-t-test.true) in
+    let here = read_row rows t c.index-rows-t.result inside ∙ c.loop-t.invariant.ahead t (omega arith) in
+    let lanes = each_of_four (λ t v. (k : ℕ) → k < 8 → slice_index v k ≡ f t (start + k)) c.joined.result c.joined-2.result c.joined-3.result c.joined-4.result _
+    (joined_lanes start (f 0) left.result.first right.result.first c.joined.result c.joined.ensures.left c.joined.ensures.right left.ensures.first right.ensures.first)
+    (joined_lanes start (f 1) left.result.second right.result.second c.joined-2.result c.joined-2.ensures.left c.joined-2.ensures.right left.ensures.second right.ensures.second)
+    (joined_lanes start (f 2) left.result.third right.result.third c.joined-3.result c.joined-3.ensures.left c.joined-3.ensures.right left.ensures.third right.ensures.third)
+    (joined_lanes start (f 3) left.result.fourth right.result.fourth c.joined-4.result c.joined-4.ensures.left c.joined-4.ensures.right left.ensures.fourth right.ensures.fourth)
+    t (omega (arith, c.requires.few, c.loop-t-test.true)) in
+    let added : AddsAt p columns (f t) (slice_index_or rows t c.index-rows-t.result) v = adds_equal (λ j from less.
+    let place : start + (j - start) ≡ j = omega arith in
+    lanes (j - start) (omega (arith, c.requires.narrow)) ∙ ap (f t) place) c.add_sums.ensures in
+    let one : AddsAt p columns (f t) (block_row olds t) v = subst (λ u. AddsAt p columns (f t) u v) here added in
+    record {
+      done = below_more (λ t. AddsAt p columns (f t) (block_row olds t) (block_row (set rows c.loop-t.t v) t)) t
+          (λ x l. subst (AddsAt p columns (f x) (block_row olds x)) (sym (get_or-set_other rows t x v [] (omega arith))) (c.loop-t.invariant.done x l))
+          (subst (AddsAt p columns (f t) (block_row olds t)) (sym (get_or-set_same rows t v [] inside)) one);
+      ahead = λ x l. get_or-set_other rows t x v [] (omega arith) ∙ c.loop-t.invariant.ahead x (omega arith);
+    }
+
+pub returns : goal.returns
+returns c = record { long = c.loop-t.auto.rows; each = λ t l. c.loop-t.invariant.done t (omega arith) }
