@@ -15,7 +15,8 @@ pub record IsQuestion (q : Preparation) (b : ResidueMatrix) : Type 0 where
 
 -- a reply to question k
 abbrev pub RepliesAt : Preparation → List ResidueMatrix → ℕ → Reply → Type 0
-RepliesAt q questions k reply = (b : ResidueMatrix) → slice_get questions k ≡ Some b → IsReply q b.matrix reply
+RepliesAt q questions k reply = (b : ResidueMatrix) → slice_get questions k ≡ Some b →
+    IsReply q b.matrix reply
 
 -- a reply to each question, in order
 pub record AreReplies (q : Preparation) (questions : List ResidueMatrix) (replies : List Reply) : Type 0 where
@@ -23,7 +24,8 @@ pub record AreReplies (q : Preparation) (questions : List ResidueMatrix) (replie
   pub each : (k : ℕ) (reply : Reply) → slice_get replies k ≡ Some reply → RepliesAt q questions k reply
 
 -- a slot for each question, which is empty or has a reply to it
-pub record AreSlots (q : Preparation) (questions : List ResidueMatrix) (slots : List (Option Reply)) : Type 0 where
+pub record AreSlots (q : Preparation) (questions : List ResidueMatrix)
+    (slots : List (Option Reply)) : Type 0 where
   pub long : length slots ≡ length questions
   pub each : (k : ℕ) (reply : Reply) → slice_get slots k ≡ Some (Some reply) → RepliesAt q questions k reply
 
@@ -33,7 +35,8 @@ pub record IsAnswered (q : Preparation) (questions : List ResidueMatrix) (a : An
   pub reply : RepliesAt q questions a.question a.reply
 
 -- a worker that takes at this desk, whose replies are such
-pub record IsWorkerOf (desk : DeskState) (q : Preparation) (questions : List ResidueMatrix) (w : Worker) : Type 0 where
+pub record IsWorkerOf (desk : DeskState) (q : Preparation) (questions : List ResidueMatrix)
+    (w : Worker) : Type 0 where
   pub taker : IsTakerOf desk w.taker
   pub answered : All (IsAnswered q questions) w.answered.items
 

@@ -32,7 +32,8 @@ new_hand v = hand v.count [] false false
 
 -- what is taken joins the list, and is above all in it; an end tells that nothing is left
 abbrev pub Gives : Hand → Slip → Hand → Type 0
-Gives v (Number n) w = (w ≡ hand v.count (v.taken ++ n ∷ []) false false) × (v.drained ≡ false) × (n < v.count)
+Gives v (Number n) w = (w ≡ hand v.count (v.taken ++ n ∷ []) false false) × (v.drained ≡ false)
+    × (n < v.count)
     × ((k : ℕ) → k < length v.taken → slice_index v.taken k < n)
 Gives v End w = w ≡ hand v.count v.taken true false
 
@@ -77,4 +78,5 @@ pub record Kept (items : List Slip) (views : List Hand) : Type 0 where
   pub count : ℕ
   pub served : IsServed count items views
   pub counts : (i : ℕ) (v : Hand) → get_elem? views i ≡ some v → v.count ≡ count
-  pub filling : (i : ℕ) (v : Hand) → get_elem? views i ≡ some v → v.fills ≡ true → IsFilling views v served.from served.ends
+  pub filling : (i : ℕ) (v : Hand) → get_elem? views i ≡ some v → v.fills ≡ true →
+      IsFilling views v served.from served.ends

@@ -61,7 +61,8 @@ fn run_all<R: Threads + Wait + Sync, W: Watch>(
         workers,
         count,
         &|_: usize, worker: &mut Worker|
-            requires { (desk.now.count ≡ length questions.now) × All (IsQuestion prepared.now) questions.now × IsWorkerOf desk.now prepared.now questions.now worker.now }
+            requires { (desk.now.count ≡ length questions.now) × All (IsQuestion prepared.now) questions.now
+                × IsWorkerOf desk.now prepared.now questions.now worker.now }
             ensures { IsWorkerOf desk.entry.now prepared.entry.now questions.entry.now worker.exit.now }
         { worker.run(rt, alloc, desk, prepared, questions, watch) },
     );

@@ -37,7 +37,8 @@ pub record AreFound (p : ℕ) (columns : List ℕ) (width i : ℕ) (f : Pivots) 
   pub few : count f ≤ i
   pub inside : (k : ℕ) → k < count f → slice_index f.rows.items k < i
   pub rising : (k t : ℕ) → k < t → t < count f → slice_index f.rows.items k < slice_index f.rows.items t
-  pub steps : HasSteps (count f) (length columns) (filled_entry f.u.matrix columns) (slice_index f.columns.items)
+  pub steps : HasSteps (count f) (length columns) (filled_entry f.u.matrix columns)
+      (slice_index f.columns.items)
   pub unnamed : (k x : ℕ) → k < count f → x < width →
       ((j : ℕ) → j < length columns → slice_index columns j ≢ x) → entry f.u.matrix k x ≡ 0
   pub marks : length f.taken.items ≡ length columns

@@ -7,7 +7,8 @@ use Rattle.dense_finish.specs.declared.products.Run.{Run}
 
 -- the sum of the products of the coefficients c with the entries of these rows at column j
 abbrev pub products : List ℕ → List (List ℕ) → Run → ℕ → ℕ
-products c rows run j = sum_below run.count (λ i. slice_index c (run.first + i) * entry_of rows (run.first + i) j)
+products c rows run j = sum_below run.count (λ i.
+    slice_index c (run.first + i) * entry_of rows (run.first + i) j)
 
 -- the same for each row of coefficients
 abbrev pub products_of : List (List ℕ) → List (List ℕ) → Run → ℕ → ℕ → ℕ
@@ -29,7 +30,8 @@ pub record AreSmall (by rows : List (List ℕ)) (run : Run) (width : ℕ) : Type
 -- new is the row old with the residues of old and f at these columns
 pub record AddsAt (p : ℕ) (columns : Columns) (f : ℕ → ℕ) (old new : List ℕ) : Type 0 where
   pub long : length new ≡ length old
-  pub added : (j : ℕ) → columns.start ≤ j → j < columns.end → slice_index new j ≡ (slice_index old j + f j) % p
+  pub added : (j : ℕ) → columns.start ≤ j → j < columns.end →
+      slice_index new j ≡ (slice_index old j + f j) % p
   pub before : (j : ℕ) → j < columns.start → slice_index new j ≡ slice_index old j
   pub behind : (j : ℕ) → columns.end ≤ j → slice_index new j ≡ slice_index old j
 

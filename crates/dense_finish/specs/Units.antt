@@ -12,10 +12,12 @@ unit_row n c = slice_set (zeros n) c 1
 pub record AreUnitRows (p : ℕ) (panel : PanelRows) (units : List (List ℕ)) : Type 0 where
   pub long : length units ≡ length panel.columns
   pub vectors : AreVectors p panel.width units
-  pub each : (k : ℕ) → k < length panel.columns → block_row units k ≡ unit_row panel.width (slice_index panel.columns k)
+  pub each : (k : ℕ) → k < length panel.columns →
+      block_row units k ≡ unit_row panel.width (slice_index panel.columns k)
 
 -- what a panel leaves of the unit rows at its columns, which is 0 before column `from`
 pub record AreUnits (p : ℕ) (panel : PanelRows) (from : ℕ) (units : List (List ℕ)) : Type 0 where
   pub long : length units ≡ length panel.columns
-  pub reduced : (k : ℕ) → k < length units → PanelReduces p panel (unit_row panel.width (slice_index panel.columns k)) (block_row units k)
+  pub reduced : (k : ℕ) → k < length units → PanelReduces p panel
+      (unit_row panel.width (slice_index panel.columns k)) (block_row units k)
   pub before : (k j : ℕ) → k < length units → j < from → entry_of units k j ≡ 0

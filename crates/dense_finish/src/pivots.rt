@@ -84,7 +84,8 @@ impl Pivots {
         requires long { length self.now.rows.items ≡ count self.now }
         requires rows { AreBelow (length rows.now) self.now.rows.items }
         requires columns { AreBelow (length columns.now) self.now.columns.items }
-        ensures { IfOk result (ArePivotPlaces self.now.rows.items self.now.columns.items rows.now columns.now) }
+        ensures { IfOk result
+            (ArePivotPlaces self.now.rows.items self.now.columns.items rows.now columns.now) }
     {
         let mut places = List::new(alloc);
         for k in 0..self.rows.len() {

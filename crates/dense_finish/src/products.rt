@@ -138,10 +138,14 @@ fn sums_at(
     requires high { length units.now ≤ PANEL }
     requires small { AreSmall by.now units.now run width }
     requires inside { at + 4 ≤ width }
-    ensures first { (k : ℕ) → k < 4 → slice_index result.first k ≡ products_of by.now units.now run 0 (at + k) }
-    ensures second { (k : ℕ) → k < 4 → slice_index result.second k ≡ products_of by.now units.now run 1 (at + k) }
-    ensures third { (k : ℕ) → k < 4 → slice_index result.third k ≡ products_of by.now units.now run 2 (at + k) }
-    ensures fourth { (k : ℕ) → k < 4 → slice_index result.fourth k ≡ products_of by.now units.now run 3 (at + k) }
+    ensures first { (k : ℕ) → k < 4 → slice_index result.first k
+        ≡ products_of by.now units.now run 0 (at + k) }
+    ensures second { (k : ℕ) → k < 4 → slice_index result.second k
+        ≡ products_of by.now units.now run 1 (at + k) }
+    ensures third { (k : ℕ) → k < 4 → slice_index result.third k
+        ≡ products_of by.now units.now run 2 (at + k) }
+    ensures fourth { (k : ℕ) → k < 4 → slice_index result.fourth k
+        ≡ products_of by.now units.now run 3 (at + k) }
 {
     let mut first = u64x4::splat(0);
     let mut second = first;
@@ -210,7 +214,8 @@ fn add_run(
     requires small { AreSmall by.now units.now run columns.end }
     requires wide { TILE_COLUMNS ≤ columns.end }
     requires before { (k j : ℕ) → k < length units.now → j < columns.start → entry_of units.now k j ≡ 0 }
-    ensures { AddsToEach folding.now.p (columns_of 0 columns.end) (products_of by.now units.now run) rows.old rows.new }
+    ensures { AddsToEach folding.now.p (columns_of 0 columns.end)
+        (products_of by.now units.now run) rows.old rows.new }
 {
     let mut end = columns.end;
     while end > columns.start {

@@ -76,13 +76,15 @@ pub record SaysStep (p n : ℕ) (step : ScriptLine) (items : List Item) (due : L
   pub line : IsScriptLine p n words step
 
 -- the answer to a line, if it has one, was put behind others
-pub record AddsAnswer (old new : ResidueMatrix) (line : ScriptLine) (before after : List Answer) : Type 0 where
+pub record AddsAnswer (old new : ResidueMatrix) (line : ScriptLine)
+    (before after : List Answer) : Type 0 where
   pub said : Option Answer
   pub answers : AnswersOfScript old new line said
   pub behind : after ≡ before ++ elim said [ Some a ↦ a ∷ [] | None ↦ [] ]
 
 -- a whole script was read, and these are its answers behind the matrix A
-pub record SaysScript (A : ResidueMatrix) (answers : List Answer) (items : List Item) (due : List Due) : Type 0 where
+pub record SaysScript (A : ResidueMatrix) (answers : List Answer) (items : List Item)
+    (due : List Due) : Type 0 where
   pub whole : due ≡ []
   pub lines : List (List (List ℕ))
   pub items_are : items ≡ map Words lines

@@ -79,7 +79,8 @@ fn row_of_terms(
     requires some { 0 < length line.now.words }
     requires small { width ≤ LARGEST_SIZE }
     ensures ok { IfOk result (λ row. MatchOption row
-        (are_terms p.now width (terms_of line.now.words) ≡ false) (IsTermsRow p.now width (terms_of line.now.words))) }
+        (are_terms p.now width (terms_of line.now.words) ≡ false)
+        (IsTermsRow p.now width (terms_of line.now.words))) }
     ensures err { OnErr result (are_terms p.now width (terms_of line.now.words) ≡ true) }
 {
     match terms_row(alloc, line, width, p) {
@@ -126,7 +127,8 @@ fn terms_row(
     requires some { 0 < length line.now.words }
     requires small { width ≤ LARGEST_SIZE }
     ensures { IfOk result (λ row. MatchOption row
-        (are_terms p.now width (terms_of line.now.words) ≡ false) (IsTermsRow p.now width (terms_of line.now.words))) }
+        (are_terms p.now width (terms_of line.now.words) ≡ false)
+        (IsTermsRow p.now width (terms_of line.now.words))) }
 {
     let mut builder = RowsBuilder::new(alloc, 1, width, *p)?;
     let mut k = 1;

@@ -55,4 +55,5 @@ RepliesTo p A b (Refuted y) = (y.matrix.width ≡ A.height) × IsRefutingCombina
 
 -- a reply to the column b: right for each matrix that q is the preparation of, where the modulus is prime
 abbrev pub IsReply : Preparation → Matrix → Reply → Type 0
-IsReply q b reply = (p : ℕ) (A : Matrix) → IsPrime p → IsMatrix p A → IsPreparedFor p A q → RepliesTo p A (column b) reply
+IsReply q b reply = (p : ℕ) (A : Matrix) → IsPrime p → IsMatrix p A → IsPreparedFor p A q →
+    RepliesTo p A (column b) reply

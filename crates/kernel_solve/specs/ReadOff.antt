@@ -9,7 +9,8 @@ IsFree leads j = (k : ℕ) → k < length leads → slice_index leads k ≢ j
 -- 1 at f, at each lead the negative of the column's entry in the lead's row, and 0 elsewhere
 pub record IsBasisRow (p : ℕ) (leads column : List ℕ) (f : ℕ) (v : List ℕ) : Type 0 where
   pub one : slice_index v f ≡ 1
-  pub at_lead : (k : ℕ) → k < length leads → slice_index v (slice_index leads k) ≡ (p - slice_index column k) % p
+  pub at_lead : (k : ℕ) → k < length leads → slice_index v (slice_index leads k)
+      ≡ (p - slice_index column k) % p
   pub elsewhere : (j : ℕ) → j < length v → j ≢ f → IsFree leads j → slice_index v j ≡ 0
 
 -- x has the entries of `column` at the leads, and 0 elsewhere

@@ -28,10 +28,12 @@ divided p K b k = multiple p (inverse p (dot p K.width (row K k) b)) (row K k)
 
 -- it is the refuting combination
 abbrev pub FirstHitRefutes : Type 0
-FirstHitRefutes = (p : ℕ) (A : Matrix) (b : List ℕ) (K : Matrix) (k : ℕ) → IsPrime p → IsMatrix p A → IsVector p A.height b →
+FirstHitRefutes = (p : ℕ) (A : Matrix) (b : List ℕ) (K : Matrix) (k : ℕ) → IsPrime p → IsMatrix p A →
+    IsVector p A.height b →
     IsKernel p (transposed A) K → IsFirstHit p K b k → IsRefutingCombination p A b (divided p K b k)
 
 -- and there is one where A x = b has no solution
 abbrev pub UnsolvableIsHit : Type 0
-UnsolvableIsHit = (p : ℕ) (A : Matrix) (b : List ℕ) (K : Matrix) → IsPrime p → IsMatrix p A → IsVector p A.height b →
+UnsolvableIsHit = (p : ℕ) (A : Matrix) (b : List ℕ) (K : Matrix) → IsPrime p → IsMatrix p A →
+    IsVector p A.height b →
     IsKernel p (transposed A) K → ((x : List ℕ) → ¬ IsSolution p A b x) → (k : ℕ) × IsFirstHit p K b k

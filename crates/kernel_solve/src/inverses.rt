@@ -56,7 +56,8 @@ fn inverse_of<R: Threads + Sync>(
     requires some { 1 ≤ workers }
     requires few { workers ≤ 64 }
     ensures shape { IfOk result (λ found. IfSome found (IsSquareOf a.now.modulus a.now.matrix.width)) }
-    ensures tells { IfOk result (λ found. IsPrime a.now.modulus → TellsInverse a.now.modulus a.now.matrix found) }
+    ensures tells { IfOk result (λ found. IsPrime a.now.modulus →
+        TellsInverse a.now.modulus a.now.matrix found) }
 {
     // The call's contract tells that the entries are residues.
     let _ = a.height();
@@ -90,7 +91,8 @@ pub fn doubled(alloc: Global, a: &Rows) -> Result<Option<Rows>, AllocError>
 pub fn inverse_in(alloc: Global, form: &Echelon, n: u32) -> Result<Option<Rows>, AllocError>
     requires { form.now.matrix.width ≡ n + n }
     ensures shape { IfOk result (λ found. IfSome found (IsSquareOf form.now.modulus n)) }
-    ensures tells { IfOk result (λ found. (p : ℕ) (A : Matrix) → IsPrime p → IsMatrix p A → A.height ≡ n → A.width ≡ n
+    ensures tells { IfOk result (λ found. (p : ℕ) (A : Matrix) → IsPrime p → IsMatrix p A → A.height ≡ n →
+        A.width ≡ n
         → IsFormOf p (beside A (identity n)) form.now → TellsInverse p A found) }
 {
     // The calls' contracts tell how wide a matrix of residues is.

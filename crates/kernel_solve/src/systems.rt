@@ -82,7 +82,8 @@ pub fn refuting_system(alloc: Global, a: &Rows, b: &Rows) -> Result<Rows, AllocE
     requires width { a.now.matrix.width < LARGEST_SIZE }
     ensures modulus { IfOk result (λ rows. rows.modulus ≡ a.now.modulus) }
     ensures matrix { IfOk result (λ rows. rows.matrix ≡ beside
-        (refuting_rows a.now.matrix (column b.now.matrix)) (column_matrix (refuting_side a.now.matrix.width))) }
+        (refuting_rows a.now.matrix (column b.now.matrix))
+        (column_matrix (refuting_side a.now.matrix.width))) }
 {
     let mut system = a.beside(alloc, b)?;
     let mut last = Sparse::new(alloc, system.width(), a.modulus());

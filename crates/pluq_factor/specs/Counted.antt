@@ -12,4 +12,5 @@ pub record LeavesRank (R : ResidueMatrix) (c : Counted) : Type 0 where
   pub width : c.rest.matrix.width ≡ R.matrix.width
   pub at_most_height : c.count ≤ R.matrix.height
   pub at_most_width : c.count ≤ R.matrix.width
-  pub rank : IsPrime R.modulus → (r : ℕ) → HasRank R.modulus c.rest.matrix r → HasRank R.modulus R.matrix (c.count + r)
+  pub rank : IsPrime R.modulus → (r : ℕ) → HasRank R.modulus c.rest.matrix r →
+      HasRank R.modulus R.matrix (c.count + r)

@@ -9,10 +9,12 @@ use Rattle.pluq_factor.specs.Staged.{Staged}
 
 -- a list begins with the pivots of at most one round
 abbrev pub SelectedIsOne : Type 0
-SelectedIsOne = (A : Matrix) (workers : ℕ) (qs ps us rs : List Pair) → Selected A workers qs → Selected A workers us →
+SelectedIsOne = (A : Matrix) (workers : ℕ) (qs ps us rs : List Pair) → Selected A workers qs →
+    Selected A workers us →
     qs ++ ps ≡ us ++ rs → qs ≡ us
 
 -- what stands behind the first round's pivots is staged on the complement
 abbrev pub StagedGoesOn : Type 0
 StagedGoesOn = (p : ℕ) (A B : Matrix) (workers rounds : ℕ) (qs ps : List Pair) → IsPrime p → IsMatrix p A →
-    Selected A workers qs → IsComplement p A qs B → Staged p A workers (suc rounds) (qs ++ ps) → Staged p B workers rounds ps
+    Selected A workers qs → IsComplement p A qs B → Staged p A workers (suc rounds) (qs ++ ps) →
+    Staged p B workers rounds ps

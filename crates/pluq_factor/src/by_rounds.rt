@@ -53,7 +53,8 @@ fn factor_from<R: Threads + Sync, G: Gate>(
     requires some { 1 ≤ workers }
     requires few { workers ≤ 64 }
     ensures factors { IfOk result (AreFactorsOf rows.modulus rows.matrix) }
-    ensures staged { IfOk result (λ f. IsPrime rows.modulus → Staged rows.modulus rows.matrix workers rounds f.pivots) }
+    ensures staged { IfOk result (λ f. IsPrime rows.modulus →
+        Staged rows.modulus rows.matrix workers rounds f.pivots) }
 {
     let height = rows.height();
     let width = rows.width();
@@ -121,7 +122,8 @@ fn join(
     requires width { top.matrix.width ≡ below.now.u.matrix.width }
     requires widths { coefficients.now.matrix.width + below.now.l.matrix.width ≤ LARGEST_SIZE }
     requires heights { top.matrix.height + below.now.u.matrix.height ≤ LARGEST_SIZE }
-    ensures moduli { IfOk result (λ f. (f.l.modulus ≡ coefficients.now.modulus) × (f.u.modulus ≡ top.modulus)) }
+    ensures moduli { IfOk result (λ f. (f.l.modulus ≡ coefficients.now.modulus)
+        × (f.u.modulus ≡ top.modulus)) }
     ensures pivots { IfOk result (λ f. f.pivots ≡ pairs.now ++ below.now.pivots) }
     ensures left { IfOk result (λ f. f.l.matrix ≡ beside coefficients.now.matrix below.now.l.matrix) }
     ensures right { IfOk result (λ f. f.u.matrix ≡ above top.matrix below.now.u.matrix) }

@@ -45,7 +45,8 @@ pub(crate) fn take_round<R: Threads + Sync, G: Gate>(
 ) -> Result<Option<Taken>, AllocError>
     requires some { 1 ≤ workers }
     requires few { workers ≤ 64 }
-    ensures { IfOk result (λ r. MatchOption r (Selected rows.now.matrix workers []) (IsRoundTaken rows.now workers)) }
+    ensures { IfOk result (λ r. MatchOption r (Selected rows.now.matrix workers [])
+        (IsRoundTaken rows.now workers)) }
 {
     // The call's contract tells that the entries are residues.
     let _ = rows.height();

@@ -15,7 +15,8 @@ trace_example = record { p = 7; publications = published 0 0 0 ∷ published 1 1
 
 -- the words of its lines
 abbrev pub trace_lines : List (List (List ℕ))
-trace_lines = (codes "trace" ∷ codes "7" ∷ codes "2" ∷ []) ∷ (codes "1" ∷ codes "1" ∷ codes "0" ∷ []) ∷ (codes "2" ∷ codes "2" ∷ codes "1" ∷ []) ∷ []
+trace_lines = (codes "trace" ∷ codes "7" ∷ codes "2" ∷ []) ∷ (codes "1" ∷ codes "1" ∷ codes "0" ∷ [])
+    ∷ (codes "2" ∷ codes "2" ∷ codes "1" ∷ []) ∷ []
 
 -- what holds of them
 pub record AreWorkedTraces : Type 0 where

@@ -35,7 +35,8 @@ title_line p k = codes "trace " ++ decimal p ++ 32 ∷ decimal k ++ 10 ∷ []
 
 -- `i j v`, a line each
 abbrev pub publication_lines : List Publication → List ℕ
-publication_lines list = flat_map (λ (x : Publication). entry_line (x.pair.row + 1) (x.pair.col + 1) x.version) list
+publication_lines list = flat_map (λ (x : Publication).
+    entry_line (x.pair.row + 1) (x.pair.col + 1) x.version) list
 
 -- the first line, and a line for each publication
 abbrev pub trace_text : ℕ → List Publication → List ℕ
