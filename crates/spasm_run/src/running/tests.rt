@@ -320,6 +320,13 @@ const ANSWERS: &[(&str, &str, &str, &str)] = &[
         "rank 1\nyes\nrank 2\n",
     ),
     ("grow", "7", "0 1 M\n0 0 0\nend", ""),
+    (
+        "replay",
+        "7",
+        "3 3 M\n1 1 1\n2 1 1\n2 2 1\n2 3 1\n3 1 1\n3 2 1\n3 3 2\n0 0 0\ntrace 7 2\n1 1 0\n2 3 1\n",
+        "yes\n",
+    ),
+    ("replay", "7", "0 0 M\n0 0 0\ntrace 7 0\n", "yes\n"),
     ("rank", "7", X, "rank 2\n"),
     ("rref", "7", X, "2 3 M\n1 1 1\n1 2 2\n2 3 1\n0 0 0\n"),
 ];
@@ -663,38 +670,6 @@ const CERTIFICATES: &[(&str, &str, &str, &str, &str, Status, &str)] = &[
     ),
 ];
 
-// Runs a command with a modulus on an input, in each way: what is told goes to the output where the run ends with a verdict, and else to
-// the error stream.
-fn check_verdict<'a, R: Threads + Sync + Abort>(
-    rt: &R,
-    alloc: Global,
-    command: [&'a str; 2],
-    input: &'a [u8],
-    status: Status,
-    text: &'a str,
-) -> Result<(), Fail> {
-    let none: &[u8] = b"";
-    let (out, told) = if status.code() < 2 {
-        (text.as_bytes(), none)
-    } else {
-        (none, text.as_bytes())
-    };
-    for way in WAYS {
-        let mut words = Vec::from_slice(alloc, &[command[0], "--modulus", command[1]])?;
-        words.extend_from_slice(way)?;
-        let trial = Trial {
-            words: &words,
-            text: input,
-            streams: CALM,
-            status,
-            out,
-            told,
-        };
-        check(rt, alloc, &trial)?;
-    }
-    Ok(())
-}
-
 #[test]
 fn certificates_are_judged_as_known(rt: HostRuntime) -> Result<(), Fail> {
     let alloc = rt.alloc();
@@ -703,51 +678,25 @@ fn certificates_are_judged_as_known(rt: HostRuntime) -> Result<(), Fail> {
         input.extend_from_slice(head.as_bytes())?;
         input.extend_from_slice(factors.as_bytes())?;
         input.extend_from_slice(behind.as_bytes())?;
-        check_verdict(&rt, alloc, ["check", *p], &input, *status, text)?;
-    }
-    Ok(())
-}
-
-// Traces behind the matrix of three rows, with how a replay ends modulo 7, and what is told.
-const TRACES: &[(&str, Status, &str)] = &[
-    ("trace 7 2\n1 1 0\n2 3 1\n", Status::Done, "yes\n"),
-    ("trace 7 0\n", Status::Done, "yes\n"),
-    ("trace 7 3\n1 1 0\n2 2 1\n3 3 1\n", Status::No, "no\n"),
-    ("trace 7 1\n1 1 1\n", Status::No, "no\n"),
-    ("trace 5 0\n", Status::No, "no\n"),
-    (
-        "trace 7 1\n1 1\n",
-        Status::BadText {
-            line: 11,
-            kind: Kind::Trace,
-        },
-        "error 3 line 11 kind 11\n",
-    ),
-    (
-        "trace 7\n",
-        Status::BadText {
-            line: 10,
-            kind: Kind::Trace,
-        },
-        "error 3 line 10 kind 11\n",
-    ),
-    (
-        "trace 7 2147483647\n",
-        Status::BadText {
-            line: 11,
-            kind: Kind::NoEnd,
-        },
-        "error 3 line 11 kind 7\n",
-    ),
-];
-
-#[test]
-fn traces_are_judged_as_known(rt: HostRuntime) -> Result<(), Fail> {
-    let alloc = rt.alloc();
-    for (trace, status, text) in TRACES {
-        let mut input = Vec::from_slice(alloc, Y.as_bytes())?;
-        input.extend_from_slice(trace.as_bytes())?;
-        check_verdict(&rt, alloc, ["replay", "7"], &input, *status, text)?;
+        let none: &[u8] = b"";
+        let (out, told) = if status.code() < 2 {
+            (text.as_bytes(), none)
+        } else {
+            (none, text.as_bytes())
+        };
+        for way in WAYS {
+            let mut words = Vec::from_slice(alloc, &["check", "--modulus", *p])?;
+            words.extend_from_slice(way)?;
+            let trial = Trial {
+                words: &words,
+                text: &input,
+                streams: CALM,
+                status: *status,
+                out,
+                told,
+            };
+            check(&rt, alloc, &trial)?;
+        }
     }
     Ok(())
 }
@@ -984,6 +933,24 @@ const FAULTS: &[(&str, &str, Status, &str)] = &[
         "error 3 line 4 kind 7\n",
     ),
     (
+        "replay",
+        "1 1 M\n0 0 0\ntrace 7 1\n1 1\n",
+        Status::BadText {
+            line: 4,
+            kind: Kind::Trace,
+        },
+        "error 3 line 4 kind 11\n",
+    ),
+    (
+        "replay",
+        "1 1 M\n0 0 0\ntrace 7 2147483647\n",
+        Status::BadText {
+            line: 4,
+            kind: Kind::NoEnd,
+        },
+        "error 3 line 4 kind 7\n",
+    ),
+    (
         "grow",
         "0 3 M\n0 0 1\nend\n",
         Status::BadText {
@@ -993,6 +960,45 @@ const FAULTS: &[(&str, &str, Status, &str)] = &[
         "error 3 line 2 kind 4\n",
     ),
 ];
+
+// Traces modulo 7 that one worker writes, and traces that are no traces of the matrix.
+const TRACES: &[(&str, &str, Status, &str)] = &[
+    ("trace", Y, Status::Done, "trace 7 2\n1 1 0\n2 2 1\n"),
+    (
+        "replay",
+        "3 3 M\n1 1 1\n2 1 1\n2 2 1\n2 3 1\n3 1 1\n3 2 1\n3 3 2\n0 0 0\ntrace 7 3\n1 1 0\n2 2 1\n3 3 1\n",
+        Status::No,
+        "no\n",
+    ),
+    (
+        "replay",
+        "3 3 M\n1 1 1\n2 1 1\n2 2 1\n2 3 1\n3 1 1\n3 2 1\n3 3 2\n0 0 0\ntrace 7 1\n1 1 1\n",
+        Status::No,
+        "no\n",
+    ),
+    (
+        "replay",
+        "3 3 M\n1 1 1\n2 1 1\n2 2 1\n2 3 1\n3 1 1\n3 2 1\n3 3 2\n0 0 0\ntrace 5 1\n1 1 0\n",
+        Status::No,
+        "no\n",
+    ),
+];
+
+#[test]
+fn traces_are_written_and_judged(rt: HostRuntime) -> Result<(), Fail> {
+    for (command, text, status, out) in TRACES {
+        let trial = Trial {
+            words: &[*command, "--modulus", "7"],
+            text: text.as_bytes(),
+            streams: CALM,
+            status: *status,
+            out: out.as_bytes(),
+            told: b"",
+        };
+        check(&rt, rt.alloc(), &trial)?;
+    }
+    Ok(())
+}
 
 // Nothing is put to the output, not even where its first put would fail.
 #[test]
