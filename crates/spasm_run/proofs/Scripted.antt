@@ -1,5 +1,5 @@
 -- A matrix and the script behind it, read from a new reader on; and its answers as what is answered to a command.
-use Rattle.std.proofs.Common.{ℕ, ◌≡◌, ◌≢◌, List, [], ◌∷◌, ◌++◌, map, Result, Ok, Err, refl, sym, ap, ap₂, ◌∙◌, subst, append-nil}
+use Rattle.std.proofs.Common.{ℕ, ◌≡◌, List, [], ◌∷◌, ◌++◌, map, Ok, Err, refl, sym, ap, ap₂, ◌∙◌, subst, append-nil}
 use Rattle.std.specs.Prelude.{All, Vec}
 use Rattle.std.specs.declared.alloc.Global.{Global}
 use Rattle.residue_words.specs.Matrix.{Matrix}
@@ -9,7 +9,7 @@ use Rattle.sms_text.specs.OuterLines as form
 use Rattle.sms_text.specs.declared.kind.TextError.{TextError}
 use Rattle.sms_text.specs.declared.kind.TextError.TheVariants as error
 use Rattle.sms_text.specs.Parts.{IsTooShort, IsUnread, PartDid, ReadsPart, wants}
-use Rattle.sms_text.specs.Reading.{InputState, IsShort, ReaderState, input, is_failed, new_reader, supply, untouched}
+use Rattle.sms_text.specs.Reading.{InputState, IsShort, ReaderState, input, new_reader, supply, untouched}
 use Rattle.sms_text.specs.ReadingRows.{RowsDid, SaysRows}
 use Rattle.sms_text.specs.Stream.{SourceState}
 use Rattle.sms_text.specs.Text.{Due, Header, Item, Outer, Scripted, Words, matrices, outer_lines}

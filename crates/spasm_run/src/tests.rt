@@ -136,23 +136,37 @@ impl Gate for Hold {
     }
 }
 
-// What is written where the third row overtakes the second, by commands and matrices: in the first matrix the second row is dropped, in
-// the other one it is published behind, with the version of its claim.
-const OVERTAKEN: &[(&str, &str, &str)] = &[
-    ("pivots", Y, "pivots 2\n3 2\n1 1\n"),
-    ("trace", Y, "trace 7 2\n1 1 0\n3 2 1\n"),
+// Words of commands that search by two workers, matrices, and what is answered where the third row overtakes the second. In the first
+// matrix the second row is dropped, which changes the pivots and no form; in the last one it is published behind, with the version of its
+// claim.
+const OVERTAKEN: &[(&[&str], &str, &str)] = &[
     (
-        "trace",
+        &["pivots", "--modulus=7", "--workers=2"],
+        Y,
+        "pivots 2\n3 2\n1 1\n",
+    ),
+    (
+        &["rref", "--modulus=7", "--workers=2"],
+        Y,
+        "3 3 M\n1 1 1\n2 2 1\n3 3 1\n0 0 0\n",
+    ),
+    (
+        &["trace", "--modulus=7", "--workers=2"],
+        Y,
+        "trace 7 2\n1 1 0\n3 2 1\n",
+    ),
+    (
+        &["trace", "--modulus=7", "--workers=2"],
         "3 3 M\n1 1 1\n2 1 1\n2 2 1\n3 1 1\n3 3 1\n0 0 0\n",
         "trace 7 3\n1 1 0\n3 3 1\n2 2 1\n",
     ),
 ];
 
-// Whether this is written where the gate holds the second row: two workers go at once.
-fn is_overtaken<R: Threads + Sync>(
+// Whether the third row overtakes the second where the gate holds it, and this is answered: two workers go at once.
+fn is_overtaken<'a, R: Threads + Sync>(
     rt: &R,
     alloc: Global,
-    command: &str,
+    words: &'a [&'a str],
     text: &str,
     answer: &str,
 ) -> Result<bool, AllocError> {
@@ -160,15 +174,17 @@ fn is_overtaken<R: Threads + Sync>(
         owner: AtomicU64::new(0),
         published: AtomicU64::new(0),
     };
-    let words = [command, "--modulus=7", "--workers=2"];
-    let out = written(rt, alloc, &words, text.as_bytes(), &gate)?;
+    let out = written(rt, alloc, words, text.as_bytes(), &gate)?;
     Ok(is_among(&out, &[answer]) && gate.published.load(Ordering::SeqCst) == 1)
 }
 
 #[test]
 fn two_workers_go_at_once(rt: HostRuntime) -> Result<(), Fail> {
-    for (command, text, answer) in OVERTAKEN {
-        assert!(rt; is_overtaken(&rt, rt.alloc(), command, text, answer)?);
+    for (words, text, answer) in OVERTAKEN {
+        assert!(rt;
+            is_overtaken(&rt, rt.alloc(), words, text, answer)?,
+            "{words:?}"
+        );
     }
     Ok(())
 }

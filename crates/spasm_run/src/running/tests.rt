@@ -165,13 +165,21 @@ fn check<'a, R: Threads + Sync + Abort>(
     Ok(())
 }
 
-// The ways to work out an answer, which change nothing of it.
-const WAYS: [&[&str]; 5] = [
+// The ways to work out an answer, which change nothing of it: without rounds, by one, by as many as there are by default, and by the
+// most, with one worker, two and the most.
+const WAYS: [&[&str]; 12] = [
+    &["--rounds=0", "--workers=1"],
+    &["--rounds", "0", "--workers", "2"],
+    &["--rounds=0", "--workers=64"],
+    &["--rounds=1", "--workers=1"],
+    &["--rounds=1", "--workers=2"],
+    &["--rounds=1", "--workers=64"],
+    &["--rounds=3", "--workers=1"],
+    &["--rounds=3", "--workers=2"],
+    &["--rounds=3", "--workers=64"],
     &["--rounds=16", "--workers=1"],
-    &["--workers", "8"],
-    &["--rounds", "0", "--workers", "1"],
-    &["--rounds", "0", "--workers", "8"],
-    &["--rounds", "0", "--workers", "64"],
+    &["--rounds=16", "--workers=2"],
+    &["--rounds=16", "--workers=64"],
 ];
 
 // Runs of these commands, modulo these numbers and on these texts, answer so in each way.
