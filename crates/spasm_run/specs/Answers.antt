@@ -78,12 +78,14 @@ pivots_text qs = codes "pivots " ++ decimal (length qs) ++ 10 ∷ pair_lines qs
 
 -- the text of a certificate of this kind that is valid, the pivots of which were chosen in so many rounds by so many workers
 abbrev pub CertifiesAs : CertKind → Command → Matrix → List ℕ → Type 0
-CertifiesAs kind c A text = (s : plain.Certificate) × (claim_word s.claim ≡ kind_word kind) × IsValid c.modulus A s
+CertifiesAs kind c A text = (s : plain.Certificate) × (claim_word s.claim ≡ kind_word kind)
+    × IsValid c.modulus A s
     × Staged c.modulus A c.workers c.rounds s.pivots × (text ≡ certificate_text s)
 
 -- the text of a trace of a search by so many workers
 abbrev pub TracesTo : Command → Matrix → List ℕ → Type 0
-TracesTo c A text = (t : run.Trace) × IsTraceOf c.modulus A c.workers t × (text ≡ trace_text t.p t.publications)
+TracesTo c A text = (t : run.Trace) × IsTraceOf c.modulus A c.workers t
+    × (text ≡ trace_text t.p t.publications)
 
 -- the text is the answer to the task of this command, which reads matrices alone, for these matrices
 abbrev pub MatricesAnswer : Task → Command → List Matrix → List ℕ → Type 0
@@ -91,7 +93,8 @@ MatricesAnswer Rank c (A ∷ []) text = (r : ℕ) × HasRank c.modulus A r × (t
 MatricesAnswer Rref c (A ∷ []) text = (E : Matrix) × IsRref c.modulus A E × (text ≡ text_of E)
 MatricesAnswer Kernel c (A ∷ []) text = (K : Matrix) × IsKernel c.modulus A K × (text ≡ text_of K)
 MatricesAnswer Solve c (A ∷ B ∷ []) text = SolvesTo c.modulus A (column B) text
-MatricesAnswer LeftKernel c (A ∷ []) text = (K : Matrix) × IsKernel c.modulus (transposed A) K × (text ≡ text_of K)
+MatricesAnswer LeftKernel c (A ∷ []) text = (K : Matrix) × IsKernel c.modulus (transposed A) K
+    × (text ≡ text_of K)
 MatricesAnswer Inverse c (A ∷ []) text = InvertsTo c.modulus A text
 MatricesAnswer Pivots c (A ∷ []) text = (qs : List Pair) × Selected A c.workers qs × (text ≡ pivots_text qs)
 MatricesAnswer Trace c (A ∷ []) text = TracesTo c A text

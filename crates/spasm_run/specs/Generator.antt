@@ -42,7 +42,8 @@ pub record AreGeneratedSo : Type 0 where
   pub first : random_number 0 0 ≡ 167951807
   pub other : random_number 1 0 ≡ 908834774
   pub parities : map (λ n. random_number 1 n % 2) (0 ∷ 1 ∷ 2 ∷ 3 ∷ []) ≡ 0 ∷ 1 ∷ 0 ∷ 0 ∷ []
-  pub matrix : (generated 7 (record { seed = 1; rows = 2; cols = 3; per = 2 })).rows ≡ (1 ∷ 0 ∷ 4 ∷ []) ∷ (6 ∷ 0 ∷ 5 ∷ []) ∷ []
+  pub matrix : (generated 7 (record { seed = 1; rows = 2; cols = 3; per = 2 })).rows
+      ≡ (1 ∷ 0 ∷ 4 ∷ []) ∷ (6 ∷ 0 ∷ 5 ∷ []) ∷ []
 
 -- the sizes lie in the range of what can be generated
 pub record HasSizesInRange (g : Generator) : Type 0 where
@@ -61,7 +62,8 @@ numbered_line title n = title ++ decimal n ++ 10 ∷ []
 -- the lines that tell a rank, a number of entries and a sum
 abbrev pub summary_text : ℕ → ℕ → ℕ → List ℕ
 summary_text rank entries sum =
-    numbered_line (codes "rank ") rank ++ numbered_line (codes "entries ") entries ++ numbered_line (codes "sum ") sum
+    numbered_line (codes "rank ") rank ++ numbered_line (codes "entries ") entries
+    ++ numbered_line (codes "sum ") sum
 
 -- what is told of an echelon form
 abbrev pub summary_of : ℕ → Matrix → List ℕ

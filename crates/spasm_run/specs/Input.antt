@@ -52,13 +52,16 @@ two_values (Ok (A, B)) = Ok (matrices_alone (A.matrix ∷ B.matrix ∷ []))
 two_values (Err e) = Err e
 
 -- a matrix and a certificate behind it were read, or not
-abbrev pub WereRead : Request → Result (ResidueMatrix × Certificate) TextError → SourceState → SourceState → Type 0
+abbrev pub WereRead : Request → Result (ResidueMatrix × Certificate) TextError → SourceState → SourceState →
+    Type 0
 WereRead r (Ok (A, c)) old new = (said : Contents) × WasRead r (Ok said) old new × AreToCheck A c said
 WereRead r (Err e) old new = WasRead r (Err e) old new
 
 -- a matrix and a trace behind it were read, or not
-abbrev pub WereReadToReplay : Request → Result (ResidueMatrix × Trace) TextError → SourceState → SourceState → Type 0
-WereReadToReplay r (Ok (A, t)) old new = (said : Contents) × WasRead r (Ok said) old new × AreToReplay A t said
+abbrev pub WereReadToReplay : Request → Result (ResidueMatrix × Trace) TextError → SourceState → SourceState →
+    Type 0
+WereReadToReplay r (Ok (A, t)) old new = (said : Contents) × WasRead r (Ok said) old new
+    × AreToReplay A t said
 WereReadToReplay r (Err e) old new = WasRead r (Err e) old new
 
 -- a matrix and a script behind it were read, and the script was answered, or not

@@ -11,9 +11,12 @@ option_names = codes "modulus" ∷ codes "workers" ∷ codes "rounds" ∷ []
 -- the commands by their names, each with the names of the options that are its own
 abbrev pub commands : List (List ℕ × List (List ℕ))
 commands =
-    (codes "rank", []) ∷ (codes "rref", []) ∷ (codes "kernel", []) ∷ (codes "solve", []) ∷ (codes "leftkernel", [])
-    ∷ (codes "inverse", []) ∷ (codes "pivots", []) ∷ (codes "check", []) ∷ (codes "trace", []) ∷ (codes "replay", []) ∷ (codes "grow", [])
-    ∷ (codes "drill", codes "seed" ∷ codes "rows" ∷ codes "cols" ∷ codes "per" ∷ []) ∷ (codes "certify", codes "kind" ∷ []) ∷ []
+    (codes "rank", []) ∷ (codes "rref", []) ∷ (codes "kernel", []) ∷ (codes "solve", [])
+    ∷ (codes "leftkernel", [])
+    ∷ (codes "inverse", []) ∷ (codes "pivots", []) ∷ (codes "check", []) ∷ (codes "trace", [])
+    ∷ (codes "replay", []) ∷ (codes "grow", [])
+    ∷ (codes "drill", codes "seed" ∷ codes "rows" ∷ codes "cols" ∷ codes "per" ∷ [])
+    ∷ (codes "certify", codes "kind" ∷ []) ∷ []
 
 -- an option that takes one value
 abbrev pub option_rule : List ℕ → Rule

@@ -85,14 +85,16 @@ setting rule n = record { rule = rule; number = n }
 -- what is set for a task alone
 abbrev pub own_settings : Task → List Setting
 own_settings (Drill g) =
-    setting seed_rule g.seed ∷ setting rows_rule g.rows ∷ setting cols_rule g.cols ∷ setting per_rule g.per ∷ []
+    setting seed_rule g.seed ∷ setting rows_rule g.rows ∷ setting cols_rule g.cols ∷ setting per_rule g.per
+    ∷ []
 own_settings (Certify k) = setting kind_rule (kind_place k) ∷ []
 own_settings task = []
 
 -- what is set for a command: the options of all commands, and those of its task
 abbrev pub settings : Command → List Setting
 settings c =
-    setting modulus_rule c.modulus ∷ setting workers_rule c.workers ∷ setting rounds_rule c.rounds ∷ own_settings c.task
+    setting modulus_rule c.modulus ∷ setting workers_rule c.workers ∷ setting rounds_rule c.rounds
+    ∷ own_settings c.task
 
 -- the names of the options
 abbrev pub names_of : List Setting → List (List ℕ)

@@ -233,7 +233,8 @@ fn inverse_of<R: Threads + Sync, G: Gate>(
     requires square { a.now.matrix.height ≡ a.now.matrix.width }
     requires small { a.now.matrix.height ≤ LARGEST_INVERTED }
     ensures shape { IfOk result (λ found. IfSome found (IsSquareOf a.now.modulus a.now.matrix.width)) }
-    ensures tells { IfOk result (λ found. IsPrime a.now.modulus → TellsInverse a.now.modulus a.now.matrix found) }
+    ensures tells { IfOk result (λ found. IsPrime a.now.modulus →
+        TellsInverse a.now.modulus a.now.matrix found) }
 {
     // The call's contract tells that the entries are residues.
     let _ = a.height();
@@ -317,7 +318,8 @@ fn claimed<R: Threads + Sync>(
     requires some { 1 ≤ workers }
     requires few { workers ≤ 64 }
     requires width { basis.now.matrix.width < LARGEST_SIZE }
-    ensures { IfOk result (λ extra. (p : ℕ) (A : Matrix) → IsMatrix p A → IsBasis p A basis.now → IsClaimed p A kind extra) }
+    ensures { IfOk result (λ extra. (p : ℕ) (A : Matrix) → IsMatrix p A → IsBasis p A basis.now →
+        IsClaimed p A kind extra) }
 {
     match kind {
         CertKind::Rank => Ok(None),

@@ -60,7 +60,8 @@ impl Generator {
         requires two_or_more { 2 ≤ p }
         requires modulus { builder.old.modulus ≡ p }
         requires state { numbers.old.state ≡ state_after self.now.seed (2 * (i * self.now.per)) }
-        ensures state { OnOk result (numbers.new.state ≡ state_after self.now.seed (2 * ((i + 1) * self.now.per))) }
+        ensures state { OnOk result (numbers.new.state
+            ≡ state_after self.now.seed (2 * ((i + 1) * self.now.per))) }
         ensures pushed { OnOk result (builder.new
             ≡ record builder.old { pushed = builder.old.pushed ++ generated_row p self.now i }) }
     {
