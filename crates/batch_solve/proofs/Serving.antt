@@ -16,7 +16,7 @@ use Rattle.sparse_rows.proofs.Occurring.{rising_push}
 use Rattle.batch_solve.specs.declared.slip.Slip.{Slip}
 use Rattle.batch_solve.specs.declared.slip.Slip.TheVariants.{Number, End}
 use Rattle.batch_solve.specs.declared.hand.Hand.{Hand}
-use Rattle.batch_solve.specs.Rule.{hand, first_hand, filled, left_hand, new_hand, Gives, slips, Took, StandsOnce, IsServed, IsFilling, Kept}
+use Rattle.batch_solve.specs.Rule.{hand, first_hand, filled, left_hand, new_hand, Gives, slips, Took, StandsOnce, IsServed, IsFillingDesk, KeepsDesk}
 
 -- lists of hands
 
@@ -97,7 +97,7 @@ number_more n = let l : List Slip = map Number (range_with_len 0 n) in
 
 -- the rule at first
 
-pub begins : Kept [] (first_hand ∷ [])
+pub begins : KeepsDesk [] (first_hand ∷ [])
 begins = record {
   count = 0;
   served = record {
@@ -120,7 +120,7 @@ begins = record {
 alone_set : (views : List Hand) (v w : Hand) (i : ℕ) → views ≡ v ∷ [] → get_elem? views i ≡ some v → set views i w ≡ w ∷ []
 alone_set views v w i e at = ap (λ (l : List Hand). set l i w) e ∙ ap (λ k. set (v ∷ []) k w) (only_of views v v i e at).0
 
-pub puts_number : (n i : ℕ) (v : Hand) (x : ℕ) → v.fills ≡ true → x ≡ v.count → Pushes Kept n i v (Number x) (λ w. w ≡ filled v)
+pub puts_number : (n i : ℕ) (v : Hand) (x : ℕ) → v.fills ≡ true → x ≡ v.count → Pushes KeepsDesk n i v (Number x) (λ w. w ≡ filled v)
 puts_number n i v x f is items views room k at =
     let s = k.served in
     let mine = k.filling i v at f in
@@ -151,10 +151,10 @@ puts_number n i v x f is items views room k at =
 
 -- an end is put
 
-pub puts_end : (n i : ℕ) (v : Hand) → v.fills ≡ false → Pushes Kept n i v End (λ w. w ≡ v)
+pub puts_end : (n i : ℕ) (v : Hand) → v.fills ≡ false → Pushes KeepsDesk n i v End (λ w. w ≡ v)
 puts_end n i v f items views room k at = let s = k.served in (
   v,
-  subst (λ (l : List Hand). Kept (items ++ End ∷ []) l) (sym (set_again views i v at)) (record {
+  subst (λ (l : List Hand). KeepsDesk (items ++ End ∷ []) l) (sym (set_again views i v at)) (record {
     count = k.count;
     served = record {
       from = s.from;
@@ -175,7 +175,7 @@ puts_end n i v f items views room k at = let s = k.served in (
 
 -- no pass fills the channel any more
 
-quiet : (items : List Slip) (views : List Hand) (i : ℕ) (v w : Hand) → Kept items views → get_elem? views i ≡ some v → w.fills ≡ false → (j : ℕ) (u : Hand) → get_elem? (set views i w) j ≡ some u → u.fills ≢ true
+quiet : (items : List Slip) (views : List Hand) (i : ℕ) (v w : Hand) → KeepsDesk items views → get_elem? views i ≡ some v → w.fills ≡ false → (j : ℕ) (u : Hand) → get_elem? (set views i w) j ≡ some u → u.fills ≢ true
 quiet items views i v w k at f j u e t = ⊎_elim
     (λ (h : (j ≡ i) × (w ≡ u)). true≢false (sym t ∙ ap (λ (x : Hand). x.fills) (sym h.1) ∙ f))
     (λ (h : (j ≢ i) × (get_elem? views j ≡ some u)).
@@ -189,8 +189,8 @@ not_true false n = refl
 
 -- an end is taken
 
-drains : (items : List Slip) (views : List Hand) (i : ℕ) (v : Hand) (x : Slip) (k : Kept (x ∷ items) views) (rest : ℕ) → get_elem? views i ≡ some v → k.served.left ≡ 0 → items ≡ replicate rest End
-    → (w : Hand) × Kept items (set views i w) × Gives v End w
+drains : (items : List Slip) (views : List Hand) (i : ℕ) (v : Hand) (x : Slip) (k : KeepsDesk (x ∷ items) views) (rest : ℕ) → get_elem? views i ≡ some v → k.served.left ≡ 0 → items ≡ replicate rest End
+    → (w : Hand) × KeepsDesk items (set views i w) × Gives v End w
 drains items views i v x k rest at none is = let s = k.served in let w : Hand = hand v.count v.taken true false in (
   w,
   record {
@@ -214,8 +214,8 @@ drains items views i v x k rest at none is = let s = k.served in let w : Hand = 
 
 -- a number is taken
 
-serves : (items : List Slip) (views : List Hand) (i : ℕ) (v : Hand) (x : Slip) (k : Kept (x ∷ items) views) (left : ℕ) → get_elem? views i ≡ some v → k.served.left ≡ suc left
-    → items ≡ slips (k.served.from + 1) left k.served.ends → (w : Hand) × Kept items (set views i w) × Gives v (Number k.served.from) w
+serves : (items : List Slip) (views : List Hand) (i : ℕ) (v : Hand) (x : Slip) (k : KeepsDesk (x ∷ items) views) (left : ℕ) → get_elem? views i ≡ some v → k.served.left ≡ suc left
+    → items ≡ slips (k.served.from + 1) left k.served.ends → (w : Hand) × KeepsDesk items (set views i w) × Gives v (Number k.served.from) w
 serves items views i v x k left at more is =
     let s = k.served in
     let n : ℕ = s.from in
@@ -258,17 +258,17 @@ serves items views i v x k left at more is =
 first_is : (x y : Slip) (xs ys : List Slip) → x ∷ xs ≡ y ∷ ys → (x ≡ y) × (xs ≡ ys)
 first_is x y xs ys e = (cc, cc)
 
-given : (left ends : ℕ) (items : List Slip) (views : List Hand) (i : ℕ) (v : Hand) (x : Slip) (k : Kept (x ∷ items) views) → get_elem? views i ≡ some v → k.served.left ≡ left → k.served.ends ≡ ends
-    → (w : Hand) × Kept items (set views i w) × Gives v x w
+given : (left ends : ℕ) (items : List Slip) (views : List Hand) (i : ℕ) (v : Hand) (x : Slip) (k : KeepsDesk (x ∷ items) views) → get_elem? views i ≡ some v → k.served.left ≡ left → k.served.ends ≡ ends
+    → (w : Hand) × KeepsDesk items (set views i w) × Gives v x w
 given zero zero items views i v x k at l e = let none : x ∷ items ≡ [] = k.served.queue ∙ (λ t. slips k.served.from (l t) (e t)) in absurd (omega (arith, ap length none))
 given zero (suc ends) items views i v x k at l e =
     let is = first_is x End items (replicate ends End) (k.served.queue ∙ (λ t. slips k.served.from (l t) (e t))) in
-    subst (λ y. (w : Hand) × Kept items (set views i w) × Gives v y w) (sym is.0) (drains items views i v x k ends at l is.1)
+    subst (λ y. (w : Hand) × KeepsDesk items (set views i w) × Gives v y w) (sym is.0) (drains items views i v x k ends at l is.1)
 given (suc left) ends items views i v x k at l e =
     let is = first_is x (Number k.served.from) items (slips (k.served.from + 1) left k.served.ends) (k.served.queue ∙ (λ t. slips k.served.from (l t) k.served.ends)) in
-    subst (λ y. (w : Hand) × Kept items (set views i w) × Gives v y w) (sym is.0) (serves items views i v x k left at l is.1)
+    subst (λ y. (w : Hand) × KeepsDesk items (set views i w) × Gives v y w) (sym is.0) (serves items views i v x k left at l is.1)
 
-pub gives : (i : ℕ) (v : Hand) → Pops Kept i v (Gives v)
+pub gives : (i : ℕ) (v : Hand) → Pops KeepsDesk i v (Gives v)
 gives i v x items views k at = given k.served.left k.served.ends items views i v x k at refl refl
 
 -- a new pass
@@ -289,7 +289,7 @@ stands_longer views v n none s = record {
 each_snoc : (P : ℕ → Hand → Type 0) (views : List Hand) (v : Hand) → ((j : ℕ) → P j v) → ((j : ℕ) (u : Hand) → get_elem? views j ≡ some u → P j u) → (j : ℕ) (u : Hand) → get_elem? (views ++ v ∷ []) j ≡ some u → P j u
 each_snoc P views v own all j u e = ⊎_elim (λ old. all j u old) (λ (new : v ≡ u). subst (P j) new (own j)) (at_snoc views v u j e)
 
-pub parts : (i : ℕ) (v : Hand) → Forks Kept i v (left_hand v) (new_hand v)
+pub parts : (i : ℕ) (v : Hand) → Forks KeepsDesk i v (left_hand v) (new_hand v)
 parts i v items views k at =
     let s = k.served in
     let l : Hand = left_hand v in
@@ -308,7 +308,7 @@ parts i v items views k at =
         drained = each_snoc (λ j (u : Hand). u.drained ≡ true → s.left ≡ 0) vs r (λ j d. absurd (true≢false (sym d))) (each_set (λ (u : Hand). u.drained ≡ true → s.left ≡ 0) views i l (s.drained i v at) s.drained);
       };
       counts = each_snoc (λ j (u : Hand). u.count ≡ k.count) vs r (λ j. k.counts i v at) (each_set (λ (u : Hand). u.count ≡ k.count) views i l (k.counts i v at) k.counts);
-      filling = each_snoc (λ j (u : Hand). u.fills ≡ true → IsFilling (vs ++ r ∷ []) u s.from s.ends) vs r (λ j d. absurd (true≢false (sym d)))
+      filling = each_snoc (λ j (u : Hand). u.fills ≡ true → IsFillingDesk (vs ++ r ∷ []) u s.from s.ends) vs r (λ j d. absurd (true≢false (sym d)))
           (λ j u e t. absurd (quiet items views i v l k at refl j u e t));
     }
 

@@ -8,7 +8,7 @@ use Rattle.sparse_rows.specs.Rows.{ResidueMatrix}
 use Rattle.kernel_solve.specs.Prepared.{IsReply, Preparation}
 use Rattle.kernel_solve.specs.declared.prepared.Reply.{Reply}
 use Rattle.batch_solve.specs.Desk.{DeskState}
-use Rattle.batch_solve.specs.Replies.{AreReplies, AreSlots, IsAnswered, IsIdleAt, IsWorkerOf, RepliesAt}
+use Rattle.batch_solve.specs.Replies.{AreReplies, AreSlots, IsAnsweredAt, IsIdleAt, WorksAt, RepliesAt}
 use Rattle.batch_solve.specs.declared.worker.Answered.{Answered}
 use Rattle.batch_solve.specs.declared.worker.Worker.{Worker}
 
@@ -91,10 +91,10 @@ found_at q questions slots n d e (Some reply) s l is =
     reply_from q questions n d reply l (s.each n reply (slice_get-get_or slots n e (let a = s.long in omega arith) ∙ ap (λ (x : Option Reply). Some x) (sym is)))
 
 -- workers that found nothing yet
-pub begun : (desk : DeskState) (q : Preparation) (questions : List ResidueMatrix) (workers : List Worker) → All (IsIdleAt desk) workers → All (IsWorkerOf desk q questions) workers
+pub begun : (desk : DeskState) (q : Preparation) (questions : List ResidueMatrix) (workers : List Worker) → All (IsIdleAt desk) workers → All (WorksAt desk q questions) workers
 begun desk q questions workers all k d l = let w = all k d l in record {
   taker = w.taker;
-  answered = subst (λ (x : List Answered). All (IsAnswered q questions) x) (sym w.answered) (λ i e none. let z : i < length {A = ℕ} [] = none in absurd (omega arith));
+  answered = subst (λ (x : List Answered). All (IsAnsweredAt q questions) x) (sym w.answered) (λ i e none. let z : i < length {A = ℕ} [] = none in absurd (omega arith));
 }
 
 -- a slice that is put back

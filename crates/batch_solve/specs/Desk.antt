@@ -24,7 +24,7 @@ abbrev pub IsTakerOf : DeskState → TakerState → Type 0
 IsTakerOf d t = (t.table ≡ d.table) × (t.keys ≡ d.keys) × (t.count ≡ d.count)
 
 -- the taker, who had not been told that none is left, was given n, above all that it had been given
-pub record Takes (before after : TakerState) (n : ℕ) : Type 0 where
+pub record TakesNumber (before after : TakerState) (n : ℕ) : Type 0 where
   pub below : n < before.count
   pub above : (k : ℕ) → k < length before.taken → slice_index before.taken k < n
   pub taken : after.taken ≡ before.taken ++ n ∷ []
@@ -32,6 +32,6 @@ pub record Takes (before after : TakerState) (n : ℕ) : Type 0 where
   pub still : after.drained ≡ false
 
 -- the taker was told that none is left
-pub record Drains (before after : TakerState) : Type 0 where
+pub record LeavesDrained (before after : TakerState) : Type 0 where
   pub taken : after.taken ≡ before.taken
   pub drained : after.drained ≡ true

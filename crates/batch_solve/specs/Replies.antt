@@ -30,15 +30,15 @@ pub record AreSlots (q : Preparation) (questions : List ResidueMatrix)
   pub each : (k : ℕ) (reply : Reply) → slice_get slots k ≡ Some (Some reply) → RepliesAt q questions k reply
 
 -- a reply to the question of its number
-pub record IsAnswered (q : Preparation) (questions : List ResidueMatrix) (a : Answered) : Type 0 where
+pub record IsAnsweredAt (q : Preparation) (questions : List ResidueMatrix) (a : Answered) : Type 0 where
   pub inside : a.question < length questions
   pub reply : RepliesAt q questions a.question a.reply
 
 -- a worker that takes at this desk, whose replies are such
-pub record IsWorkerOf (desk : DeskState) (q : Preparation) (questions : List ResidueMatrix)
+pub record WorksAt (desk : DeskState) (q : Preparation) (questions : List ResidueMatrix)
     (w : Worker) : Type 0 where
   pub taker : IsTakerOf desk w.taker
-  pub answered : All (IsAnswered q questions) w.answered.items
+  pub answered : All (IsAnsweredAt q questions) w.answered.items
 
 -- a worker that takes at this desk and found nothing yet
 pub record IsIdleAt (desk : DeskState) (w : Worker) : Type 0 where

@@ -68,15 +68,15 @@ pub record IsServed (count : ℕ) (items : List Slip) (views : List Hand) : Type
   pub drained : (i : ℕ) (v : Hand) → get_elem? views i ≡ some v → v.drained ≡ true → left ≡ 0
 
 -- the pass is alone, and nothing was taken
-pub record IsFilling (views : List Hand) (v : Hand) (from ends : ℕ) : Type 0 where
+pub record IsFillingDesk (views : List Hand) (v : Hand) (from ends : ℕ) : Type 0 where
   pub alone : views ≡ v ∷ []
   pub untouched : from ≡ 0
   pub endless : ends ≡ 0
 
 -- The rule. While the numbers are put, count is that of the numbers so far.
-pub record Kept (items : List Slip) (views : List Hand) : Type 0 where
+pub record KeepsDesk (items : List Slip) (views : List Hand) : Type 0 where
   pub count : ℕ
   pub served : IsServed count items views
   pub counts : (i : ℕ) (v : Hand) → get_elem? views i ≡ some v → v.count ≡ count
   pub filling : (i : ℕ) (v : Hand) → get_elem? views i ≡ some v → v.fills ≡ true →
-      IsFilling views v served.from served.ends
+      IsFillingDesk views v served.from served.ends

@@ -3,7 +3,7 @@ ghost use Rattle.std.specs.Prelude.{◌≡◌, ◌≤◌, [], false, IfOk, OnOk}
 ghost use Rattle.std.specs.Option.{MatchOption};
 ghost use Rattle.crossbeam_channel.specs.Claims.{view, IsSeatAt};
 ghost use Rattle.crossbeam_channel.specs.Ends.{sends_on};
-ghost use Rattle.batch_solve.specs.Desk.{Takes, Drains, IsTakerOf};
+ghost use Rattle.batch_solve.specs.Desk.{TakesNumber, LeavesDrained, IsTakerOf};
 ghost use Rattle.batch_solve.specs.Rule.{first_hand, full_hand};
 
 use crate::desk_rule::{End, Fill, Law, Part, Take};
@@ -83,7 +83,7 @@ impl Desk {
     pub fn take<R: Wait>(&self, rt: &R, taker: &mut Taker) -> Option<u32>
         requires { IsTakerOf self.now taker.old }
         ensures desk { IsTakerOf self.now taker.new }
-        ensures taken { MatchOption result (Drains taker.old taker.new) (Takes taker.old taker.new) }
+        ensures taken { MatchOption result (LeavesDrained taker.old taker.new) (TakesNumber taker.old taker.new) }
     {
         for _ in rt.forever() {
             match self.receiver.try_recv_as::<Take, R>(rt, &mut taker.pass) {

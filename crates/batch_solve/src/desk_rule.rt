@@ -1,6 +1,6 @@
 // The rule of a desk's channel, and what its steps tell.
 ghost use Rattle.std.specs.Prelude.{◌≡◌, ⊤};
-ghost use Rattle.batch_solve.specs.Rule.{Kept, first_hand, filled, Gives, left_hand, new_hand};
+ghost use Rattle.batch_solve.specs.Rule.{KeepsDesk, first_hand, filled, Gives, left_hand, new_hand};
 
 use crate::hand::Hand;
 use crate::slip::Slip;
@@ -9,7 +9,7 @@ use crossbeam_channel::protocol::{Lesson, Outcome, Protocol, Split};
 pub struct Law;
 
 impl Protocol<Slip, Hand> for Law {
-    ghost holds = { Kept };
+    ghost holds = { KeepsDesk };
 
     ghost first = { first_hand };
 }

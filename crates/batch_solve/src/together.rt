@@ -2,7 +2,7 @@
 ghost use Rattle.std.specs.Prelude.{All, ◌≡◌, ◌<◌, ◌^◌, None, IfOk, IfSome, length, replicate};
 ghost use Rattle.kernel_solve.specs.Prepared.{IsReply};
 ghost use Rattle.batch_solve.specs.Desk.{IsTakerOf};
-ghost use Rattle.batch_solve.specs.Replies.{AreReplies, AreSlots, IsAnswered, IsIdleAt, IsQuestion, IsWorkerOf};
+ghost use Rattle.batch_solve.specs.Replies.{AreReplies, AreSlots, IsAnsweredAt, IsIdleAt, IsQuestion, WorksAt};
 
 use crate::desk::Desk;
 use crate::taker::Taker;
@@ -49,8 +49,8 @@ fn run_all<R: Threads + Wait + Sync, W: Watch>(
 )
     requires count { desk.now.count ≡ length questions.now }
     requires questions { All (IsQuestion prepared.now) questions.now }
-    requires workers { All (IsWorkerOf desk.now prepared.now questions.now) workers.old }
-    ensures { All (IsWorkerOf desk.now prepared.now questions.now) workers.new }
+    requires workers { All (WorksAt desk.now prepared.now questions.now) workers.old }
+    ensures { All (WorksAt desk.now prepared.now questions.now) workers.new }
 {
     let count = workers.len();
     if count == 0 {
@@ -62,8 +62,8 @@ fn run_all<R: Threads + Wait + Sync, W: Watch>(
         count,
         &|_: usize, worker: &mut Worker|
             requires { (desk.now.count ≡ length questions.now) × All (IsQuestion prepared.now) questions.now
-                × IsWorkerOf desk.now prepared.now questions.now worker.now }
-            ensures { IsWorkerOf desk.entry.now prepared.entry.now questions.entry.now worker.exit.now }
+                × WorksAt desk.now prepared.now questions.now worker.now }
+            ensures { WorksAt desk.entry.now prepared.entry.now questions.entry.now worker.exit.now }
         { worker.run(rt, alloc, desk, prepared, questions, watch) },
     );
 }
@@ -86,7 +86,7 @@ fn fill_slot(
     slots: &mut [Option<Reply>],
     answered: Answered,
 )
-    requires answered { IsAnswered prepared.now questions.now answered }
+    requires answered { IsAnsweredAt prepared.now questions.now answered }
     requires slots { AreSlots prepared.now questions.now slots.old }
     ensures { AreSlots prepared.now questions.now slots.new }
 {
@@ -104,7 +104,7 @@ fn fill_slots(
     slots: &mut [Option<Reply>],
     answered: Vec<Answered>,
 )
-    requires answered { All (IsAnswered prepared.now questions.now) answered.items }
+    requires answered { All (IsAnsweredAt prepared.now questions.now) answered.items }
     requires slots { AreSlots prepared.now questions.now slots.old }
     ensures { AreSlots prepared.now questions.now slots.new }
 {
@@ -122,7 +122,7 @@ fn gather(
     workers: Vec<Worker>,
     desk: &Desk,
 )
-    requires workers { All (IsWorkerOf desk.now prepared.now questions.now) workers.items }
+    requires workers { All (WorksAt desk.now prepared.now questions.now) workers.items }
     requires slots { AreSlots prepared.now questions.now slots.old }
     ensures { AreSlots prepared.now questions.now slots.new }
 {

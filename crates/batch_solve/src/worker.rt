@@ -1,6 +1,6 @@
 // A worker that answers questions.
 ghost use Rattle.std.specs.Prelude.{All, ◌≡◌, ◌<◌, length};
-ghost use Rattle.batch_solve.specs.Replies.{IsAnswered, IsQuestion, IsWorkerOf};
+ghost use Rattle.batch_solve.specs.Replies.{IsAnsweredAt, IsQuestion, WorksAt};
 
 use crate::desk::Desk;
 use crate::taker::Taker;
@@ -36,16 +36,16 @@ impl Worker {
     ) -> Result<(), AllocError>
         requires questions { All (IsQuestion prepared.now) questions.now }
         requires inside { question < length questions.now }
-        requires kept { All (IsAnswered prepared.now questions.now) self.old.answered.items }
+        requires kept { All (IsAnsweredAt prepared.now questions.now) self.old.answered.items }
         ensures taker { self.new.taker ≡ self.old.taker }
-        ensures kept { All (IsAnswered prepared.now questions.now) self.new.answered.items }
+        ensures kept { All (IsAnsweredAt prepared.now questions.now) self.new.answered.items }
     {
         let reply = prepared.answer(alloc, &questions[question as usize])?;
         self.answered.push(Answered { question, reply })?;
         Ok(())
     }
 
-    // Takes questions and answers them, until none is left. Where memory is refused it leaves its question, and all further ones.
+    // TakesNumber questions and answers them, until none is left. Where memory is refused it leaves its question, and all further ones.
     pub(crate) fn run<R: Wait, W: Watch>(
         &mut self,
         rt: &R,
@@ -57,8 +57,8 @@ impl Worker {
     )
         requires count { desk.now.count ≡ length questions.now }
         requires questions { All (IsQuestion prepared.now) questions.now }
-        requires worker { IsWorkerOf desk.now prepared.now questions.now self.old }
-        ensures { IsWorkerOf desk.now prepared.now questions.now self.new }
+        requires worker { WorksAt desk.now prepared.now questions.now self.old }
+        ensures { WorksAt desk.now prepared.now questions.now self.new }
     {
         for _ in rt.forever() {
             let Some(question) = desk.take(rt, &mut self.taker) else {

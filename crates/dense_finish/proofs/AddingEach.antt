@@ -6,12 +6,12 @@ use native.Mathlib.Nat.{mod-mod}
 use Rattle.residue_words.proofs.Residues.{add_same}
 use Rattle.residue_words.proofs.Sums.{sum_bound, sum_equal, sum_split, sum_zero}
 use Rattle.dense_finish.specs.Block.{AreVectors, block_row, entry_of}
-use Rattle.dense_finish.specs.Products.{AddsAt, AddsToEach, columns_of, products, run_of}
+use Rattle.dense_finish.specs.Products.{AddsBetween, AddsToEach, columns_of, products, run_of}
 use Rattle.dense_finish.specs.declared.products.Columns.{Columns}
 use Rattle.dense_finish.specs.declared.products.Run.{Run}
 
 -- equal sums
-pub adds_equal : {p : ℕ} {columns : Columns} {f g : ℕ → ℕ} {old new : List ℕ} → ((j : ℕ) → columns.start ≤ j → j < columns.end → f j ≡ g j) → AddsAt p columns f old new → AddsAt p columns g old new
+pub adds_equal : {p : ℕ} {columns : Columns} {f g : ℕ → ℕ} {old new : List ℕ} → ((j : ℕ) → columns.start ≤ j → j < columns.end → f j ≡ g j) → AddsBetween p columns f old new → AddsBetween p columns g old new
 adds_equal {p} {columns} {f} {g} {old} {new} same h = record {
   long = h.long;
   added = λ j from l. h.added j from l ∙ ap (λ t. (slice_index old j + t) % p) (same j from l);
@@ -20,7 +20,7 @@ adds_equal {p} {columns} {f} {g} {old} {new} same h = record {
 }
 
 -- a row of residues stays one
-pub adds_vector : {p n : ℕ} {columns : Columns} {f : ℕ → ℕ} {old new : List ℕ} → IsVector p n old → AddsAt p columns f old new → IsVector p n new
+pub adds_vector : {p n : ℕ} {columns : Columns} {f : ℕ → ℕ} {old new : List ℕ} → IsVector p n old → AddsBetween p columns f old new → IsVector p n new
 adds_vector {p} {n} {columns} {f} {old} {new} vector h = record {
   len = h.long ∙ vector.len;
   residues = λ j l. elim (cases_lt j columns.start) [

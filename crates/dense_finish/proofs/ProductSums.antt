@@ -11,7 +11,7 @@ use Rattle.residue_words.specs.Residues.{sum_below}
 use Rattle.residue_words.proofs.Residues.{add_same}
 use Rattle.residue_words.proofs.Sums.{sum_equal, sum_more, sum_none, sum_split}
 use Rattle.dense_finish.specs.Block.{block_row, entry_of}
-use Rattle.dense_finish.specs.Products.{AddsAt, AreSmall, columns_of, products, products_of, run_of}
+use Rattle.dense_finish.specs.Products.{AddsBetween, AreSmall, columns_of, products, products_of, run_of}
 use Rattle.dense_finish.specs.declared.products.Run.{Run}
 
 -- the residue of x and s, by the halves of s
@@ -25,8 +25,8 @@ folded p x s y z low high =
     twice p a = mod-mod a p
 
 -- one column more
-pub adds_one : (p start j : ℕ) (f : ℕ → ℕ) (old mid : List ℕ) (u : ℕ) → j < length old → AddsAt p (columns_of start j) f old mid → start ≤ j → u ≡ (slice_index mid j + f j) % p →
-    AddsAt p (columns_of start (j + 1)) f old (slice_set mid j u)
+pub adds_one : (p start j : ℕ) (f : ℕ → ℕ) (old mid : List ℕ) (u : ℕ) → j < length old → AddsBetween p (columns_of start j) f old mid → start ≤ j → u ≡ (slice_index mid j + f j) % p →
+    AddsBetween p (columns_of start (j + 1)) f old (slice_set mid j u)
 adds_one p start j f old mid u inside h order is = record {
   long = length-set mid j u ∙ h.long;
   added = λ x from l. elim (cases_eq x j) [
@@ -66,7 +66,7 @@ module _ (by units : List (List ℕ)) (run : Run) (width : ℕ) (small : AreSmal
 
 -- eight columns from `at` on
 pub adds_lanes : (p at : ℕ) (f : ℕ → ℕ) (row v : List ℕ) → at + 8 ≤ length row → length v ≡ 8 → ((k : ℕ) → k < 8 → slice_index v k ≡ (slice_index row (at + k) + f k) % p) →
-    AddsAt p (columns_of at (at + 8)) (λ j. f (j - at)) row (put_chunk at row v)
+    AddsBetween p (columns_of at (at + 8)) (λ j. f (j - at)) row (put_chunk at row v)
 adds_lanes p at f row v room long lanes = record {
   long = length-put_chunk at row v;
   added = λ j from l.

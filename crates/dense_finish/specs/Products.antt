@@ -28,7 +28,7 @@ pub record AreSmall (by rows : List (List ℕ)) (run : Run) (width : ℕ) : Type
   pub sums : (t j : ℕ) → t < 4 → j < width → products_of by rows run t j < 18446744073709551616
 
 -- new is the row old with the residues of old and f at these columns
-pub record AddsAt (p : ℕ) (columns : Columns) (f : ℕ → ℕ) (old new : List ℕ) : Type 0 where
+pub record AddsBetween (p : ℕ) (columns : Columns) (f : ℕ → ℕ) (old new : List ℕ) : Type 0 where
   pub long : length new ≡ length old
   pub added : (j : ℕ) → columns.start ≤ j → j < columns.end →
       slice_index new j ≡ (slice_index old j + f j) % p
@@ -38,4 +38,4 @@ pub record AddsAt (p : ℕ) (columns : Columns) (f : ℕ → ℕ) (old new : Lis
 -- each of the rows
 pub record AddsToEach (p : ℕ) (columns : Columns) (f : ℕ → ℕ → ℕ) (old new : List (List ℕ)) : Type 0 where
   pub long : length new ≡ length old
-  pub each : (t : ℕ) → t < length old → AddsAt p columns (f t) (block_row old t) (block_row new t)
+  pub each : (t : ℕ) → t < length old → AddsBetween p columns (f t) (block_row old t) (block_row new t)

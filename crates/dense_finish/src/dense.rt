@@ -6,7 +6,7 @@ ghost use Rattle.sparse_rows.specs.declared.rows.TheConstants.{LARGEST_SIZE};
 ghost use Rattle.dense_finish.specs.Dense.{AreEntriesAt, Gathers, IsZeroAtFree, IsCleared, IsFirstFree, IsPivotOf, KeepsCoefficients, Scatters, TakesOut};
 ghost use Rattle.sparse_rows.specs.Rows.{AreBelow};
 ghost use Rattle.dense_finish.specs.Multiples.{plus_multiple};
-ghost use Rattle.dense_finish.specs.Products.{AddsAt};
+ghost use Rattle.dense_finish.specs.Products.{AddsBetween};
 ghost use Rattle.dense_finish.specs.declared.panel.TheConstants.{PANEL};
 ghost use Rattle.residue_words.specs.declared.shoup.TheConstants.{LANE_BOUND};
 
@@ -281,7 +281,7 @@ impl Dense<u32> {
         requires order { columns.start ≤ columns.end }
         requires narrow { columns.end ≤ columns.start + 8 }
         requires inside { columns.start + 8 ≤ length self.old }
-        ensures { AddsAt folding.now.p columns (λ j. slice_index sums (j - columns.start)) self.old self.new }
+        ensures { AddsBetween folding.now.p columns (λ j. slice_index sums (j - columns.start)) self.old self.new }
     {
         if columns.end - columns.start == 8 {
             add_lanes(&mut self.places, columns.start, sums, folding);
@@ -297,7 +297,7 @@ impl Dense<u32> {
         requires order { columns.start ≤ columns.end }
         requires narrow { columns.end ≤ columns.start + 8 }
         requires inside { columns.start + 8 ≤ length self.old }
-        ensures { AddsAt p.now columns (λ j. slice_index sums.now (j - columns.start)) self.old self.new }
+        ensures { AddsBetween p.now columns (λ j. slice_index sums.now (j - columns.start)) self.old self.new }
     {
         for j in columns.start..columns.end {
             self.set(j, p.add(self.get(j), sums[j - columns.start] % p.p()), p);

@@ -1,6 +1,6 @@
 // Sums of products added to rows by tiles of lanes, for a modulus below 2^31.
 ghost use Rattle.dense_finish.specs.Block.{AreVectors, entry_of};
-ghost use Rattle.dense_finish.specs.Products.{AddsAt, AddsToEach, AreSmall, columns_of, products_of, run_of};
+ghost use Rattle.dense_finish.specs.Products.{AddsBetween, AddsToEach, AreSmall, columns_of, products_of, run_of};
 ghost use Rattle.dense_finish.specs.declared.panel.TheConstants.{PANEL};
 ghost use Rattle.residue_words.specs.declared.shoup.TheConstants.{LANE_BOUND};
 ghost use Rattle.std.specs.Prelude.{◌≡◌, ◌<◌, ◌≤◌, ◌+◌, ◌-◌, ◌*◌, ◌%◌, ◌/◌, ℕ, length, slice_index};
@@ -111,7 +111,7 @@ impl Folding {
 pub(crate) fn add_lanes(row: &mut [u32], at: usize, sums: u64x8, folding: &Folding)
     requires room { at + 8 ≤ length row.old }
     requires residues { (k : ℕ) → k < length row.old → slice_index row.old k < folding.now.p }
-    ensures { AddsAt folding.now.p (columns_of at (at + 8)) (λ j. slice_index sums (j - at)) row.old row.new }
+    ensures { AddsBetween folding.now.p (columns_of at (at + 8)) (λ j. slice_index sums (j - at)) row.old row.new }
 {
     let x = u32x8::from_slice(&row[at..]);
     folding.plus(x, sums).copy_to_slice(&mut row[at..]);

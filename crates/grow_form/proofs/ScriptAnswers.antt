@@ -35,7 +35,7 @@ use Rattle.grow_form.specs.declared.script.ScriptLine.TheVariants.{Append, Rank,
 use Rattle.grow_form.specs.Answers.{AnswersOfScript, FitsRows}
 use Rattle.grow_form.specs.Growing.{AppendsRow, SpansRowsOf}
 use Rattle.grow_form.specs.Script.{IsScriptLine, row_of_terms, script_line_of, term_sum}
-use Rattle.grow_form.specs.Scripts.{AddsAnswer, AnswersSteps, FitsText, SaysScript, SaysStep, TellsWhether, answer_text, answers_text, rank_line}
+use Rattle.grow_form.specs.Scripts.{AddsAnswer, AnswersSteps, AnswerFitsText, SaysScript, SaysStep, TellsWhether, script_answer_text, answers_text, rank_line}
 use Rattle.grow_form.proofs.Growing.{same_form}
 use Rattle.grow_form.proofs.ScriptTerms.{fits_read}
 use Rattle.grow_form.proofs.Spanning.{spans_more, with_rows}
@@ -109,19 +109,19 @@ ends_there p n (w ∷ c ∷ ws) test e =
     (append_no_end _) (contains_no_end _) (both_true (takes_terms w) (are_terms p n (c ∷ ws)) test) e)
 
 -- the texts of answers with one more, and a text behind them
-texts_more : (answers : List Answer) (a : Answer) (text : List ℕ) → answers_text (answers ++ a ∷ []) ++ text ≡ answers_text answers ++ (answer_text a ++ text)
-texts_more [] a text = ap (λ t. t ++ text) (append-nil (answer_text a))
+texts_more : (answers : List Answer) (a : Answer) (text : List ℕ) → answers_text (answers ++ a ∷ []) ++ text ≡ answers_text answers ++ (script_answer_text a ++ text)
+texts_more [] a text = ap (λ t. t ++ text) (append-nil (script_answer_text a))
 texts_more (b ∷ answers) a text =
-    append_assoc (answer_text b) (answers_text (answers ++ a ∷ [])) text ∙ ap (λ t. answer_text b ++ t) (texts_more answers a text)
-    ∙ sym (append_assoc (answer_text b) (answers_text answers) (answer_text a ++ text))
+    append_assoc (script_answer_text b) (answers_text (answers ++ a ∷ [])) text ∙ ap (λ t. script_answer_text b ++ t) (texts_more answers a text)
+    ∙ sym (append_assoc (script_answer_text b) (answers_text answers) (script_answer_text a ++ text))
 
 lines_more : (f : List (List ℕ) → ScriptLine) (lines : List (List (List ℕ))) (ws : List (List ℕ)) (steps : List ScriptLine) →
     map f (lines ++ ws ∷ []) ++ steps ≡ map f lines ++ (f ws ∷ steps)
 lines_more f lines ws steps = ap (λ l. l ++ steps) (map_push f lines ws) ∙ append_assoc (map f lines) (f ws ∷ []) steps
 
 -- the texts of the answers from k on
-pub texts_from : (answers : List Answer) (k : ℕ) (a : Answer) → k < length answers → a ≡ slice_index_or answers k a → answers_text (drop k answers) ≡ answer_text a ++ answers_text (drop (k + 1) answers)
-texts_from answers k a l is = ap answers_text (drop_more answers k a l) ∙ ap (λ b. answer_text b ++ answers_text (drop (k + 1) answers)) (sym is)
+pub texts_from : (answers : List Answer) (k : ℕ) (a : Answer) → k < length answers → a ≡ slice_index_or answers k a → answers_text (drop k answers) ≡ script_answer_text a ++ answers_text (drop (k + 1) answers)
+texts_from answers k a l is = ap answers_text (drop_more answers k a l) ∙ ap (λ b. script_answer_text b ++ answers_text (drop (k + 1) answers)) (sym is)
 
 pub texts_end : (answers : List Answer) (k : ℕ) → length answers ≤ k → answers_text (drop k answers) ≡ []
 texts_end answers k done = ap answers_text (drop_all k answers done)
@@ -162,7 +162,7 @@ pub record IsAnswering (A : ResidueMatrix) (old now : InputState) (grow : Residu
   pub spans : SpansRowsOf (record { modulus = A.modulus; matrix = rows }) grow
   pub answered : IsPrime A.modulus → (steps : List ScriptLine) (text : List ℕ) → AnswersSteps A.modulus rows steps text →
       AnswersSteps A.modulus A.matrix (map (script_line_of A.modulus A.matrix.width) lines ++ steps) (answers_text answers ++ text)
-  pub fits : All FitsText answers
+  pub fits : All AnswerFitsText answers
 
 -- none was read yet
 pub answering_begins : (A : ResidueMatrix) (s : InputState) (grow : ResidueMatrix) (answers : List Answer) → s.reader.error ≡ None → s.reader.open_text ≡ None →
@@ -176,7 +176,7 @@ answering_begins A s grow answers sound closed two m spans none = subst (IsAnswe
   residues = m;
   spans = spans;
   answered = λ prime steps text h. h;
-  fits = All-nil FitsText;
+  fits = All-nil AnswerFitsText;
 })
 
 -- the row of a line is one of residues as wide as A
@@ -243,12 +243,12 @@ module _ (A grow grow' : ResidueMatrix) (answers answers' : List Answer) (old mi
         residues = matrix_more is.residues here;
         spans = spans_more (with_rows A is.rows) grow grow' v rose is.residues here is.spans appends;
         answered = λ prime steps text h. answered_on (Append r) steps text text meant (ap (λ listed. answers_text listed ++ text) same) (is.answered prime (Append r ∷ steps) text h);
-        fits = subst (All FitsText) (sym same) is.fits;
+        fits = subst (All AnswerFitsText) (sym same) is.fits;
       }
 
   -- a query was answered
-  query_read : (step : ScriptLine) (a : Answer) → step ≡ line_of ws → grow' ≡ grow → answers' ≡ answers ++ a ∷ [] → FitsText a →
-      (IsPrime A.modulus → (steps : List ScriptLine) (text : List ℕ) → AnswersSteps A.modulus is.rows steps text → AnswersSteps A.modulus is.rows (step ∷ steps) (answer_text a ++ text)) →
+  query_read : (step : ScriptLine) (a : Answer) → step ≡ line_of ws → grow' ≡ grow → answers' ≡ answers ++ a ∷ [] → AnswerFitsText a →
+      (IsPrime A.modulus → (steps : List ScriptLine) (text : List ℕ) → AnswersSteps A.modulus is.rows steps text → AnswersSteps A.modulus is.rows (step ∷ steps) (script_answer_text a ++ text)) →
       IsAnswering A old new grow' answers'
   query_read step a meant kept grown fits told = record {
     lines = is.lines ++ ws ∷ [];
@@ -259,8 +259,8 @@ module _ (A grow grow' : ResidueMatrix) (answers answers' : List Answer) (old mi
     residues = is.residues;
     spans = subst (SpansRowsOf (with_rows A is.rows)) (sym kept) is.spans;
     answered = λ prime steps text h.
-        answered_on step steps text (answer_text a ++ text) meant (ap (λ listed. answers_text listed ++ text) grown ∙ texts_more answers a text) (is.answered prime (step ∷ steps) (answer_text a ++ text) (told prime steps text h));
-    fits = subst (All FitsText) (sym grown) (All-push FitsText answers a is.fits fits);
+        answered_on step steps text (script_answer_text a ++ text) meant (ap (λ listed. answers_text listed ++ text) grown ∙ texts_more answers a text) (is.answered prime (step ∷ steps) (script_answer_text a ++ text) (told prime steps text h));
+    fits = subst (All AnswerFitsText) (sym grown) (All-push AnswerFitsText answers a is.fits fits);
   }
 
   -- by what was asked for
@@ -268,13 +268,13 @@ module _ (A grow grow' : ResidueMatrix) (answers answers' : List Answer) (old mi
       answers' ≡ answers ++ those_of said → IsAnswering A old new grow' answers'
   line_read (Append r) None meant vector other (rose, h) grown = row_read r rose meant vector h (grown ∙ append-nil answers)
   line_read Rank (Some (answer.Rank r)) meant vector other (kept, h) grown =
-      query_read Rank (answer.Rank r) meant kept grown tt (λ prime steps text t. (answer_text (answer.Rank r), text, (r, told_rank (with_rows A is.rows) grow is.spans prime r h, refl), t, refl))
+      query_read Rank (answer.Rank r) meant kept grown tt (λ prime steps text t. (script_answer_text (answer.Rank r), text, (r, told_rank (with_rows A is.rows) grow is.spans prime r h, refl), t, refl))
   line_read Form (Some (answer.Form E)) meant vector other (kept, h) grown =
       query_read Form (answer.Form E) meant kept grown (form_fits grow.modulus A.matrix.width grow.matrix E.matrix (is.spans.width ∙ is.width) small h)
-      (λ prime steps text t. (answer_text (answer.Form E), text, (E.matrix, told_form (with_rows A is.rows) grow is.spans prime E.matrix h, refl), t, refl))
+      (λ prime steps text t. (script_answer_text (answer.Form E), text, (E.matrix, told_form (with_rows A is.rows) grow is.spans prime E.matrix h, refl), t, refl))
   line_read (Contains r) (Some (answer.Contains found)) meant vector other (kept, h) grown =
       query_read (Contains r) (answer.Contains found) meant kept grown tt
-      (λ prime steps text t. (answer_text (answer.Contains found), text, told_whether (with_rows A is.rows) grow is.spans prime (row r.matrix 0) found h, t, refl))
+      (λ prime steps text t. (script_answer_text (answer.Contains found), text, told_whether (with_rows A is.rows) grow is.spans prime (row r.matrix 0) found h, t, refl))
   line_read End said meant vector other h grown = absurd (other refl)
   line_read (Append r) (Some a) meant vector other h grown = absurd h
   line_read Rank None meant vector other h grown = absurd h

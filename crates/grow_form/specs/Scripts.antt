@@ -55,18 +55,18 @@ abbrev pub AnswersLines : ℕ → Matrix → List (List (List ℕ)) → List ℕ
 AnswersLines p A lines text = AnswersSteps p A (map (script_line_of p A.width) lines) text
 
 -- the text of an answer, and of answers one after another
-abbrev pub answer_text : Answer → List ℕ
-answer_text (answer.Rank r) = rank_line r
-answer_text (answer.Form E) = text_of E.matrix
-answer_text (answer.Contains found) = if found then codes "yes\n" else codes "no\n"
+abbrev pub script_answer_text : Answer → List ℕ
+script_answer_text (answer.Rank r) = rank_line r
+script_answer_text (answer.Form E) = text_of E.matrix
+script_answer_text (answer.Contains found) = if found then codes "yes\n" else codes "no\n"
 
 abbrev pub answers_text : List Answer → List ℕ
-answers_text answers = flat_map answer_text answers
+answers_text answers = flat_map script_answer_text answers
 
 -- a form has sizes that a text can give
-abbrev pub FitsText : Answer → Type 0
-FitsText (answer.Form E) = (E.matrix.height ≤ LARGEST_TEXT_SIZE) × (E.matrix.width ≤ LARGEST_TEXT_SIZE)
-FitsText a = Unit {0}
+abbrev pub AnswerFitsText : Answer → Type 0
+AnswerFitsText (answer.Form E) = (E.matrix.height ≤ LARGEST_TEXT_SIZE) × (E.matrix.width ≤ LARGEST_TEXT_SIZE)
+AnswerFitsText a = Unit {0}
 
 -- a line of a script was read, and this is what it asks for
 pub record SaysStep (p n : ℕ) (step : ScriptLine) (items : List Item) (due : List Due) : Type 0 where

@@ -7,7 +7,7 @@ ghost use Rattle.sms_text.specs.Reading.{input};
 ghost use Rattle.sms_text.specs.Text.{Outer};
 ghost use Rattle.sms_text.specs.declared.reader.TheConstants.{LARGEST_TEXT_SIZE};
 ghost use Rattle.grow_form.specs.Answers.{FitsRows};
-ghost use Rattle.grow_form.specs.Scripts.{AddsAnswer, FitsText, SaysScript, SaysStep};
+ghost use Rattle.grow_form.specs.Scripts.{AddsAnswer, AnswerFitsText, SaysScript, SaysStep};
 
 use crate::answering::{Answer, answer_line};
 use crate::grow::Grow;
@@ -36,7 +36,7 @@ pub fn answer_script<S: Source>(
     ensures did { PartDid (wants a.now.modulus (Outer (form.Script a.now.matrix.width) ∷ []))
         (λ answers. SaysScript a.now answers.items)
         (input reader.old (S.state source.old)) (input reader.new (S.state source.new)) result }
-    ensures fits { IfOk result (λ answers. All FitsText answers.items) }
+    ensures fits { IfOk result (λ answers. All AnswerFitsText answers.items) }
     ensures closed { reader.new.open_text ≡ None }
 {
     let p = a.modulus();

@@ -1,7 +1,7 @@
 // Scripts with answers that are known from outside.
 ghost use Rattle.std.specs.Prelude.{◌<◌, ◌≤◌, All, IfOk};
 ghost use Rattle.sparse_rows.specs.declared.rows.TheConstants.{LARGEST_SIZE};
-ghost use Rattle.grow_form.specs.Scripts.{FitsText};
+ghost use Rattle.grow_form.specs.Scripts.{AnswerFitsText};
 
 use crate::{Answer, Grow, answer_line, answer_script, script_line, write_answers};
 use residue_words::Modulus;
@@ -137,7 +137,7 @@ fn answers_in(
     at_once: usize,
 ) -> Result<Result<Vec<Answer>, TextError>, Fail>
     requires { 0 < at_once }
-    ensures { IfOk result (λ r. IfOk r (λ answers. All FitsText answers.items)) }
+    ensures { IfOk result (λ r. IfOk r (λ answers. All AnswerFitsText answers.items)) }
 {
     let seven = Modulus::new(7);
     let mut source = SteadySource::new(Vec::from_slice(alloc, text)?, at_once);
@@ -151,7 +151,7 @@ fn answers_in(
 
 // Whether just this text is written of answers.
 fn are_written_as(alloc: Global, answers: &[Answer], text: &[u8]) -> Result<bool, Fail>
-    requires { All FitsText answers.now }
+    requires { All AnswerFitsText answers.now }
 {
     let mut sink = MemorySink::new(alloc, 400, 16, Vec::new(alloc))?;
     let done = write_answers(&mut sink, answers);

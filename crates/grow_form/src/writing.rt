@@ -1,7 +1,7 @@
 // Answers written as texts.
 ghost use Rattle.std.specs.Prelude.{All};
 ghost use Rattle.sms_text.specs.Writing.{Adds, Writes, output};
-ghost use Rattle.grow_form.specs.Scripts.{FitsText, answer_text, answers_text, rank_line};
+ghost use Rattle.grow_form.specs.Scripts.{AnswerFitsText, script_answer_text, answers_text, rank_line};
 
 use crate::answering::Answer;
 use sms_text::{BlockWriter, Sink, WriteFault, add_rows};
@@ -10,7 +10,7 @@ use sms_text::{BlockWriter, Sink, WriteFault, add_rows};
 ///
 /// The sink is given blocks of more than 4096 bytes, and a last one of what is left. It takes no memory.
 pub fn write_answers<K: Sink>(out: &mut K, answers: &[Answer]) -> Result<(), WriteFault>
-    requires { All FitsText answers.now }
+    requires { All AnswerFitsText answers.now }
     ensures { Writes result (answers_text answers.now) (K.state out.old) (K.state out.new) }
 {
     let mut blocks = BlockWriter::new();
@@ -24,7 +24,7 @@ fn add_answers<K: Sink>(
     blocks: &mut BlockWriter,
     answers: &[Answer],
 ) -> Result<(), WriteFault>
-    requires { All FitsText answers.now }
+    requires { All AnswerFitsText answers.now }
     ensures { Adds result (answers_text answers.now)
         (output blocks.old (K.state out.old)) (output blocks.new (K.state out.new)) }
 {
@@ -40,8 +40,8 @@ fn add_answer<K: Sink>(
     blocks: &mut BlockWriter,
     answer: &Answer,
 ) -> Result<(), WriteFault>
-    requires { FitsText answer.now }
-    ensures { Adds result (answer_text answer.now)
+    requires { AnswerFitsText answer.now }
+    ensures { Adds result (script_answer_text answer.now)
         (output blocks.old (K.state out.old)) (output blocks.new (K.state out.new)) }
 {
     match answer {

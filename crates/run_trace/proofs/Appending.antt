@@ -11,7 +11,7 @@ use Rattle.pivot_table.specs.History.{pair, Alive}
 use Rattle.optimistic_search.specs.Renamed.{AreInside, renamed}
 use Rattle.optimistic_search.specs.Walked.{OfOpenRow, Walked, extended, open_after}
 use Rattle.optimistic_search.proofs.Renaming.{alive_here, alive_there, inside_more, narrow_of}
-use Rattle.run_trace.specs.Replayed.{Appends}
+use Rattle.run_trace.specs.Replayed.{TriesPair}
 
 -- a row was opened and closed again
 pub closed_again : (old begun new : Walked) (r : ℕ) → old.current ≡ None → begun ≡ record old { current = Some r } → new ≡ record begun { current = None } → new ≡ old
@@ -49,28 +49,28 @@ module _ (A : Matrix) (columns : List ℕ) (enough : AreEnough A columns) (old :
     heard_alive : Alive A (renamed named old.pairs) r j → Alive old.rows.matrix old.pairs r place
     heard_alive a = alive_here (narrow_of enough is) old.pairs inside_walk r place (omega (arith, width_is)) (subst (Alive A (renamed named old.pairs) r) (sym there) a)
 
-    pub named_alive : (b : Bool) (new : Walked) → Appends old (pair r place) b new → IsTrue b ↔ Alive A (renamed named old.pairs) r j
+    pub named_alive : (b : Bool) (new : Walked) → TriesPair old (pair r place) b new → IsTrue b ↔ Alive A (renamed named old.pairs) r j
     named_alive true new h = ((λ t. told_alive h.0), (λ a. refl))
     named_alive false new h = ((λ t. absurd (cc)), (λ a. absurd (h.0 (heard_alive a))))
 
-    pub named_inside : (b : Bool) (new : Walked) → Appends old (pair r place) b new → AreInside (length columns) new.pairs
+    pub named_inside : (b : Bool) (new : Walked) → TriesPair old (pair r place) b new → AreInside (length columns) new.pairs
     named_inside true new h =
         subst (λ (w : Walked). AreInside (length columns) w.pairs) (sym h.1)
         (subst (λ n. AreInside n (old.pairs ++ pair r place ∷ [])) width_is (inside_more (narrow_of enough is) old.pairs (pair r place) inside_walk (omega (arith, width_is))))
     named_inside false new h = subst (λ (w : Walked). AreInside (length columns) w.pairs) (sym h.1) inside
 
-    pub named_pairs : (b : Bool) (new : Walked) → Appends old (pair r place) b new →
+    pub named_pairs : (b : Bool) (new : Walked) → TriesPair old (pair r place) b new →
         renamed named new.pairs ≡ (if b then renamed named old.pairs ++ pair r j ∷ [] else renamed named old.pairs)
     named_pairs true new h =
         ap (λ (w : Walked). renamed named w.pairs) h.1 ∙ map_push (λ (q : Pair). pair q.row (named q.col)) old.pairs (pair r place)
         ∙ ap (λ c. renamed named old.pairs ++ pair r c ∷ []) there
     named_pairs false new h = ap (λ (w : Walked). renamed named w.pairs) h.1
 
-pub rows_kept : (old : Walked) (q : Pair) (b : Bool) (new : Walked) → Appends old q b new → new.rows ≡ old.rows
+pub rows_kept : (old : Walked) (q : Pair) (b : Bool) (new : Walked) → TriesPair old q b new → new.rows ≡ old.rows
 rows_kept old q true new h = ap (λ (w : Walked). w.rows) h.1
 rows_kept old q false new h = ap (λ (w : Walked). w.rows) h.1
 
-pub row_closed : (old : Walked) (q : Pair) (b : Bool) (new : Walked) → old.current ≡ None → Appends old q b new → new.current ≡ None
+pub row_closed : (old : Walked) (q : Pair) (b : Bool) (new : Walked) → old.current ≡ None → TriesPair old q b new → new.current ≡ None
 row_closed old q true new closed h = ap (λ (w : Walked). w.current) h.1 ∙ closed
 row_closed old q false new closed h = ap (λ (w : Walked). w.current) h.1 ∙ closed
 

@@ -14,7 +14,7 @@ use Rattle.optimistic_search.proofs.Searching.{grown_at}
 use Rattle.run_trace.specs.declared.publication.Publication.{Publication}
 use Rattle.run_trace.specs.declared.trace.Trace.{Trace}
 use Rattle.run_trace.specs.Lawful.{IsLawfulTrace, IsTraceOf, history_of, versions_of}
-use Rattle.run_trace.specs.TraceText.{FitsText, HasText, IsTextPublication}
+use Rattle.run_trace.specs.TraceText.{HasTextSizes, HasTraceText, IsTextPublication}
 use Rattle.run_trace.proofs.ReplayedTraces.{at, no_publication, pair_at, version_at}
 
 -- what was found, with these pairs and versions
@@ -46,7 +46,7 @@ traced p A workers t first all versions modulus history given grown maximal left
     }
 
 -- the text of a lawful trace of a matrix that a text can give can be written
-pub lawful_text : (p : ℕ) (A : Matrix) (t : Trace) → p < MODULUS_BOUND → FitsText A → IsLawfulTrace p A t → HasText t
+pub lawful_text : (p : ℕ) (A : Matrix) (t : Trace) → p < MODULUS_BOUND → HasTextSizes A → IsLawfulTrace p A t → HasTraceText t
 lawful_text p A t below fits is =
     let list = t.publications in
     let h = history_of list in

@@ -10,7 +10,7 @@ use Rattle.run_trace.specs.declared.publication.Publication.{Publication}
 use Rattle.run_trace.specs.declared.title.Title.{Title}
 use Rattle.run_trace.specs.declared.trace.Trace.{Trace}
 use Rattle.run_trace.specs.TraceText.{SaysTrace, publication_of}
-use Rattle.run_trace.specs.TraceParts.{IsTitle, SaysSteps, SaysTitle}
+use Rattle.run_trace.specs.TraceParts.{IsTraceTitle, SaysSteps, SaysTraceTitle}
 use Rattle.run_trace.proofs.StepsRead.{steps_closed}
 
 -- what is wanted is a trace
@@ -18,19 +18,19 @@ abbrev pub a_trace : ℕ → Wanted
 a_trace p = wants p (Outer form.Trace ∷ [])
 
 -- no text is open behind the first line
-pub title_closed : (ws : List (List ℕ)) (t : Title) → IsTitle ws t → open_at (due_behind form.Trace ws) ≡ None
+pub title_closed : (ws : List (List ℕ)) (t : Title) → IsTraceTitle ws t → open_at (due_behind form.Trace ws) ≡ None
 title_closed ws t is = ap (λ n. open_at (step_lines n)) is.count ∙ steps_closed t.count
 
 -- the first line was read
 pub record TitleRead (p : ℕ) (t : Title) (old new : InputState) : Type 0 where
   pub words : List (List ℕ)
-  pub title : IsTitle words t
+  pub title : IsTraceTitle words t
   pub so_far : ReadSoFar (a_trace p) old new (Words words ∷ []) (step_lines t.count ++ [])
 
-pub title_read : (p : ℕ) (t : Title) (old new : InputState) → PartDid (a_trace p) SaysTitle old new (Ok t) → TitleRead p t old new
+pub title_read : (p : ℕ) (t : Title) (old new : InputState) → PartDid (a_trace p) SaysTraceTitle old new (Ok t) → TitleRead p t old new
 title_read p t old new did =
-    let sound = part_sound (a_trace p) SaysTitle old new t did in
-    let r = part_reads (a_trace p) SaysTitle old new (Ok t) sound did in
+    let sound = part_sound (a_trace p) SaysTraceTitle old new t did in
+    let r = part_reads (a_trace p) SaysTraceTitle old new (Ok t) sound did in
     let m = r.reads.means in
     let s : ReadSoFar (a_trace p) old new r.reads.items r.reads.due = record { begun = sound; taken = r.taken; draws = r.draws; stands = r.reads.stands } in
     let due : r.reads.due ≡ step_lines t.count ++ [] = m.due_are ∙ ap step_lines m.title.count ∙ sym (append-nil (step_lines t.count)) in

@@ -14,8 +14,8 @@ use Rattle.sms_text.proofs.WrittenLines.{Carries, IsWord, carries_append, carrie
 use Rattle.sms_text.proofs.WrittenNumbers.{Spells, above_zero, decimal_spells}
 use Rattle.run_trace.specs.declared.publication.Publication.{Publication}
 use Rattle.run_trace.specs.declared.trace.Trace.{Trace}
-use Rattle.run_trace.specs.TraceText.{HasText, IsTextPublication, publication_lines, publication_of, title_line, trace_said, trace_text}
-use Rattle.run_trace.specs.Laws.{WrittenTraceReadsBack, publication_words, title_words, trace_items}
+use Rattle.run_trace.specs.TraceText.{HasTraceText, IsTextPublication, publication_lines, publication_of, trace_title, trace_said, trace_text}
+use Rattle.run_trace.specs.Laws.{WrittenTraceReadsBack, publication_words, trace_title_words, trace_items}
 
 -- a word that spells a number is of the form that this number asks for
 up_to : (most n : ℕ) (w : List ℕ) → Spells w n → n ≤ most → is_up_to most w ≡ true
@@ -30,27 +30,27 @@ first_word_written : IsWord (codes "trace")
 first_word_written = record { above = (omega arith, (omega arith, (omega arith, (omega arith, (omega arith, tt))))); filled = refl }
 
 -- the first line
-title_spaced : (p k : ℕ) → title_line p k ≡ spaced (codes "trace") (decimal p ∷ decimal k ∷ []) ++ 10 ∷ []
+title_spaced : (p k : ℕ) → trace_title p k ≡ spaced (codes "trace") (decimal p ∷ decimal k ∷ []) ++ 10 ∷ []
 title_spaced p k = simp append_assoc
 
-title_fits : (t : Trace) → HasText t → is_trace (title_words t) ≡ true
+title_fits : (t : Trace) → HasTraceText t → is_trace (trace_title_words t) ≡ true
 title_fits t has =
     rw (
       up_to (MODULUS_BOUND - 1) t.p _ (decimal_spells t.p (omega (arith, has.modulus))) (omega (arith, has.modulus)),
       up_to LARGEST_TEXT_SIZE (length t.publications) _ (decimal_spells (length t.publications) (omega (arith, has.count))) has.count,
     ) refl
 
-title_carries : (p : ℕ) (t : Trace) → HasText t → (ended : Bool) (dues : List Due) →
-    Carries p ended (Outer form.Trace ∷ dues) (step_lines (length t.publications) ++ dues) (title_line t.p (length t.publications)) (Words (title_words t) ∷ [])
+title_carries : (p : ℕ) (t : Trace) → HasTraceText t → (ended : Bool) (dues : List Due) →
+    Carries p ended (Outer form.Trace ∷ dues) (step_lines (length t.publications) ++ dues) (trace_title t.p (length t.publications)) (Words (trace_title_words t) ∷ [])
 title_carries p t has ended dues =
     let n = length t.publications in
     let modulus = decimal_spells t.p (omega (arith, has.modulus)) in
     let count = decimal_spells n (omega (arith, has.count)) in
-    let due : due_behind form.Trace (title_words t) ++ dues ≡ step_lines n ++ dues = ap (λ k. step_lines k ++ dues) count.spelled in
-    let P : List Due → Type 0 = λ d. Carries p ended (Outer form.Trace ∷ dues) d (title_line t.p n) (Words (title_words t) ∷ []) in
-    subst P due (carries_words p ended (Outer form.Trace) dues (title_line t.p n) (codes "trace") (decimal t.p ∷ decimal n ∷ [])
-    (record { item = Words (title_words t); due = due_behind form.Trace (title_words t) }) (title_spaced t.p n)
-    first_word_written (modulus.word, (count.word, tt)) refl (outer_says p form.Trace (title_words t) (title_fits t has)))
+    let due : due_behind form.Trace (trace_title_words t) ++ dues ≡ step_lines n ++ dues = ap (λ k. step_lines k ++ dues) count.spelled in
+    let P : List Due → Type 0 = λ d. Carries p ended (Outer form.Trace ∷ dues) d (trace_title t.p n) (Words (trace_title_words t) ∷ []) in
+    subst P due (carries_words p ended (Outer form.Trace) dues (trace_title t.p n) (codes "trace") (decimal t.p ∷ decimal n ∷ [])
+    (record { item = Words (trace_title_words t); due = due_behind form.Trace (trace_title_words t) }) (title_spaced t.p n)
+    first_word_written (modulus.word, (count.word, tt)) refl (outer_says p form.Trace (trace_title_words t) (title_fits t has)))
 
 -- the lines of the publications
 abbrev publication_items : List Publication → List Item
@@ -75,7 +75,7 @@ steps_carry p (x ∷ list) small ended dues =
     let P : List Due → Type 0 = λ d. Carries p ended (d ++ dues) dues (publication_lines (x ∷ list)) (publication_items (x ∷ list)) in
     subst P (sym (one_step n)) (carries_append p ended _ _ _ _ _ _ _ line (steps_carry p list (All-tail IsTextPublication x list small) ended dues))
 
-trace_carries : (p : ℕ) (t : Trace) → HasText t → (ended : Bool) (dues : List Due) →
+trace_carries : (p : ℕ) (t : Trace) → HasTraceText t → (ended : Bool) (dues : List Due) →
     Carries p ended (Outer form.Trace ∷ dues) dues (trace_text t.p t.publications) (trace_items t)
 trace_carries p t has ended dues =
     carries_append p ended _ _ _ _ _ _ _ (title_carries p t has ended dues) (steps_carry p t.publications has.publications ended dues)
@@ -103,10 +103,10 @@ publications_again (x ∷ list) small =
     made : ℕ → ℕ → ℕ → Publication
     made r c v = record { pair = record { row = r; col = c }; version = v }
 
-said_again : (t : Trace) → HasText t → trace_said (outer_lines (trace_items t)) ≡ Some t
+said_again : (t : Trace) → HasTraceText t → trace_said (outer_lines (trace_items t)) ≡ Some t
 said_again t has =
     let modulus = (decimal_spells t.p (omega (arith, has.modulus))).spelled in
-    ap (λ l. trace_said (title_words t ∷ l)) (lines_again t.publications)
+    ap (λ l. trace_said (trace_title_words t ∷ l)) (lines_again t.publications)
     ∙ ap (λ n. Some (made n (map publication_of (map publication_words t.publications)))) modulus
     ∙ ap (λ l. Some (made t.p l)) (publications_again t.publications has.publications)
   where

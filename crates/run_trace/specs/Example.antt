@@ -7,11 +7,11 @@ use Rattle.run_trace.specs.declared.trace.Trace.{Trace}
 use Rattle.run_trace.specs.Lawful.{IsLawfulTrace}
 use Rattle.run_trace.specs.TraceText.{trace_said}
 
-abbrev pub published : ℕ → ℕ → ℕ → Publication
-published r c v = record { pair = pair r c; version = v }
+abbrev pub published_at : ℕ → ℕ → ℕ → Publication
+published_at r c v = record { pair = pair r c; version = v }
 
 abbrev pub trace_example : Trace
-trace_example = record { p = 7; publications = published 0 0 0 ∷ published 1 1 1 ∷ [] }
+trace_example = record { p = 7; publications = published_at 0 0 0 ∷ published_at 1 1 1 ∷ [] }
 
 -- the words of its lines
 abbrev pub trace_lines : List (List (List ℕ))
@@ -23,4 +23,4 @@ pub record AreWorkedTraces : Type 0 where
   pub said : trace_said trace_lines ≡ Some trace_example
   pub lawful : IsLawfulTrace 7 pivot_example trace_example
   pub other_modulus : ¬ IsLawfulTrace 5 pivot_example trace_example
-  pub late : ¬ IsLawfulTrace 7 pivot_example (record { p = 7; publications = published 0 0 1 ∷ [] })
+  pub late : ¬ IsLawfulTrace 7 pivot_example (record { p = 7; publications = published_at 0 0 1 ∷ [] })

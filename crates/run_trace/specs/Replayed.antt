@@ -5,7 +5,7 @@ use Rattle.pivot_table.specs.History.{Alive}
 use Rattle.optimistic_search.specs.Walked.{Walked}
 
 -- the pair is alive in the list, and was appended; or it isn't, and the walk is as it was
-abbrev pub Appends : Walked → Pair → Bool → Walked → Type 0
-Appends old q true new =
+abbrev pub TriesPair : Walked → Pair → Bool → Walked → Type 0
+TriesPair old q true new =
     Alive old.rows.matrix old.pairs q.row q.col × (new ≡ record old { pairs = old.pairs ++ q ∷ [] })
-Appends old q false new = (¬ Alive old.rows.matrix old.pairs q.row q.col) × (new ≡ old)
+TriesPair old q false new = (¬ Alive old.rows.matrix old.pairs q.row q.col) × (new ≡ old)

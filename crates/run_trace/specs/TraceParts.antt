@@ -10,7 +10,7 @@ use Rattle.run_trace.specs.declared.title.Title.{Title}
 use Rattle.run_trace.specs.TraceText.{publication_of}
 
 -- these words are a first line that says this
-pub record IsTitle (ws : List (List ℕ)) (t : Title) : Type 0 where
+pub record IsTraceTitle (ws : List (List ℕ)) (t : Title) : Type 0 where
   pub form : is_trace ws ≡ true
   pub modulus : number_at ws 1 ≡ t.p
   pub count : number_at ws 2 ≡ t.count
@@ -18,11 +18,11 @@ pub record IsTitle (ws : List (List ℕ)) (t : Title) : Type 0 where
   pub count_small : t.count ≤ LARGEST_TEXT_SIZE
 
 -- the first line was read, and what it makes due is due
-pub record SaysTitle (t : Title) (items : List Item) (due : List Due) : Type 0 where
+pub record SaysTraceTitle (t : Title) (items : List Item) (due : List Due) : Type 0 where
   pub words : List (List ℕ)
   pub items_are : items ≡ Words words ∷ []
   pub due_are : due ≡ due_behind form.Trace words
-  pub title : IsTitle words t
+  pub title : IsTraceTitle words t
 
 -- the lines of all publications were read
 pub record SaysSteps (publications : List Publication) (items : List Item) (due : List Due) : Type 0 where

@@ -30,8 +30,8 @@ pub record SaysTrace (t : Trace) (items : List Item) (due : List Due) : Type 0 w
   pub said : trace_said lines ≡ Some t
 
 -- `trace P K`
-abbrev pub title_line : ℕ → ℕ → List ℕ
-title_line p k = codes "trace " ++ decimal p ++ 32 ∷ decimal k ++ 10 ∷ []
+abbrev pub trace_title : ℕ → ℕ → List ℕ
+trace_title p k = codes "trace " ++ decimal p ++ 32 ∷ decimal k ++ 10 ∷ []
 
 -- `i j v`, a line each
 abbrev pub publication_lines : List Publication → List ℕ
@@ -40,7 +40,7 @@ publication_lines list = flat_map (λ (x : Publication).
 
 -- the first line, and a line for each publication
 abbrev pub trace_text : ℕ → List Publication → List ℕ
-trace_text p list = title_line p (length list) ++ publication_lines list
+trace_text p list = trace_title p (length list) ++ publication_lines list
 
 -- numbers that a line can give
 pub record IsTextPublication (x : Publication) : Type 0 where
@@ -49,11 +49,11 @@ pub record IsTextPublication (x : Publication) : Type 0 where
   pub version : x.version ≤ LARGEST_TEXT_SIZE
 
 -- the numbers of a trace are those that a text can give
-pub record HasText (t : Trace) : Type 0 where
+pub record HasTraceText (t : Trace) : Type 0 where
   pub modulus : t.p < MODULUS_BOUND
   pub count : length t.publications ≤ LARGEST_TEXT_SIZE
   pub publications : All IsTextPublication t.publications
 
 -- a matrix of sizes that a text can give
-abbrev pub FitsText : Matrix → Type 0
-FitsText A = (A.height ≤ LARGEST_TEXT_SIZE) × (A.width ≤ LARGEST_TEXT_SIZE)
+abbrev pub HasTextSizes : Matrix → Type 0
+HasTextSizes A = (A.height ≤ LARGEST_TEXT_SIZE) × (A.width ≤ LARGEST_TEXT_SIZE)

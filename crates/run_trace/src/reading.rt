@@ -7,8 +7,8 @@ ghost use Rattle.sms_text.specs.OuterLines as form;
 ghost use Rattle.sms_text.specs.Parts.{PartDid, wants};
 ghost use Rattle.sms_text.specs.Reading.{input};
 ghost use Rattle.sms_text.specs.Text.{Outer, step_lines};
-ghost use Rattle.run_trace.specs.TraceParts.{SaysTitle, SaysSteps};
-ghost use Rattle.run_trace.specs.TraceText.{HasText, IsTextPublication, SaysTrace, publication_of};
+ghost use Rattle.run_trace.specs.TraceParts.{SaysTraceTitle, SaysSteps};
+ghost use Rattle.run_trace.specs.TraceText.{HasTraceText, IsTextPublication, SaysTrace, publication_of};
 
 use crate::publication::Publication;
 use crate::title::Title;
@@ -33,7 +33,7 @@ pub fn read<S: Source>(
     requires { reader.old.open_text ≡ None }
     ensures did { (p : ℕ) → PartDid (wants p (Outer form.Trace ∷ [])) SaysTrace
         (input reader.old (S.state source.old)) (input reader.new (S.state source.new)) result }
-    ensures fits { IfOk result HasText }
+    ensures fits { IfOk result HasTraceText }
     ensures closed { reader.new.open_text ≡ None }
 {
     let title = read_title(reader, source)?;
@@ -47,7 +47,7 @@ pub fn read<S: Source>(
 // Reads the first line.
 fn read_title<S: Source>(reader: &mut Reader, source: &mut S) -> Result<Title, TextError>
     requires { reader.old.open_text ≡ None }
-    ensures did { (p : ℕ) → PartDid (wants p (Outer form.Trace ∷ [])) SaysTitle
+    ensures did { (p : ℕ) → PartDid (wants p (Outer form.Trace ∷ [])) SaysTraceTitle
         (input reader.old (S.state source.old)) (input reader.new (S.state source.new)) result }
     ensures sizes { IfOk result (λ t. (t.p < MODULUS_BOUND) × (t.count ≤ LARGEST_TEXT_SIZE)) }
     ensures closed { reader.new.open_text ≡ None }

@@ -5,7 +5,7 @@ ghost use Rattle.sparse_rows.specs.declared.rows.TheConstants.{LARGEST_SIZE};
 ghost use Rattle.pivot_table.specs.History.{Alive};
 ghost use Rattle.optimistic_search.specs.Renamed.{AreInside, renamed};
 ghost use Rattle.run_trace.specs.Lawful.{AreLawful, IsLawfulTrace};
-ghost use Rattle.run_trace.specs.Replayed.{Appends};
+ghost use Rattle.run_trace.specs.Replayed.{TriesPair};
 
 use crate::publication::Publication;
 use crate::trace::Trace;
@@ -83,7 +83,7 @@ fn are_lawful<L: Ledger>(
     true
 }
 
-// Appends a pair to a walk over these columns alone, if it is alive. Answers whether it is.
+// TriesPair a pair to a walk over these columns alone, if it is alive. Answers whether it is.
 fn append_named<L: Ledger>(
     rows: &Rows,
     columns: &[u32],
@@ -120,12 +120,12 @@ fn append_named<L: Ledger>(
     }
 }
 
-// Appends a pair, if it is alive, with a walk from its row. Answers whether it is.
+// TriesPair a pair, if it is alive, with a walk from its row. Answers whether it is.
 fn append<L: Ledger>(walk: &mut Walk, pair: Pair, steps: &mut Steps<L>) -> bool
     requires row { pair.row < walk.old.rows.matrix.height }
     requires col { pair.col < walk.old.rows.matrix.width }
     requires closed { walk.old.current ≡ None }
-    ensures { Appends walk.old pair result walk.new }
+    ensures { TriesPair walk.old pair result walk.new }
 {
     if !walk.has_candidate(pair.row) {
         return false;

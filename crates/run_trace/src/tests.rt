@@ -1,7 +1,7 @@
 // Traces read from texts, replayed on a small matrix and on the largest, and written again.
 ghost use Rattle.std.specs.Prelude.{◌≡◌, ◌<◌, ◌≤◌, IfOk};
 ghost use Rattle.sparse_rows.specs.declared.rows.TheConstants.{LARGEST_SIZE};
-ghost use Rattle.run_trace.specs.TraceText.{HasText};
+ghost use Rattle.run_trace.specs.TraceText.{HasTraceText};
 
 use crate::{Trace, read, replay, trace_of, write};
 use optimistic_search::Open;
@@ -56,7 +56,7 @@ fn read_from(
     at_once: usize,
 ) -> Result<Result<Trace, TextError>, AllocError>
     requires { 0 < at_once }
-    ensures { IfOk result (λ r. IfOk r HasText) }
+    ensures { IfOk result (λ r. IfOk r HasTraceText) }
 {
     let mut source = SteadySource::new(Vec::from_slice(alloc, text)?, at_once);
     let mut reader = Reader::new(alloc, 1000)?;
@@ -66,7 +66,7 @@ fn read_from(
 
 // Whether these bytes are what is written of a trace by a sink that fails in these calls, or a first part of them if it fails.
 fn is_written(alloc: Global, trace: &Trace, text: &[u8], fails: &[u64]) -> Result<bool, AllocError>
-    requires { HasText trace.now }
+    requires { HasTraceText trace.now }
 {
     let fails = Vec::from_slice(alloc, fails)?;
     let mut sink = MemorySink::new(alloc, 400, 16, fails)?;

@@ -1,7 +1,7 @@
 // A trace's first line.
 ghost use Rattle.std.specs.Prelude.{◌≡◌, false, MatchOption};
 ghost use Rattle.sms_text.specs.OuterLines.{is_trace};
-ghost use Rattle.run_trace.specs.TraceParts.{IsTitle};
+ghost use Rattle.run_trace.specs.TraceParts.{IsTraceTitle};
 
 use residue_words::MODULUS_BOUND;
 use sms_text::{LARGEST_TEXT_SIZE, Line};
@@ -16,7 +16,7 @@ pub(crate) struct Title {
 impl Title {
     // What the words of a line say, if they are of a first line's form.
     pub(crate) fn of(line: &Line) -> Option<Title>
-        ensures { MatchOption result (is_trace line.now.words ≡ false) (IsTitle line.now.words) }
+        ensures { MatchOption result (is_trace line.now.words ≡ false) (IsTraceTitle line.now.words) }
     {
         if line.count() != 3 || line.word(0) != b"trace".as_slice() {
             return None;

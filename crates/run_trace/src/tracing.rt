@@ -1,7 +1,7 @@
 // What a search published.
 ghost use Rattle.std.specs.Prelude.{◌≡◌, ◌≤◌, IfOk, length};
 ghost use Rattle.run_trace.specs.Lawful.{IsTraceOf, history_of, versions_of};
-ghost use Rattle.run_trace.specs.TraceText.{FitsText, HasText};
+ghost use Rattle.run_trace.specs.TraceText.{HasTextSizes, HasTraceText};
 
 use crate::publication::Publication;
 use crate::trace::Trace;
@@ -27,7 +27,7 @@ pub fn trace_of<R: Threads + Sync, G: Gate>(
     requires some { 1 ≤ workers }
     requires few { workers ≤ 64 }
     ensures is { IfOk result (IsTraceOf rows.now.modulus rows.now.matrix workers) }
-    ensures fits { FitsText rows.now.matrix → IfOk result HasText }
+    ensures fits { HasTextSizes rows.now.matrix → IfOk result HasTraceText }
 {
     let first = leftmost(alloc, rows)?;
     let found = search_traced(rt, alloc, first, workers, gate)?;

@@ -1,7 +1,7 @@
 // Traces written as texts.
 ghost use Rattle.std.specs.Prelude.{All};
 ghost use Rattle.sms_text.specs.Writing.{Adds, Writes, output};
-ghost use Rattle.run_trace.specs.TraceText.{HasText, IsTextPublication, publication_lines, title_line, trace_text};
+ghost use Rattle.run_trace.specs.TraceText.{HasTraceText, IsTextPublication, publication_lines, trace_title, trace_text};
 
 use crate::publication::Publication;
 use crate::trace::Trace;
@@ -12,7 +12,7 @@ use sms_text::{BlockWriter, Sink, WriteFault};
 /// The sink is given blocks of more than 4096 bytes, and a last one of what is left. It takes no memory, and time proportional to the
 /// publications. `read` reads what was written as the same trace: `written_trace_reads_back` says so.
 pub fn write<K: Sink>(out: &mut K, trace: &Trace) -> Result<(), WriteFault>
-    requires { HasText trace.now }
+    requires { HasTraceText trace.now }
     ensures { Writes result (trace_text trace.now.p trace.now.publications)
         (K.state out.old) (K.state out.new) }
 {
@@ -30,7 +30,7 @@ fn add_title<K: Sink>(
     p: u64,
     count: u64,
 ) -> Result<(), WriteFault>
-    ensures { Adds result (title_line p count)
+    ensures { Adds result (trace_title p count)
         (output blocks.old (K.state out.old)) (output blocks.new (K.state out.new)) }
 {
     blocks.add(out, b"trace ")?;

@@ -18,7 +18,7 @@ use Rattle.sms_text.proofs.Parts.{ReadSoFar, part_missed, part_reads, part_taken
 use Rattle.sms_text.proofs.Scripts.{scripted_short, scripted_taken, scripted_unread}
 use Rattle.certificates.proofs.CertificateLines.{words_have}
 use Rattle.grow_form.specs.declared.answering.Answer.{Answer}
-use Rattle.grow_form.specs.Scripts.{AnswersLines, FitsText, SaysScript, answers_text}
+use Rattle.grow_form.specs.Scripts.{AnswersLines, AnswerFitsText, SaysScript, answers_text}
 use Rattle.spasm_run.specs.declared.answer.Answer.TheVariants as answer
 use Rattle.spasm_run.specs.declared.words.Command.{Command}
 use Rattle.spasm_run.specs.declared.words.Task.TheVariants as task
@@ -100,7 +100,7 @@ module _ (p limit : ℕ) (reader : ReaderState) (source : SourceState) (mid new 
       (part_missed (wants p (Scripted ∷ [])) script [] Means (input reader source) mid new items so_far refl (Says p) e here)
 
 -- the answers to a script are the answer to the command
-pub script_answers : (p : ℕ) (answers : Vec Answer Global) (said : Contents) (c : Command) → All FitsText answers.items → AreAnswered p answers.items said →
+pub script_answers : (p : ℕ) (answers : Vec Answer Global) (said : Contents) (c : Command) → All AnswerFitsText answers.items → AreAnswered p answers.items said →
     IsAnswerTo (asking task.Grow p c) said (answer.Script answers)
 script_answers p answers said c fits are = record {
   small = fits;

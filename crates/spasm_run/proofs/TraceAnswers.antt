@@ -4,7 +4,7 @@ use Rattle.std.specs.Prelude.{◌↔◌}
 use Rattle.sparse_rows.specs.Rows.{ResidueMatrix}
 use Rattle.run_trace.specs.declared.trace.Trace.{Trace}
 use Rattle.run_trace.specs.Lawful.{IsLawfulTrace, IsTraceOf}
-use Rattle.run_trace.specs.TraceText.{HasText}
+use Rattle.run_trace.specs.TraceText.{HasTraceText}
 use Rattle.spasm_run.specs.declared.answer.Answer.TheVariants as answer
 use Rattle.spasm_run.specs.declared.words.Command.{Command}
 use Rattle.spasm_run.specs.declared.words.Task.TheVariants as task
@@ -12,7 +12,7 @@ use Rattle.spasm_run.specs.Computed.{IsAnswerTo, asking}
 use Rattle.spasm_run.specs.Contents.{AreToReplay, Contents, HasLawfulTrace, matrices_alone}
 
 -- a trace that was found
-pub trace_answers : (A : ResidueMatrix) (c : Command) (t : Trace) → IsTraceOf A.modulus A.matrix c.workers t → HasText t →
+pub trace_answers : (A : ResidueMatrix) (c : Command) (t : Trace) → IsTraceOf A.modulus A.matrix c.workers t → HasTraceText t →
     IsAnswerTo (asking task.Trace A.modulus c) (matrices_alone (A.matrix ∷ [])) (answer.Trace t)
 trace_answers A c t is text = record { small = text; fits = refl; answers = λ any. (t, is, refl); ends = refl }
 

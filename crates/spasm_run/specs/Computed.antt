@@ -16,7 +16,7 @@ use Rattle.kernel_solve.specs.Found.{Answers}
 use Rattle.sms_text.specs.Reading.{Draws, untouched}
 use Rattle.sms_text.specs.Stream.{SourceState}
 use Rattle.sms_text.specs.Written.{IsSmallPlace, text_of}
-use Rattle.grow_form.specs.Scripts.{FitsText, answers_text}
+use Rattle.grow_form.specs.Scripts.{AnswerFitsText, answers_text}
 use Rattle.spasm_run.specs.declared.answer.Answer.{Answer}
 use Rattle.spasm_run.specs.declared.answer.Answer.TheVariants as answer
 use Rattle.spasm_run.specs.declared.status.Status.{Status}
@@ -65,9 +65,9 @@ IsSmall (answer.Singular v) = HasSmallSizes v.matrix
 IsSmall (answer.Pivots pairs) = All IsSmallPlace pairs.items
 IsSmall (answer.Summary s) = Unit {0}
 IsSmall (answer.Certificate c) = IsFormed c.l.modulus c × HasText (certificate_of c)
-IsSmall (answer.Trace t) = trace.HasText t
+IsSmall (answer.Trace t) = trace.HasTraceText t
 IsSmall (answer.Verdict valid) = Unit {0}
-IsSmall (answer.Script answers) = All FitsText answers.items
+IsSmall (answer.Script answers) = All AnswerFitsText answers.items
 
 -- the matrix that a certificate of this kind claims of A: one that can be written, and that shows it to any factors of A
 pub record IsClaimed (p : ℕ) (A : Matrix) (kind : CertKind) (extra : Option ResidueMatrix) : Type 0 where

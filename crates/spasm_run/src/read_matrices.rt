@@ -4,7 +4,7 @@ ghost use Rattle.sms_text.specs.OuterLines as form;
 ghost use Rattle.sms_text.specs.Text.{Header, Outer, Scripted};
 ghost use Rattle.sms_text.specs.declared.reader.TheConstants.{LARGEST_INPUT};
 ghost use Rattle.certificates.specs.Certificate.{IsFormed};
-ghost use Rattle.grow_form.specs.Scripts.{FitsText};
+ghost use Rattle.grow_form.specs.Scripts.{AnswerFitsText};
 ghost use Rattle.spasm_run.specs.Input.{IsOfText, WasAnswered, WasRead, WereRead, WereReadToReplay, one_value, two_values};
 
 use certificates::Certificate;
@@ -107,7 +107,7 @@ pub(crate) fn read_and_answer<S: Source>(
     requires { limit ≤ LARGEST_INPUT }
     ensures did { WasAnswered (record { modulus = p.now; limit = limit; due = Scripted ∷ [] })
         result (S.state source.old) (S.state source.new) }
-    ensures fits { IfOk result (λ answers. All FitsText answers.items) }
+    ensures fits { IfOk result (λ answers. All AnswerFitsText answers.items) }
 {
     let Ok(mut reader) = Reader::new(alloc, limit) else {
         return Err(TextError::Memory);

@@ -2,7 +2,7 @@ use Rattle.std.proofs.Common.{ℕ, [], ◌≡◌, ◌<◌, ◌+◌, ◌-◌, ◌
 use Rattle.std.proofs.lemmas.List.{get_or-set_other, get_or-set_same}
 use Rattle.residue_words.specs.Matrix.{IsVector}
 use Rattle.dense_finish.specs.Block.{block_row}
-use Rattle.dense_finish.specs.Products.{AddsAt, products_of}
+use Rattle.dense_finish.specs.Products.{AddsBetween, products_of}
 use Rattle.dense_finish.proofs.AddingEach.{adds_equal, each_of_four, joined_lanes}
 use Rattle.dense_finish.proofs.BlockRows.{read_row}
 use Rattle.dense_finish.proofs.products.add_tile.Goals as goal
@@ -45,14 +45,14 @@ loop-t-preserved c =
     (joined_lanes start (f 2) left.result.third right.result.third c.joined-3.result c.joined-3.ensures.left c.joined-3.ensures.right left.ensures.third right.ensures.third)
     (joined_lanes start (f 3) left.result.fourth right.result.fourth c.joined-4.result c.joined-4.ensures.left c.joined-4.ensures.right left.ensures.fourth right.ensures.fourth)
     t (omega (arith, c.requires.few, c.loop-t-test.true)) in
-    let added : AddsAt p columns (f t) (slice_index_or rows t c.index-rows-t.result) v = adds_equal (λ j from less.
+    let added : AddsBetween p columns (f t) (slice_index_or rows t c.index-rows-t.result) v = adds_equal (λ j from less.
     let place : start + (j - start) ≡ j = omega arith in
     lanes (j - start) (omega (arith, c.requires.narrow)) ∙ ap (f t) place) c.add_sums.ensures in
-    let one : AddsAt p columns (f t) (block_row olds t) v = subst (λ u. AddsAt p columns (f t) u v) here added in
+    let one : AddsBetween p columns (f t) (block_row olds t) v = subst (λ u. AddsBetween p columns (f t) u v) here added in
     record {
-      done = below_more (λ t. AddsAt p columns (f t) (block_row olds t) (block_row (set rows c.loop-t.t v) t)) t
-          (λ x l. subst (AddsAt p columns (f x) (block_row olds x)) (sym (get_or-set_other rows t x v [] (omega arith))) (c.loop-t.invariant.done x l))
-          (subst (AddsAt p columns (f t) (block_row olds t)) (sym (get_or-set_same rows t v [] inside)) one);
+      done = below_more (λ t. AddsBetween p columns (f t) (block_row olds t) (block_row (set rows c.loop-t.t v) t)) t
+          (λ x l. subst (AddsBetween p columns (f x) (block_row olds x)) (sym (get_or-set_other rows t x v [] (omega arith))) (c.loop-t.invariant.done x l))
+          (subst (AddsBetween p columns (f t) (block_row olds t)) (sym (get_or-set_same rows t v [] inside)) one);
       ahead = λ x l. get_or-set_other rows t x v [] (omega arith) ∙ c.loop-t.invariant.ahead x (omega arith);
     }
 

@@ -4,7 +4,7 @@ use Rattle.sms_text.specs.OuterLines as form
 use Rattle.sms_text.specs.Reading.{input}
 use Rattle.sms_text.specs.Text.{Outer}
 use Rattle.sms_text.proofs.Parts.{first_missed, part_handed}
-use Rattle.run_trace.specs.TraceParts.{SaysTitle}
+use Rattle.run_trace.specs.TraceParts.{SaysTraceTitle}
 use Rattle.run_trace.specs.TraceText.{SaysTrace}
 use Rattle.run_trace.proofs.TraceRead.{a_trace, title_read, steps_unread, trace_read}
 use Rattle.run_trace.proofs.reading.read.Goals as goal
@@ -14,7 +14,7 @@ returns-in_err-title-clause-did g c = λ p.
     let s0 = input c.args.reader.now (g.S.Source.state c.args.source.now) in
     let s1 = input c.read_title.new.reader (g.S.Source.state c.read_title.new.source) in
     part_handed (a_trace p) SaysTrace s0 s1 c.in_err-title.field-0.0 c.from_residual.result c.from_residual.ensures.1
-    (first_missed p (Outer form.Trace ∷ []) [] SaysTitle SaysTrace s0 s1 c.in_err-title.field-0.0 c.requires refl (c.in_err-title.ensures.did p))
+    (first_missed p (Outer form.Trace ∷ []) [] SaysTraceTitle SaysTrace s0 s1 c.in_err-title.field-0.0 c.requires refl (c.in_err-title.ensures.did p))
 
 pub read_steps-requires-clause-sound : goal.read_steps-requires-clause-sound
 read_steps-requires-clause-sound g c =

@@ -4,18 +4,18 @@ use Rattle.std.specs.Prelude.{codes}
 use Rattle.std.specs.Fmt.{decimal}
 use Rattle.std.proofs.lemmas.Result.{err_from_is_err_and}
 use Rattle.sms_text.proofs.WrittenRows.{added_nothing, added_more, added_fault, added_all}
-use Rattle.run_trace.specs.TraceText.{title_line}
+use Rattle.run_trace.specs.TraceText.{trace_title}
 use Rattle.run_trace.proofs.writing.add_title.Goals as goal
 
 -- behind the first word
-cut : (p k : ℕ) → title_line p k ≡ codes "trace " ++ (decimal p ++ (32 ∷ (decimal k ++ 10 ∷ [])))
+cut : (p k : ℕ) → trace_title p k ≡ codes "trace " ++ (decimal p ++ (32 ∷ (decimal k ++ 10 ∷ [])))
 cut p k = simp append_assoc
 
 pub returns-in_err-add : goal.returns-in_err-add
 returns-in_err-add g c =
     let p = c.args.p in
     let k = c.args.count in
-    let text = title_line p k in
+    let text = trace_title p k in
     let start : List ℕ = codes "trace " in
     let count : List ℕ = decimal k ++ 10 ∷ [] in
     let number : List ℕ = decimal p ++ (32 ∷ count) in
@@ -29,7 +29,7 @@ pub returns-in_err-add_number : goal.returns-in_err-add_number
 returns-in_err-add_number g c =
     let p = c.args.p in
     let k = c.args.count in
-    let text = title_line p k in
+    let text = trace_title p k in
     let start : List ℕ = codes "trace " in
     let count : List ℕ = decimal k ++ 10 ∷ [] in
     let number : List ℕ = decimal p ++ (32 ∷ count) in
@@ -43,7 +43,7 @@ pub returns-in_err-add-2 : goal.returns-in_err-add-2
 returns-in_err-add-2 g c =
     let p = c.args.p in
     let k = c.args.count in
-    let text = title_line p k in
+    let text = trace_title p k in
     let start : List ℕ = codes "trace " in
     let count : List ℕ = decimal k ++ 10 ∷ [] in
     let number : List ℕ = decimal p ++ (32 ∷ count) in
@@ -57,7 +57,7 @@ pub returns-in_err-add_number-2 : goal.returns-in_err-add_number-2
 returns-in_err-add_number-2 g c =
     let p = c.args.p in
     let k = c.args.count in
-    let text = title_line p k in
+    let text = trace_title p k in
     let start : List ℕ = codes "trace " in
     let count : List ℕ = decimal k ++ 10 ∷ [] in
     let number : List ℕ = decimal p ++ (32 ∷ count) in
@@ -71,7 +71,7 @@ pub returns-in_err-add-3 : goal.returns-in_err-add-3
 returns-in_err-add-3 g c =
     let p = c.args.p in
     let k = c.args.count in
-    let text = title_line p k in
+    let text = trace_title p k in
     let start : List ℕ = codes "trace " in
     let count : List ℕ = decimal k ++ 10 ∷ [] in
     let number : List ℕ = decimal p ++ (32 ∷ count) in
@@ -85,7 +85,7 @@ pub returns : goal.returns
 returns g c =
     let p = c.args.p in
     let k = c.args.count in
-    let text = title_line p k in
+    let text = trace_title p k in
     let start : List ℕ = codes "trace " in
     let count : List ℕ = decimal k ++ 10 ∷ [] in
     let number : List ℕ = decimal p ++ (32 ∷ count) in

@@ -3,14 +3,14 @@ use Rattle.std.specs.Prelude.{All}
 use Rattle.std.proofs.lemmas.List.Elements.{All-push}
 use Rattle.sparse_rows.specs.Rows.{ResidueMatrix}
 use Rattle.kernel_solve.specs.Prepared.{IsReply}
-use Rattle.batch_solve.specs.Replies.{IsAnswered}
+use Rattle.batch_solve.specs.Replies.{IsAnsweredAt}
 use Rattle.batch_solve.specs.declared.worker.Answered.{Answered}
 use Rattle.batch_solve.proofs.Slots.{reply_at}
 use Rattle.batch_solve.proofs.worker.Worker.keep_answer.Goals as goal
 
 pub returns-clause-kept : goal.returns-clause-kept
 returns-clause-kept c =
-    let P : Answered → Type 0 = IsAnswered c.args.prepared.now c.args.questions.now in
+    let P : Answered → Type 0 = IsAnsweredAt c.args.prepared.now c.args.questions.now in
     let one : Answered = record { question = c.args.question; reply = c.in_ok-reply.reply } in
     subst (λ (l : List Answered). All P l) (sym c.in_ok-push.ensures.items)
     (All-push P c.args.self.now.answered.items one c.requires.kept (record {
