@@ -1,5 +1,9 @@
 // The pivots that one worker finds and those that several may find, two workers that a gate holds apart, and certificates that are
 // checked.
+mod scripts;
+pub(crate) mod texts;
+mod traces;
+
 use crate::running::run;
 use crate::running::tests::{X, Y};
 use crate::{Gate, Open, Point, Status};
