@@ -95,18 +95,30 @@ fn agrees<R: Threads + Sync>(rt: &R, alloc: Global, rows: &Rows) -> Result<bool,
     Ok(same)
 }
 
-// A matrix modulo 7 of so many values a row, at places that a generator scatters over the columns.
-fn scattered(alloc: Global, m: u32, n: u32, per: u32) -> Result<Rows, AllocError>
-    requires height { m ≤ LARGEST_SIZE }
-    requires width { n ≤ LARGEST_SIZE }
-    requires some { 0 < n }
+// So many values for each row, at places that a generator scatters over the columns.
+fn places(alloc: Global, m: u32, n: u32, per: u32) -> Result<Vec<(u32, u32, u64)>, AllocError>
+    requires { 0 < n }
 {
-    let mut builder = RowsBuilder::new(alloc, m, n, Modulus::new(7))?;
+    let mut places = Vec::new(alloc);
     let mut state: u32 = 1;
     for i in 0..m {
         for _ in 0..per {
             state = state.wrapping_mul(1103515245).wrapping_add(12345);
-            builder.push(i, (state >> 8) % n, u64::from((state >> 4) % 7))?;
+            places.push((i, (state >> 8) % n, u64::from((state >> 4) % 7)))?;
+        }
+    }
+    Ok(places)
+}
+
+// The matrix modulo 7 with these values.
+fn built(alloc: Global, m: u32, n: u32, places: &[(u32, u32, u64)]) -> Result<Rows, AllocError>
+    requires height { m ≤ LARGEST_SIZE }
+    requires width { n ≤ LARGEST_SIZE }
+{
+    let mut builder = RowsBuilder::new(alloc, m, n, Modulus::new(7))?;
+    for (i, j, v) in places {
+        if *i < m && *j < n && *v < 7 {
+            builder.push(*i, *j, *v)?;
         }
     }
     builder.finish()
@@ -131,7 +143,8 @@ fn each_plan_finds_the_form(rt: HostRuntime) -> Result<(), Fail> {
     let alloc = rt.alloc();
     for (m, n, per) in SCATTERED {
         assert!(rt; *m <= LARGEST_SIZE && 0 < *n && *n <= LARGEST_SIZE);
-        let rows = scattered(alloc, *m, *n, *per)?;
+        let places = places(alloc, *m, *n, *per)?;
+        let rows = built(alloc, *m, *n, places.as_slice())?;
         assert!(rt; agrees(&rt, alloc, &rows)?, "at {m} {n} {per}");
     }
     Ok(())
