@@ -8,7 +8,8 @@ ghost use Rattle.kernel_solve.specs.Found.{HasShape};
 ghost use Rattle.kernel_solve.specs.Inverted.{IsSquareOf, TellsInverse};
 ghost use Rattle.pluq_factor.specs.Basis.{IsBasis};
 ghost use Rattle.sparse_rows.specs.declared.rows.TheConstants.{LARGEST_SIZE};
-ghost use Rattle.spasm_run.specs.Answers.{IsOneAnswer, as_row};
+ghost use Rattle.sms_text.specs.Text.{Header};
+ghost use Rattle.spasm_run.specs.Answers.{IsOneAnswer, as_row, wanted};
 ghost use Rattle.spasm_run.specs.Computed.{AnswersSystem, ComesOf, ComesOfContents, IsClaimed, IsSmall, asking};
 ghost use Rattle.spasm_run.specs.Contents.{AreToCheck, AreToReplay, Contents};
 ghost use Rattle.certificates.specs.Certificate.{IsFormed};
@@ -23,7 +24,7 @@ use crate::answer::Answer;
 use crate::generator::Generator;
 use crate::status::Status;
 use crate::summary::Summary;
-use crate::words::Command;
+use crate::words::{Command, Task};
 use cert_checker::check;
 use certificates::{CertKind, Certificate};
 use dense_finish::finish;
@@ -57,8 +58,36 @@ fn plan_of(command: Command) -> Plan
     }
 }
 
+// The answer to a command that reads one matrix and nothing else.
+pub(crate) fn find_of_matrix<R: Threads + Sync, G: Gate>(
+    rt: &R,
+    alloc: Global,
+    a: &Rows,
+    command: Command,
+    gate: &G,
+) -> Result<Answer, Status>
+    requires some { 1 ≤ command.workers }
+    requires few { command.workers ≤ 64 }
+    requires height { a.now.matrix.height < LARGEST_SIZE }
+    requires width { a.now.matrix.width < LARGEST_SIZE }
+    requires one { wanted command.task ≡ Header ∷ [] }
+    ensures { ComesOf (asking command.task a.now.modulus command) (a.now.matrix ∷ []) result }
+{
+    match command.task {
+        Task::Rank => find_rank(rt, alloc, a, command, gate),
+        Task::Rref => find_form(rt, alloc, a, command, gate),
+        Task::Kernel => find_kernel(rt, alloc, a, command, gate),
+        Task::LeftKernel => find_left_kernel(rt, alloc, a, command, gate),
+        Task::Inverse => find_inverse(rt, alloc, a, command, gate),
+        Task::Pivots => find_pivots(rt, alloc, a, command, gate),
+        Task::Trace => find_trace(rt, alloc, a, command, gate),
+        Task::Certify(kind) => find_certificate(rt, alloc, a, kind, command, gate),
+        _ => unreachable!(),
+    }
+}
+
 // The rank of a matrix: by a dense elimination where there are no structural rounds, and else by these rounds.
-pub(crate) fn find_rank<R: Threads + Sync, G: Gate>(
+fn find_rank<R: Threads + Sync, G: Gate>(
     rt: &R,
     alloc: Global,
     a: &Rows,
@@ -94,7 +123,7 @@ fn count_pivots<R: Threads + Sync>(
 }
 
 // The structural pivots of a matrix in triangular order: what a search finds that begins with the leftmost ones.
-pub(crate) fn find_pivots<R: Threads + Sync, G: Gate>(
+fn find_pivots<R: Threads + Sync, G: Gate>(
     rt: &R,
     alloc: Global,
     a: &Rows,
@@ -116,7 +145,7 @@ pub(crate) fn find_pivots<R: Threads + Sync, G: Gate>(
 }
 
 // The echelon form of a matrix.
-pub(crate) fn find_form<R: Threads + Sync, G: Gate>(
+fn find_form<R: Threads + Sync, G: Gate>(
     rt: &R,
     alloc: Global,
     a: &Rows,
@@ -152,7 +181,7 @@ pub(crate) fn find_summary<R: Threads + Sync, G: Gate>(
 }
 
 // The kernel basis of a matrix.
-pub(crate) fn find_kernel<R: Threads + Sync, G: Gate>(
+fn find_kernel<R: Threads + Sync, G: Gate>(
     rt: &R,
     alloc: Global,
     a: &Rows,
@@ -170,7 +199,7 @@ pub(crate) fn find_kernel<R: Threads + Sync, G: Gate>(
 }
 
 // The kernel basis of the transposed matrix.
-pub(crate) fn find_left_kernel<R: Threads + Sync, G: Gate>(
+fn find_left_kernel<R: Threads + Sync, G: Gate>(
     rt: &R,
     alloc: Global,
     a: &Rows,
@@ -190,7 +219,7 @@ pub(crate) fn find_left_kernel<R: Threads + Sync, G: Gate>(
 }
 
 // The inverse of a matrix, or a null vector. A matrix that isn't square is refused, and one of more than 2^30 rows.
-pub(crate) fn find_inverse<R: Threads + Sync, G: Gate>(
+fn find_inverse<R: Threads + Sync, G: Gate>(
     rt: &R,
     alloc: Global,
     a: &Rows,
@@ -279,7 +308,7 @@ pub(crate) fn find_solution<R: Threads + Sync, G: Gate>(
 }
 
 // A certificate of this kind, by factors.
-pub(crate) fn find_certificate<R: Threads + Sync, G: Gate>(
+fn find_certificate<R: Threads + Sync, G: Gate>(
     rt: &R,
     alloc: Global,
     a: &Rows,
@@ -351,7 +380,7 @@ pub(crate) fn find_verdict(
 }
 
 // What a search published that begins with the leftmost pivots, in its order.
-pub(crate) fn find_trace<R: Threads + Sync, G: Gate>(
+fn find_trace<R: Threads + Sync, G: Gate>(
     rt: &R,
     alloc: Global,
     a: &Rows,

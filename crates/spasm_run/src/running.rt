@@ -14,8 +14,7 @@ pub(crate) mod tests;
 
 use crate::answer::Answer;
 use crate::commands::{
-    find_certificate, find_form, find_inverse, find_kernel, find_lawfulness, find_left_kernel,
-    find_pivots, find_rank, find_solution, find_summary, find_trace, find_verdict,
+    find_lawfulness, find_of_matrix, find_solution, find_summary, find_verdict,
 };
 use crate::read_matrices::{read_and_answer, read_one, read_to_check, read_to_replay, read_two};
 use crate::status::Status;
@@ -162,56 +161,13 @@ fn find_for<R: Threads + Sync, S: Source, G: Gate>(
 {
     let p = Modulus::new(command.modulus);
     match command.task {
-        Task::Rank => find_rank(
-            rt,
-            alloc,
-            &read_one(alloc, &p, source, limit)?,
-            command,
-            gate,
-        ),
-        Task::Rref => find_form(
-            rt,
-            alloc,
-            &read_one(alloc, &p, source, limit)?,
-            command,
-            gate,
-        ),
-        Task::Kernel => find_kernel(
-            rt,
-            alloc,
-            &read_one(alloc, &p, source, limit)?,
-            command,
-            gate,
-        ),
         Task::Solve => {
             let (a, b) = read_two(alloc, &p, source, limit)?;
             find_solution(rt, alloc, &a, &b, command, gate)
         }
-        Task::LeftKernel => find_left_kernel(
-            rt,
-            alloc,
-            &read_one(alloc, &p, source, limit)?,
-            command,
-            gate,
-        ),
-        Task::Inverse => find_inverse(
-            rt,
-            alloc,
-            &read_one(alloc, &p, source, limit)?,
-            command,
-            gate,
-        ),
-        Task::Pivots => {
-            let a = read_one(alloc, &p, source, limit)?;
-            find_pivots(rt, alloc, &a, command, gate)
-        }
         Task::Check => {
             let (a, certificate) = read_to_check(alloc, &p, source, limit)?;
             find_verdict(alloc, &a, &certificate)
-        }
-        Task::Trace => {
-            let a = read_one(alloc, &p, source, limit)?;
-            find_trace(rt, alloc, &a, command, gate)
         }
         Task::Replay => {
             let (a, trace) = read_to_replay(alloc, &p, source, limit)?;
@@ -222,9 +178,9 @@ fn find_for<R: Threads + Sync, S: Source, G: Gate>(
             Ok(Answer::Script(answers))
         }
         Task::Drill(generator) => find_summary(rt, alloc, &p, &generator, command, gate),
-        Task::Certify(kind) => {
+        _ => {
             let a = read_one(alloc, &p, source, limit)?;
-            find_certificate(rt, alloc, &a, kind, command, gate)
+            find_of_matrix(rt, alloc, &a, command, gate)
         }
     }
 }
