@@ -1,40 +1,55 @@
-// How rows are reduced by pivots where the coefficients aren't wanted.
+// How rows are reduced by pivots.
 ghost use Rattle.std.specs.Prelude.{◌≡◌, length, IfOk, OnOk};
 ghost use Rattle.residue_words.specs.Residues.{IsPrime};
 ghost use Rattle.pivot_table.specs.Order.{Triangular};
 ghost use Rattle.sparse_rows.specs.Stored.{IsSparse, spread};
 ghost use Rattle.triangular_solve.specs.PivotRows.{IsAlike};
-ghost use Rattle.triangular_solve.specs.Reduced.{FitsRest, IsSchurRow, workspace_of};
+ghost use Rattle.triangular_solve.specs.Reduced.{FitsReduced, FitsRest, IsReduced, IsSchurRow, reduction_of, workspace_of};
 
+use pivot_table::Pair;
 use sparse_rows::{Rows, Sparse};
 use std::alloc::{AllocError, Global};
 use std::marker::Model;
-use triangular_solve::{Triangle, Work};
+use triangular_solve::{FlatTriangle, Reduced, Triangle, Work};
 
-/// Reduces rows by the pivots of a triangle, without the coefficients, in the way that is cheaper for its matrix. Contracts see
-/// the triangle.
+/// Reduces rows by the pivots of a triangle; where the coefficients aren't wanted, in the way that is cheaper for its matrix: by
+/// flat rows or by walks. Contracts see the triangle.
 ///
-/// Workers share it; each has a `Work` of its own, made by `Work::new` for the triangle.
+/// Workers share it; each has a `Work` of its own.
 #[derive(Debug, Drop)]
 pub struct RowReducer<'t, 'a> {
     triangle: &'t Triangle<'a>,
+    flat: Option<FlatTriangle<'t, 'a>>,
 }
 
 impl<'t, 'a> Model for RowReducer<'t, 'a> {
+    ghost use Rattle.std.specs.Prelude.{◌≡◌, IfSome};
     ghost use Rattle.triangular_solve.specs.Triangle.{TriangleState};
 
     ghost Value = { TriangleState };
 
     ghost view = { λ r. r.triangle.now };
+
+    ghost invariant = { λ r. IfSome r.flat (λ f. f ≡ r.triangle.now) };
 }
 
 impl<'t, 'a> RowReducer<'t, 'a> {
-    /// Chooses the way for this triangle.
+    /// Chooses the way for this triangle by trying some rows; flat rows are made where they are cheaper for all rows.
     pub fn of(alloc: Global, triangle: &'t Triangle<'a>) -> Result<Self, AllocError>
         ensures { IfOk result (λ r. r ≡ triangle.now) }
     {
-        let _ = alloc;
-        Ok(RowReducer { triangle })
+        let flat = FlatTriangle::where_cheaper(alloc, triangle)?;
+        Ok(RowReducer { triangle, flat })
+    }
+
+    /// Reduces each row by a walk, which is the only way that gives the coefficients.
+    pub fn by_walks(triangle: &'t Triangle<'a>) -> Self
+        ensures { result ≡ triangle.now }
+    {
+        RowReducer {
+            triangle,
+            flat: None,
+        }
     }
 
     /// The triangle.
@@ -44,8 +59,49 @@ impl<'t, 'a> RowReducer<'t, 'a> {
         self.triangle
     }
 
+    /// The matrix.
+    pub fn rows(&self) -> &'a Rows
+        ensures { result.now ≡ self.now.rows }
+    {
+        self.triangle.rows()
+    }
+
+    /// The pairs in their order.
+    pub fn pairs(&self) -> &[Pair]
+        ensures pairs { result.now ≡ self.now.pairs }
+        ensures triangular { Triangular self.now.rows.matrix self.now.pairs }
+    {
+        self.triangle.pairs()
+    }
+
+    /// Room for a worker.
+    pub fn work(&self, alloc: Global) -> Result<Work, AllocError>
+        ensures { IfOk result (λ w. w ≡ workspace_of self.now) }
+    {
+        Work::new(alloc, self.triangle)
+    }
+
+    // Reduces a row with its coefficients.
+    pub(crate) fn reduce(
+        &self,
+        alloc: Global,
+        cols: &[u32],
+        vals: &[u64],
+        work: &mut Work,
+    ) -> Result<Reduced, AllocError>
+        requires row { IsSparse self.now.rows.modulus self.now.rows.matrix.width cols.now vals.now }
+        requires work { work.old ≡ workspace_of self.now }
+        ensures work { work.new ≡ work.old }
+        ensures fits { IfOk result (FitsReduced self.now) }
+        ensures reduced { IfOk result (λ r. IsPrime self.now.rows.modulus → IsReduced self.now.rows.modulus
+            self.now.rows.matrix self.now.pairs (spread self.now.rows.matrix.width cols.now vals.now)
+            (reduction_of r)) }
+    {
+        self.triangle.reduce(alloc, cols, vals, work)
+    }
+
     /// Makes `rest` what is left of the row that stands in these columns and values by the pivots: for a prime modulus its Schur
-    /// row. For any modulus it is 0 in their columns.
+    /// row. For any modulus it is 0 in their columns. Its memory serves again.
     pub fn rest(
         &self,
         alloc: Global,
@@ -65,6 +121,9 @@ impl<'t, 'a> RowReducer<'t, 'a> {
             self.now.rows.matrix self.now.pairs (spread self.now.rows.matrix.width cols.now vals.now)
             rest.new.row) }
     {
-        self.triangle.rest_to(alloc, cols, vals, work, rest)
+        match &self.flat {
+            Some(flat) => flat.rest_to(alloc, cols, vals, work, rest),
+            None => self.triangle.rest_to(alloc, cols, vals, work, rest),
+        }
     }
 }
