@@ -1,8 +1,9 @@
 //! Times what the documents give figures of: multiples of rows added, the factors of a matrix, its structural pivots, and texts read and
 //! written.
 //!
-//! The words say which: `lanes`, `factors WORKERS`, `pivots WORKERS`, `walks`, `board WORKERS`, `rounds WORKERS`, `read P` or `write P`, where P is a modulus; all but the first
-//! read a matrix from standard input. Times are in microseconds. With other words, or with none, one line says these.
+//! The words say which: `lanes`, `factors WORKERS`, `pivots WORKERS`, `walks`, `board WORKERS`, `rounds WORKERS`, `read P` or `write P`,
+//! where P is a modulus; all but the first read a matrix from standard input. Times are in microseconds. With other words, or with
+//! none, one line says these.
 #![tactic(auto)]
 
 mod added_rows;
