@@ -53,7 +53,16 @@ abbrev pub RepliesTo : ℕ → Matrix → List ℕ → Reply → Type 0
 RepliesTo p A b (Solution x) = (x.matrix.height ≡ A.width) × IsReducedSolution p A b (column x.matrix)
 RepliesTo p A b (Refuted y) = (y.matrix.width ≡ A.height) × IsRefutingCombination p A b (row y.matrix 0)
 
--- a reply to the column b: right for each matrix that q is the preparation of, where the modulus is prime
-abbrev pub IsReply : Preparation → Matrix → Reply → Type 0
-IsReply q b reply = (p : ℕ) (A : Matrix) → IsPrime p → IsMatrix p A → IsPreparedFor p A q →
-    RepliesTo p A (column b) reply
+-- for each modulus: a column of residues as high as A is wide, or a row of residues as wide as A is high
+abbrev pub HasReplyShape : Preparation → Reply → Type 0
+HasReplyShape q (Solution x) =
+    (x.modulus ≡ q.transformation.modulus) × IsMatrix q.transformation.modulus x.matrix
+    × (x.matrix.height ≡ q.width) × (x.matrix.width ≡ 1)
+HasReplyShape q (Refuted y) =
+    (y.modulus ≡ q.transformation.modulus) × IsMatrix q.transformation.modulus y.matrix
+    × (y.matrix.height ≡ 1) × (y.matrix.width ≡ q.transformation.matrix.width)
+
+-- a reply to the column b: of the shape told, and right for each matrix that q is the preparation of, where the modulus is prime
+pub record IsReply (q : Preparation) (b : Matrix) (reply : Reply) : Type 0 where
+  pub shape : HasReplyShape q reply
+  pub right : (p : ℕ) (A : Matrix) → IsPrime p → IsMatrix p A → IsPreparedFor p A q → RepliesTo p A (column b) reply

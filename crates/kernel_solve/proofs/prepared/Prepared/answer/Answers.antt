@@ -92,7 +92,7 @@ one_row-requires c =
     )
 
 pub returns-in-Some : goal.returns-in-Some
-returns-in-Some c = λ p A prime m form.
+returns-in-Some c =
     let B : Matrix = c.args.b.now.matrix in
     let K : Matrix = c.self.inside.relations.matrix in
     let T : Matrix = c.self.inside.transformation.matrix in
@@ -102,25 +102,36 @@ returns-in-Some c = λ p A prime m form.
     let hits : c.deref-2.result.now ≡ apply c.self.inside.relations.modulus K (column B) = c.deref-2.ensures.value ∙ c.in_ok-hits.ensures ∙ ap (apply c.self.inside.relations.modulus K) (c.deref.ensures.value ∙ c.in_ok-side.ensures) in
     let first : IsFirstNonzero (apply c.self.inside.relations.modulus K (column B)) c.in-Some.k = subst (λ xs. IsFirstNonzero xs c.in-Some.k) hits c.in-Some.ensures in
     let hit : IsFirstHit c.self.inside.relations.modulus K (column B) c.in-Some.k = hit_first c.self.inside.relations.modulus K (column B) c.in-Some.k first in
-    let q : Preparation = c.args.self.now in
-    let pt : mt ≡ p = ap (λ (q : Preparation). q.transformation.modulus) c.self.view_is ∙ form.modulus in
-    let pk : c.self.inside.relations.modulus ≡ p = c.self.invariant.modulus ∙ pt in
-    let kernel : IsKernel p (transposed A) K = subst (λ (q : Preparation). IsKernel p (transposed A) q.relations.matrix) (sym c.self.view_is) (form.relations prime) in
-    let high : T.width ≡ A.height = ap (λ (q : Preparation). q.transformation.matrix.width) c.self.view_is ∙ form.height in
-    let vb : IsVector p A.height (column B) = subst (λ n. IsVector p n (column B)) high (subst (λ m. IsVector m T.width (column B)) pt vt) in
-    let hit_p : IsFirstHit p K (column B) c.in-Some.k = subst (λ p. IsFirstHit p K (column B) c.in-Some.k) pk hit in
-    let refuting : IsRefutingCombination p A (column B) (divided p K (column B) c.in-Some.k) = first_hit_holds p A (column B) K c.in-Some.k prime m vb kernel hit_p in
-    let mk : ℕ = c.self.inside.relations.modulus in
-    let told : c.in_ok-hits.hits.items ≡ apply mk K (column B) = c.in_ok-hits.ensures ∙ ap (apply mk K) (c.deref.ensures.value ∙ c.in_ok-side.ensures) in
-    let value : c.index.result.now ≡ slice_index (apply mk K (column B)) c.in-Some.k =
-    c.index.ensures ∙ get_or_default c.in_ok-hits.hits.items c.in-Some.k c.index.result.now 0 (omega (arith, first.inside, ap length told)) ∙ ap (λ xs. slice_index xs c.in-Some.k) told in
-    let hit_value : c.index.result.now ≡ dot p K.width (row K c.in-Some.k) (column B) = value ∙ at_apply mk K (column B) c.in-Some.k hit.below ∙ ap (λ m. dot m K.width (row K c.in-Some.k) (column B)) pk in
-    let factor : c.inv-factor.result ≡ inverse p (dot p K.width (row K c.in-Some.k) (column B)) = c.inv-factor.ensures.value ∙ ap₂ inverse (c.modulus-in-Some.ensures.value ∙ pk) hit_value in
-    let is : row c.in_ok-one_row.field-0.matrix 0 ≡ divided p K (column B) c.in-Some.k = c.in_ok-one_row.ensures.row ∙ c.in_ok-y.ensures.row ∙ ap₂ (λ m f. multiple m f (row K c.in-Some.k)) pk factor in
-    let long : length c.in_ok-y.y.row ≡ K.width = ap length c.in_ok-y.ensures.row ∙ length_list_of (length (row K c.in-Some.k)) _ ∙ (c.height.ensures.sound.each c.in-Some.k hit.below).len in (
-      c.in_ok-one_row.ensures.width ∙ long ∙ c.self.invariant.same ∙ high,
-      subst (IsRefutingCombination p A (column B)) (sym is) refuting,
-    )
+    let long : length c.in_ok-y.y.row ≡ K.width = ap length c.in_ok-y.ensures.row ∙ length_list_of (length (row K c.in-Some.k)) _ ∙ (c.height.ensures.sound.each c.in-Some.k hit.below).len in
+    let pq : c.in_ok-one_row.field-0.modulus ≡ c.args.self.now.transformation.modulus =
+    c.in_ok-one_row.ensures.modulus ∙ c.in_ok-y.ensures.modulus ∙ c.self.invariant.modulus ∙ ap (λ (q : Preparation). q.transformation.modulus) c.self.view_is in
+    record {
+      shape = (
+        pq,
+        subst (λ n. IsMatrix n c.in_ok-one_row.field-0.matrix) pq c.in_ok-one_row.ensures.sound,
+        c.in_ok-one_row.ensures.height,
+        c.in_ok-one_row.ensures.width ∙ long ∙ c.self.invariant.same ∙ ap (λ (q : Preparation). q.transformation.matrix.width) c.self.view_is,
+      );
+      right = λ p A prime m form.
+          let q : Preparation = c.args.self.now in
+          let pt : mt ≡ p = ap (λ (q : Preparation). q.transformation.modulus) c.self.view_is ∙ form.modulus in
+          let pk : c.self.inside.relations.modulus ≡ p = c.self.invariant.modulus ∙ pt in
+          let kernel : IsKernel p (transposed A) K = subst (λ (q : Preparation). IsKernel p (transposed A) q.relations.matrix) (sym c.self.view_is) (form.relations prime) in
+          let high : T.width ≡ A.height = ap (λ (q : Preparation). q.transformation.matrix.width) c.self.view_is ∙ form.height in
+          let vb : IsVector p A.height (column B) = subst (λ n. IsVector p n (column B)) high (subst (λ m. IsVector m T.width (column B)) pt vt) in
+          let hit_p : IsFirstHit p K (column B) c.in-Some.k = subst (λ p. IsFirstHit p K (column B) c.in-Some.k) pk hit in
+          let refuting : IsRefutingCombination p A (column B) (divided p K (column B) c.in-Some.k) = first_hit_holds p A (column B) K c.in-Some.k prime m vb kernel hit_p in
+          let mk : ℕ = c.self.inside.relations.modulus in
+          let told : c.in_ok-hits.hits.items ≡ apply mk K (column B) = c.in_ok-hits.ensures ∙ ap (apply mk K) (c.deref.ensures.value ∙ c.in_ok-side.ensures) in
+          let value : c.index.result.now ≡ slice_index (apply mk K (column B)) c.in-Some.k =
+          c.index.ensures ∙ get_or_default c.in_ok-hits.hits.items c.in-Some.k c.index.result.now 0 (omega (arith, first.inside, ap length told)) ∙ ap (λ xs. slice_index xs c.in-Some.k) told in
+          let hit_value : c.index.result.now ≡ dot p K.width (row K c.in-Some.k) (column B) = value ∙ at_apply mk K (column B) c.in-Some.k hit.below ∙ ap (λ m. dot m K.width (row K c.in-Some.k) (column B)) pk in
+          let factor : c.inv-factor.result ≡ inverse p (dot p K.width (row K c.in-Some.k) (column B)) = c.inv-factor.ensures.value ∙ ap₂ inverse (c.modulus-in-Some.ensures.value ∙ pk) hit_value in
+          let is : row c.in_ok-one_row.field-0.matrix 0 ≡ divided p K (column B) c.in-Some.k = c.in_ok-one_row.ensures.row ∙ c.in_ok-y.ensures.row ∙ ap₂ (λ m f. multiple m f (row K c.in-Some.k)) pk factor in
+            c.in_ok-one_row.ensures.width ∙ long ∙ c.self.invariant.same ∙ high,
+            subst (IsRefutingCombination p A (column B)) (sym is) refuting,
+          );
+    }
 
 pub times-requires-2 : goal.times-requires-2
 times-requires-2 c =
@@ -154,30 +165,41 @@ at_leads-requires-clause-long c =
     ap length (c.in_ok-values-2.ensures.row ∙ c.deref-4.ensures.value ∙ c.in_ok-values.ensures) ∙ length_list_of T.height _ ∙ sym c.self.invariant.long ∙ sym (ap length c.deref-5.ensures.value)
 
 pub returns : goal.returns
-returns c = λ p A prime m form.
+returns c =
     let B : Matrix = c.args.b.now.matrix in
     let K : Matrix = c.self.inside.relations.matrix in
     let T : Matrix = c.self.inside.transformation.matrix in
     let mt : ℕ = c.self.inside.transformation.modulus in
     let vt : IsVector mt T.width (column B) = subst (λ n. IsVector mt n (column B)) (c.requires.height ∙ ap (λ (q : Preparation). q.transformation.matrix.width) (sym c.self.view_is))
     (subst (λ m. IsVector m B.height (column B)) (c.requires.modulus ∙ ap (λ (q : Preparation). q.transformation.modulus) (sym c.self.view_is)) (column_vector c.modulus.ensures.sound (omega (arith, c.requires.column)))) in
-    let q : Preparation = c.args.self.now in
-    let pt : mt ≡ p = ap (λ (q : Preparation). q.transformation.modulus) c.self.view_is ∙ form.modulus in
-    let pk : c.self.inside.relations.modulus ≡ p = c.self.invariant.modulus ∙ pt in
-    let kernel : IsKernel p (transposed A) K = subst (λ (q : Preparation). IsKernel p (transposed A) q.relations.matrix) (sym c.self.view_is) (form.relations prime) in
-    let high : T.width ≡ A.height = ap (λ (q : Preparation). q.transformation.matrix.width) c.self.view_is ∙ form.height in
-    let vb : IsVector p A.height (column B) = subst (λ n. IsVector p n (column B)) high (subst (λ m. IsVector m T.width (column B)) pt vt) in
-    let hits : c.deref-2.result.now ≡ apply c.self.inside.relations.modulus K (column B) = c.deref-2.ensures.value ∙ c.in_ok-hits.ensures ∙ ap (apply c.self.inside.relations.modulus K) (c.deref.ensures.value ∙ c.in_ok-side.ensures) in
-    let none : AllZero (apply p K (column B)) = subst (λ q. AllZero (apply q K (column B))) pk (subst AllZero hits c.in_default.ensures) in
-    let X : Matrix = c.in_ok-x.x.matrix in
-    let leads : List ℕ = c.self.inside.leads.items in
-    let px : c.in_ok-x.x.modulus ≡ p = c.in_ok-x.ensures.modulus ∙ c.in_ok-values-2.ensures.modulus ∙ c.modulus-2.ensures.value ∙ pt in
-    let tall : X.height ≡ A.width = c.in_ok-x.ensures.height ∙ ap (λ (q : Preparation). q.width) c.self.view_is ∙ form.width in
-    let vx : IsVector p A.width (column X) = subst (λ n. IsVector p n (column X)) tall (column_vector (subst (λ q. IsMatrix q X) px c.in_ok-x.ensures.sound) (omega (arith, c.in_ok-x.ensures.width))) in
-    let t : Transforms p A T leads = subst (λ (q : Preparation). Transforms p A q.transformation.matrix q.leads) (sym c.self.view_is) (form.transforms prime) in
-    let values : c.in_ok-values-2.values.row ≡ apply p T (column B) = c.in_ok-values-2.ensures.row ∙ c.deref-4.ensures.value ∙ c.in_ok-values.ensures ∙ ap₂ (λ q s. apply q T s) pt (c.deref-3.ensures.value ∙ c.in_ok-side.ensures) in
-    let at : IsAtLeads leads (apply p T (column B)) (column X) = subst (λ u. IsAtLeads leads u (column X)) values (subst (λ ls. IsAtLeads ls c.in_ok-values-2.values.row (column X)) c.deref-5.ensures.value c.in_ok-x.ensures.entries) in (
-      tall,
-      transformed_solves p A T leads (column B) (column X) prime.two_or_more m vb high c.self.invariant.long t vx at
-          (λ unsolvable. let w = unsolvable_hit_holds p A (column B) K prime m vb kernel unsolvable in not_hit p K (column B) none w.0 w.1),
-    )
+    let pq : c.in_ok-x.x.modulus ≡ c.args.self.now.transformation.modulus =
+    c.in_ok-x.ensures.modulus ∙ c.in_ok-values-2.ensures.modulus ∙ c.modulus-2.ensures.value ∙ ap (λ (q : Preparation). q.transformation.modulus) c.self.view_is in
+    record {
+      shape = (
+        pq,
+        subst (λ n. IsMatrix n c.in_ok-x.x.matrix) pq c.in_ok-x.ensures.sound,
+        c.in_ok-x.ensures.height ∙ ap (λ (q : Preparation). q.width) c.self.view_is,
+        c.in_ok-x.ensures.width,
+      );
+      right = λ p A prime m form.
+          let q : Preparation = c.args.self.now in
+          let pt : mt ≡ p = ap (λ (q : Preparation). q.transformation.modulus) c.self.view_is ∙ form.modulus in
+          let pk : c.self.inside.relations.modulus ≡ p = c.self.invariant.modulus ∙ pt in
+          let kernel : IsKernel p (transposed A) K = subst (λ (q : Preparation). IsKernel p (transposed A) q.relations.matrix) (sym c.self.view_is) (form.relations prime) in
+          let high : T.width ≡ A.height = ap (λ (q : Preparation). q.transformation.matrix.width) c.self.view_is ∙ form.height in
+          let vb : IsVector p A.height (column B) = subst (λ n. IsVector p n (column B)) high (subst (λ m. IsVector m T.width (column B)) pt vt) in
+          let hits : c.deref-2.result.now ≡ apply c.self.inside.relations.modulus K (column B) = c.deref-2.ensures.value ∙ c.in_ok-hits.ensures ∙ ap (apply c.self.inside.relations.modulus K) (c.deref.ensures.value ∙ c.in_ok-side.ensures) in
+          let none : AllZero (apply p K (column B)) = subst (λ q. AllZero (apply q K (column B))) pk (subst AllZero hits c.in_default.ensures) in
+          let X : Matrix = c.in_ok-x.x.matrix in
+          let leads : List ℕ = c.self.inside.leads.items in
+          let px : c.in_ok-x.x.modulus ≡ p = c.in_ok-x.ensures.modulus ∙ c.in_ok-values-2.ensures.modulus ∙ c.modulus-2.ensures.value ∙ pt in
+          let tall : X.height ≡ A.width = c.in_ok-x.ensures.height ∙ ap (λ (q : Preparation). q.width) c.self.view_is ∙ form.width in
+          let vx : IsVector p A.width (column X) = subst (λ n. IsVector p n (column X)) tall (column_vector (subst (λ q. IsMatrix q X) px c.in_ok-x.ensures.sound) (omega (arith, c.in_ok-x.ensures.width))) in
+          let t : Transforms p A T leads = subst (λ (q : Preparation). Transforms p A q.transformation.matrix q.leads) (sym c.self.view_is) (form.transforms prime) in
+          let values : c.in_ok-values-2.values.row ≡ apply p T (column B) = c.in_ok-values-2.ensures.row ∙ c.deref-4.ensures.value ∙ c.in_ok-values.ensures ∙ ap₂ (λ q s. apply q T s) pt (c.deref-3.ensures.value ∙ c.in_ok-side.ensures) in
+          let at : IsAtLeads leads (apply p T (column B)) (column X) = subst (λ u. IsAtLeads leads u (column X)) values (subst (λ ls. IsAtLeads ls c.in_ok-values-2.values.row (column X)) c.deref-5.ensures.value c.in_ok-x.ensures.entries) in (
+            tall,
+            transformed_solves p A T leads (column B) (column X) prime.two_or_more m vb high c.self.invariant.long t vx at
+                (λ unsolvable. let w = unsolvable_hit_holds p A (column B) K prime m vb kernel unsolvable in not_hit p K (column B) none w.0 w.1),
+          );
+    }
