@@ -167,9 +167,9 @@ module _ (w : ℕ) (leads : List ℕ) (C : ResidueMatrix) (B : Matrix) (few : le
     shape = (modulus, subst (λ n. IsMatrix n y.matrix) modulus matrix, tall, wide);
     right = λ p A prime m form.
         subst (λ p. IsPrime p → IsMatrix p A → IsPreparedFor p A q → RepliesTo p A (column B) (Refuted y)) form.modulus (λ prime m form. (
-            wide ∙ form.height,
-            refuted_holds leads C.matrix C.modulus (column B) few k last A (row y.matrix 0) prime m (subst (λ n. IsVector C.modulus n (column B)) form.height kept_vector) (form.relations prime) is,
-          )) prime m form;
+          wide ∙ form.height,
+          refuted_holds leads C.matrix C.modulus (column B) few k last A (row y.matrix 0) prime m (subst (λ n. IsVector C.modulus n (column B)) form.height kept_vector) (form.relations prime) is,
+        )) prime m form;
   }
 
   pub solved_is : (x : ResidueMatrix) → AreZeroBehind sums (length leads) → x.modulus ≡ C.modulus → IsMatrix x.modulus x.matrix → x.matrix.height ≡ w → x.matrix.width ≡ 1 →
@@ -180,12 +180,12 @@ module _ (w : ℕ) (leads : List ℕ) (C : ResidueMatrix) (B : Matrix) (few : le
         shape = (modulus, sound_x, tall, thin);
         right = λ p A prime m form.
             subst (λ p. IsPrime p → IsMatrix p A → IsPreparedFor p A q → RepliesTo p A (column B) (Solution x)) form.modulus (λ prime m form.
-                let vb : IsVector C.modulus A.height (column B) = subst (λ n. IsVector C.modulus n (column B)) form.height kept_vector in
-                let wide : x.matrix.height ≡ A.width = tall ∙ form.width in
-                let vx : IsVector C.modulus A.width (column x.matrix) = subst (λ n. IsVector C.modulus n (column x.matrix)) wide (column_vector sound_x (omega (arith, thin))) in (
-                  wide,
-                  transformed_solves C.modulus A q.transformation.matrix leads (column B) (column x.matrix) prime.two_or_more m vb form.height refl (form.transforms prime) vx
-                      (subst (λ u. IsAtLeads leads u (column x.matrix)) (transformed leads C.matrix C.modulus (column B) few) at)
-                      (solvable_holds leads C.matrix C.modulus (column B) few A prime m vb (form.relations prime) none),
-                )) prime m form;
+            let vb : IsVector C.modulus A.height (column B) = subst (λ n. IsVector C.modulus n (column B)) form.height kept_vector in
+            let wide : x.matrix.height ≡ A.width = tall ∙ form.width in
+            let vx : IsVector C.modulus A.width (column x.matrix) = subst (λ n. IsVector C.modulus n (column x.matrix)) wide (column_vector sound_x (omega (arith, thin))) in (
+              wide,
+              transformed_solves C.modulus A q.transformation.matrix leads (column B) (column x.matrix) prime.two_or_more m vb form.height refl (form.transforms prime) vx
+                  (subst (λ u. IsAtLeads leads u (column x.matrix)) (transformed leads C.matrix C.modulus (column B) few) at)
+                  (solvable_holds leads C.matrix C.modulus (column B) few A prime m vb (form.relations prime) none),
+            )) prime m form;
       }

@@ -199,10 +199,10 @@ module _ (p : ℕ) (A F : Matrix) (leads firsts : List ℕ) (r : ℕ) (two : 2 �
       let w = behind_within t l in (
         matrix_k.each t l,
         list_equal A.width _ _ (length_list_of A.width _) (length_list_of A.width _) (λ j lj.
-        at_apply p (transposed A) (row K t) j lj
-        ∙ ap (λ s. s % p) (sum_equal A.height _ _ (λ i li.
-        ap₂ (λ a b. a * b) (transposed_entry A j i lj li) (at_k t i l li) ∙ turn (entry A i j) (back (turned t) i)))
-        ∙ sym (left (turned t) j w.1 lj) ∙ before_zero (turned t) j w.0 w.1 lj ∙ sym (at_zeros A.width j lj)),
+            at_apply p (transposed A) (row K t) j lj
+            ∙ ap (λ s. s % p) (sum_equal A.height _ _ (λ i li.
+            ap₂ (λ a b. a * b) (transposed_entry A j i lj li) (at_k t i l li) ∙ turn (entry A i j) (back (turned t) i)))
+            ∙ sym (left (turned t) j w.1 lj) ∙ before_zero (turned t) j w.0 w.1 lj ∙ sym (at_zeros A.width j lj)),
       )
     where
       turn : (a b : ℕ) → a * b ≡ b * a

@@ -2,7 +2,9 @@
 ghost use Rattle.sparse_rows.specs.declared.rows.TheConstants.{LARGEST_SIZE};
 ghost use Rattle.std.specs.Prelude.{◌≡◌, ◌≤◌, IfOk};
 
-use crate::{Found, Inverse, Prepared, Reply, inverse, kernel, left_kernel, refuting_system, solution};
+use crate::{
+    Found, Inverse, Prepared, Reply, inverse, kernel, left_kernel, refuting_system, solution,
+};
 use echelon_form::Echelon;
 use residue_words::Modulus;
 use sparse_rows::{Rows, RowsBuilder};

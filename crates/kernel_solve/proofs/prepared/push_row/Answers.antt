@@ -16,10 +16,10 @@ loop-t-preserved c =
     elim c.if-n-cols.branch [
       | then-n-cols+in_ok-push w ↦
           rw w.to-is (pushed_more c.width-width.result c.args.k c.loop-t.t c.args.n cs vs c.args.to.now c.loop-t.to long c.cols-cols.ensures.ascending c.loop-t-test.true high c.loop-t.invariant w.push.new.self
-              (omega (arith, c.cols-cols.ensures.below_width c.loop-t.t c.loop-t-test.true, c.width-width.ensures.value)) w.in_ok-push.ensures.ok)
+          (omega (arith, c.cols-cols.ensures.below_width c.loop-t.t c.loop-t-test.true, c.width-width.ensures.value)) w.in_ok-push.ensures.ok)
       | else-n-cols w ↦
           rw w.to-is (pushed_left c.width-width.result c.args.k c.loop-t.t c.args.n cs vs c.args.to.now c.loop-t.to long c.cols-cols.ensures.ascending c.loop-t-test.true high c.loop-t.invariant
-              (omega (arith, w.if-n-cols.false)))
+          (omega (arith, w.if-n-cols.false)))
     ]
 
 pub returns : goal.returns
