@@ -83,7 +83,8 @@ impl Desk {
     pub fn take<R: Wait>(&self, rt: &R, taker: &mut Taker) -> Option<u32>
         requires { IsTakerOf self.now taker.old }
         ensures desk { IsTakerOf self.now taker.new }
-        ensures taken { MatchOption result (LeavesDrained taker.old taker.new) (TakesNumber taker.old taker.new) }
+        ensures taken { MatchOption result (LeavesDrained taker.old taker.new)
+            (TakesNumber taker.old taker.new) }
     {
         for _ in rt.forever() {
             match self.receiver.try_recv_as::<Take, R>(rt, &mut taker.pass) {

@@ -130,8 +130,21 @@ fn add_multiple(p: &Modulus, sums: &mut [u64], by: u64, cols: &[u32], vals: &[u6
     for k in 0..cols.len() {
         let j = cols[k] as usize;
         let product = p.mul(by, vals[k]);
-        sums[j] = p.add(sums[j], product);
+        sums[j] = sum_modulo(sums[j], product, p);
     }
+}
+
+// The residue of the sum of two residues. A difference that wraps is above the sum; this takes no branch, which would be missed
+// at random and take longer than the rest.
+fn sum_modulo(a: u64, b: u64, p: &Modulus) -> u64
+    requires left { a < p.now }
+    requires right { b < p.now }
+    ensures value { result ≡ (a + b) % p.now }
+    ensures residue { result < p.now }
+{
+    let p = p.p();
+    let sum = a + b;
+    sum.min(sum.wrapping_sub(p))
 }
 
 // Adds the combination of the rows of B with the coefficients that stand in these columns and values.

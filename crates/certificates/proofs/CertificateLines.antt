@@ -1,12 +1,10 @@
 -- The lines of words and the matrices that items have.
-use Rattle.std.proofs.Common.{ℕ, ◌≡◌, Bool, true, false, cond, List, [], ◌∷◌, ◌++◌, map, Option, None, Some, refl, sym, ap, ◌∙◌, append_assoc}
-use Rattle.std.specs.Prelude.{◌==◌, ◌-◌}
+use Rattle.std.proofs.Common.{ℕ, ◌≡◌, List, [], ◌∷◌, ◌++◌, map, Option, None, Some, refl, sym, ap, ◌∙◌, append_assoc}
 use Rattle.residue_words.specs.Matrix.{Matrix}
 use Rattle.sparse_rows.specs.Rows.{ResidueMatrix}
 use Rattle.sms_text.specs.Parts.{open_at}
 use Rattle.sms_text.specs.ReadingRows.{SaysRows}
-use Rattle.sms_text.specs.Text.{Due, Header, Outer, Item, Words, pivot_lines, texts_of_kind, matrices, outer_lines}
-use Rattle.sms_text.specs.OuterLines.{Pivot}
+use Rattle.sms_text.specs.Text.{Header, Item, Words, texts_of_kind, matrices, outer_lines}
 use Rattle.certificates.specs.declared.certificate.CertKind.{CertKind}
 use Rattle.certificates.specs.declared.certificate.CertKind.TheVariants.{Rank, Rref, Kernel}
 use Rattle.certificates.specs.Certificate.{HasExtra, claim_of}
@@ -41,14 +39,6 @@ pub extra_closed : (kind : CertKind) → open_at (extra_due kind) ≡ None
 extra_closed Rank = refl
 extra_closed Rref = refl
 extra_closed Kernel = refl
-
--- no text is open where pivots are due, and texts behind them
-pub pivots_closed : (n : ℕ) (rest : List Due) → open_at rest ≡ None → open_at (pivot_lines n ++ rest) ≡ None
-pivots_closed n rest closed = one_pivot (n == 0)
-  where
-    one_pivot : (b : Bool) → open_at (cond b [] (Outer (Pivot (n - 1)) ∷ []) ++ rest) ≡ None
-    one_pivot true = closed
-    one_pivot false = refl
 
 -- what is claimed, by its word and by its kind
 pub claim_is : (p : ℕ) (kind : CertKind) (extra : Option ResidueMatrix) → HasExtra p kind extra → claim_said (kind_word kind) (extra_values extra) ≡ claim_of kind extra

@@ -6,11 +6,13 @@ use Rattle.residue_words.specs.Matrix.{Matrix}
 use Rattle.row_space.specs.Factors as plain
 use Rattle.sparse_rows.specs.Rows.{ResidueMatrix}
 use Rattle.sms_text.specs.declared.kind.TextError.{TextError}
+use Rattle.sms_text.specs.OuterLines.{Pivot}
 use Rattle.sms_text.specs.OuterLines as form
-use Rattle.sms_text.specs.Parts.{PartDid, Wanted, open_at, wants}
+use Rattle.sms_text.specs.Parts.{PartDid, SaysLines, Wanted, open_at, wants}
 use Rattle.sms_text.specs.Reading.{InputState}
 use Rattle.sms_text.specs.ReadingRows.{RowsDid, SaysRows}
 use Rattle.sms_text.specs.Text.{Due, Header, Outer, Item, Words, due_behind, number_at, pivot_lines, texts_of_kind}
+use Rattle.sms_text.proofs.CountedLines.{counted_closed}
 use Rattle.sms_text.proofs.Parts.{ReadSoFar, part_missed, part_reads, part_sound, part_taken, so_far_begins, so_far_ends}
 use Rattle.sms_text.proofs.ReadingMatrices.{rows_missed, rows_taken}
 use Rattle.certificates.specs.declared.certificate.CertKind.{CertKind}
@@ -19,8 +21,8 @@ use Rattle.certificates.specs.declared.certificate.Certificate.{Certificate}
 use Rattle.certificates.specs.declared.title.Title.{Title}
 use Rattle.certificates.specs.Certificate.{HasExtra, claim_of}
 use Rattle.certificates.specs.CertificateText.{HasLines, SaysCertificate, claim_said, pivot_of}
-use Rattle.certificates.specs.CertificateParts.{IsTitle, SaysExtra, SaysPivots, SaysTitle, extra_due, extra_values}
-use Rattle.certificates.proofs.CertificateLines.{claim_is, have_more, pivots_closed, rows_have, texts_due, words_have}
+use Rattle.certificates.specs.CertificateParts.{IsTitle, SaysExtra, SaysTitle, extra_due, extra_values}
+use Rattle.certificates.proofs.CertificateLines.{claim_is, have_more, rows_have, texts_due, words_have}
 
 -- what is wanted is a certificate
 abbrev pub a_certificate : ℕ → Wanted
@@ -30,7 +32,7 @@ a_certificate p = wants p (Outer form.Certificate ∷ [])
 pub title_closed : (ws : List (List ℕ)) (t : Title) → IsTitle ws t → open_at (due_behind form.Certificate ws) ≡ None
 title_closed ws t is =
     ap (λ w. open_at (pivot_lines (number_at ws 3) ++ texts_of_kind w)) is.kind ∙ ap (λ d. open_at (pivot_lines (number_at ws 3) ++ d)) (texts_due t.kind)
-    ∙ pivots_closed (number_at ws 3) (Header ∷ Header ∷ extra_due t.kind) refl
+    ∙ counted_closed Pivot (number_at ws 3) (Header ∷ Header ∷ extra_due t.kind) refl
 
 -- the first line was read
 pub record TitleRead (p : ℕ) (t : Title) (old new : InputState) : Type 0 where
@@ -62,29 +64,29 @@ pub record MatricesRead (p : ℕ) (t : Title) (pivots : List Pair) (values : Lis
   pub has : HasLines p items (words ∷ lines) values
 
 -- the pivots were read behind it, or not
-pub pivots_read : (p : ℕ) (t : Title) (pivots : List Pair) (old mid new : InputState) → TitleRead p t old mid → PartDid (wants p (pivot_lines t.rank)) SaysPivots mid new (Ok pivots) →
+pub pivots_read : (p : ℕ) (t : Title) (pivots : List Pair) (old mid new : InputState) → TitleRead p t old mid → PartDid (wants p (pivot_lines t.rank)) (SaysLines pivot_of) mid new (Ok pivots) →
     MatricesRead p t pivots [] (Header ∷ Header ∷ extra_due t.kind) old new
 pivots_read p t pivots old mid new s did =
     let rest : List Due = Header ∷ Header ∷ extra_due t.kind in
-    let r = part_reads (wants p (pivot_lines t.rank)) SaysPivots mid new (Ok pivots) s.so_far.stands.sound did in
+    let r = part_reads (wants p (pivot_lines t.rank)) (SaysLines pivot_of) mid new (Ok pivots) s.so_far.stands.sound did in
     let m = r.reads.means in
-    let so_far = part_taken (a_certificate p) (pivot_lines t.rank) rest SaysPivots old mid new (Words s.words ∷ []) s.so_far refl pivots r in
+    let so_far = part_taken (a_certificate p) (pivot_lines t.rank) rest (SaysLines pivot_of) old mid new (Words s.words ∷ []) s.so_far refl pivots r in
     let P : List Item → Type 0 = λ i. ReadSoFar (a_certificate p) old new (Words s.words ∷ i) (r.reads.due ++ rest) in
     let Q : List Due → Type 0 = λ d. ReadSoFar (a_certificate p) old new (Words s.words ∷ map Words m.lines) (d ++ rest) in
     record {
       words = s.words;
       title = s.title;
       lines = m.lines;
-      pivots_are = m.pivots_are;
+      pivots_are = m.list_is;
       items = Words s.words ∷ map Words m.lines;
       so_far = subst Q m.whole (subst P m.items_are so_far);
       has = words_have p (s.words ∷ m.lines);
     }
 
-pub pivots_unread : (p : ℕ) (t : Title) (e : TextError) (old mid new : InputState) → TitleRead p t old mid → PartDid (wants p (pivot_lines t.rank)) SaysPivots mid new (Err e) →
+pub pivots_unread : (p : ℕ) (t : Title) (e : TextError) (old mid new : InputState) → TitleRead p t old mid → PartDid (wants p (pivot_lines t.rank)) (SaysLines pivot_of) mid new (Err e) →
     PartDid (a_certificate p) (SaysCertificate p) old new (Err e)
 pivots_unread p t e old mid new s did =
-    part_missed (a_certificate p) (pivot_lines t.rank) (Header ∷ Header ∷ extra_due t.kind) SaysPivots old mid new (Words s.words ∷ []) s.so_far refl (SaysCertificate p) e did
+    part_missed (a_certificate p) (pivot_lines t.rank) (Header ∷ Header ∷ extra_due t.kind) (SaysLines pivot_of) old mid new (Words s.words ∷ []) s.so_far refl (SaysCertificate p) e did
 
 -- a matrix was read behind it, or not
 pub matrix_read : (p : ℕ) (t : Title) (pivots : List Pair) (values : List Matrix) (due : List Due) (old mid new : InputState) (A : ResidueMatrix) → open_at due ≡ None →

@@ -1,36 +1,26 @@
 -- The written text of a certificate reads as this certificate.
-use Rattle.std.proofs.Common.{ℕ, suc, ◌≡◌, ◌+◌, ◌-◌, ◌^◌, ◌<◌, ◌≤◌, Bool, true, false, List, [], ◌∷◌, ◌++◌, length, map, Some, refl, sym, ap, ◌∙◌, subst, arith, append_assoc, append-nil}
-use Rattle.std.specs.Prelude.{◌==◌, All, codes}
+use Rattle.std.proofs.Common.{ℕ, ◌≡◌, ◌+◌, ◌-◌, ◌^◌, ◌<◌, Bool, true, List, [], ◌∷◌, ◌++◌, length, map, Some, refl, sym, ap, ◌∙◌, subst, arith, append_assoc, append-nil}
+use Rattle.std.specs.Prelude.{All, codes}
 use Rattle.std.specs.Fmt.{decimal}
-use Rattle.std.proofs.lemmas.Bool.Decides.{nat_tests}
-use Rattle.std.proofs.lemmas.List.Elements.{All-head, All-tail}
 use Rattle.residue_words.specs.declared.modulus.TheConstants.{MODULUS_BOUND}
 use Rattle.residue_words.specs.declared.plain.Pair.{Pair}
 use Rattle.residue_words.specs.Matrix.{Matrix, IsMatrix}
 use Rattle.row_space.specs.Factors as plain
 use Rattle.sms_text.specs.declared.reader.TheConstants.{LARGEST_TEXT_SIZE}
 use Rattle.sms_text.specs.Laws.{items_of}
-use Rattle.sms_text.specs.OuterLines.{Pivot, is_certificate, is_from_one_up_to, is_kind_word, is_pivot, is_up_to}
+use Rattle.sms_text.specs.OuterLines.{Pivot, is_certificate, is_kind_word, is_pivot}
 use Rattle.sms_text.specs.OuterLines as form
 use Rattle.sms_text.specs.Text.{Due, Header, Outer, Item, Words, due_behind, matrices, number_at, outer_lines, pivot_lines, texts_of_kind}
 use Rattle.sms_text.specs.Written.{pair_line, pair_lines}
+use Rattle.sms_text.proofs.CountedLines.{counted_carry, given_again, items_of_words}
 use Rattle.sms_text.proofs.Parts.{outer_says}
 use Rattle.sms_text.proofs.RoundTrip.{text_carries}
 use Rattle.sms_text.proofs.WrittenLines.{Carries, IsWord, carries_append, carries_nothing, carries_words, spaced}
-use Rattle.sms_text.proofs.WrittenNumbers.{Spells, above_zero, decimal_spells}
+use Rattle.sms_text.proofs.WrittenNumbers.{decimal_spells, from_one, up_to}
 use Rattle.sms_text.proofs.WrittenValues.{items_matrix_then, items_no_words}
 use Rattle.certificates.specs.CertificateText.{ClaimFitsText, HasLines, HasText, IsTextPlace, certificate_said, certificate_text, claim_said, claim_text, claim_word, pivot_of, title_line}
 use Rattle.certificates.specs.Laws.{ClaimIsModulo, IsModulo, WrittenCertificateReadsBack, certificate_items, claim_items, pivot_words, title_words}
 use Rattle.certificates.proofs.CertificateLines.{have_more, words_have}
-
--- a word that spells a number is of the form that this number asks for
-up_to : (most n : ℕ) (w : List ℕ) → Spells w n → n ≤ most → is_up_to most w ≡ true
-up_to most n w s low = rw (s.number, s.spelled) (grind (arith, nat_tests))
-
-from_one : (most i : ℕ) (w : List ℕ) → Spells w (i + 1) → i < most → is_from_one_up_to most w ≡ true
-from_one most i w s low =
-    let some : (i + 1 == 0) ≡ false = grind (arith, nat_tests) in
-    rw (up_to most (i + 1) w s (omega arith), s.spelled, some) refl
 
 kind_word_is : (claim : plain.Claim) → is_kind_word (claim_word claim) ≡ true
 kind_word_is plain.Claim.Rank = refl
@@ -100,24 +90,21 @@ title_carries p c has ended dues =
 abbrev pivot_items : List Pair → List Item
 pivot_items qs = map (λ q. Words (pivot_words q)) qs
 
-one_pivot : (n : ℕ) → pivot_lines (suc n) ≡ Outer (Pivot n) ∷ []
-one_pivot n = let less : suc n - 1 ≡ n = omega arith in rw (above_zero n) (ap (λ k. Outer (Pivot k) ∷ []) less)
-
 pair_spaced : (i j : ℕ) → pair_line i j ≡ spaced (decimal i) (decimal j ∷ []) ++ 10 ∷ []
 pair_spaced i j = simp append_assoc
 
-pivots_carry : (p : ℕ) (qs : List Pair) → All IsTextPlace qs → (ended : Bool) (dues : List Due) → Carries p ended (pivot_lines (length qs) ++ dues) dues (pair_lines qs) (pivot_items qs)
-pivots_carry p [] small ended dues = carries_nothing p ended dues
-pivots_carry p (q ∷ qs) small ended dues =
-    let here = All-head IsTextPlace q qs small in
+one_carries : (p : ℕ) (ended : Bool) (dues : List Due) (q : Pair) (n : ℕ) → IsTextPlace q →
+    Carries p ended (Outer (Pivot n) ∷ dues) (pivot_lines n ++ dues) (pair_line (q.row + 1) (q.col + 1)) (Words (pivot_words q) ∷ [])
+one_carries p ended dues q n here =
     let row = decimal_spells (q.row + 1) (omega (arith, here.0)) in
     let col = decimal_spells (q.col + 1) (omega (arith, here.1)) in
-    let n = length qs in
     let fits : is_pivot (pivot_words q) ≡ true = rw (from_one LARGEST_TEXT_SIZE q.row _ row here.0, from_one LARGEST_TEXT_SIZE q.col _ col here.1) refl in
-    let line = carries_words p ended (Outer (Pivot n)) dues (pair_line (q.row + 1) (q.col + 1)) (decimal (q.row + 1)) (decimal (q.col + 1) ∷ [])
-    (record { item = Words (pivot_words q); due = pivot_lines n }) (pair_spaced (q.row + 1) (q.col + 1)) row.word (col.word, tt) row.unmarked (outer_says p (Pivot n) (pivot_words q) fits) in
-    let P : List Due → Type 0 = λ d. Carries p ended (d ++ dues) dues (pair_lines (q ∷ qs)) (pivot_items (q ∷ qs)) in
-    subst P (sym (one_pivot n)) (carries_append p ended _ _ _ _ _ _ _ line (pivots_carry p qs (All-tail IsTextPlace q qs small) ended dues))
+    carries_words p ended (Outer (Pivot n)) dues (pair_line (q.row + 1) (q.col + 1)) (decimal (q.row + 1)) (decimal (q.col + 1) ∷ [])
+    (record { item = Words (pivot_words q); due = pivot_lines n }) (pair_spaced (q.row + 1) (q.col + 1)) row.word (col.word, tt) row.unmarked (outer_says p (Pivot n) (pivot_words q) fits)
+
+pivots_carry : (p : ℕ) (qs : List Pair) → All IsTextPlace qs → (ended : Bool) (dues : List Due) → Carries p ended (pivot_lines (length qs) ++ dues) dues (pair_lines qs) (pivot_items qs)
+pivots_carry p qs small ended dues =
+    counted_carry Pivot (λ (q : Pair). pair_line (q.row + 1) (q.col + 1)) pivot_words IsTextPlace p ended dues (one_carries p ended dues) qs small
 
 -- the matrix that is claimed
 claim_carries : (p : ℕ) (claim : plain.Claim) → p < 2 ^ 64 → ClaimIsModulo p claim → ClaimFitsText claim → (ended : Bool) (dues : List Due) →
@@ -137,22 +124,20 @@ certificate_carries p c small is has ended dues =
     carries_append p ended _ _ _ _ _ _ _ (carries_append p ended _ _ _ _ _ _ _ (carries_append p ended _ _ _ _ _ _ _ (carries_append p ended _ _ _ _ _ _ _ title pivots) left) right)
     (claim_carries p c.claim small is.claim has.claim ended dues)
 
--- what the items are
-pivot_lines_are : (qs : List Pair) → pivot_items qs ≡ map Words (map pivot_words qs)
-pivot_lines_are [] = refl
-pivot_lines_are (q ∷ qs) = ap (λ l. Words (pivot_words q) ∷ l) (pivot_lines_are qs)
-
-pivots_again : (qs : List Pair) → All IsTextPlace qs → map pivot_of (map pivot_words qs) ≡ qs
-pivots_again [] small = refl
-pivots_again (q ∷ qs) small =
-    let here = All-head IsTextPlace q qs small in
+-- what the lines give
+one_again : (q : Pair) → IsTextPlace q → pivot_of (pivot_words q) ≡ q
+one_again q here =
     let row = (decimal_spells (q.row + 1) (omega (arith, here.0))).spelled in
     let col = (decimal_spells (q.col + 1) (omega (arith, here.1))).spelled in
     let same_row : number_at (pivot_words q) 0 - 1 ≡ q.row = omega (arith, row) in
     let same_col : number_at (pivot_words q) 1 - 1 ≡ q.col = omega (arith, col) in
-    ap (λ r. record { row = r; col = number_at (pivot_words q) 1 - 1 } ∷ map pivot_of (map pivot_words qs)) same_row
-    ∙ ap (λ k. record { row = q.row; col = k } ∷ map pivot_of (map pivot_words qs)) same_col
-    ∙ ap (λ l. q ∷ l) (pivots_again qs (All-tail IsTextPlace q qs small))
+    ap (λ r. made r (number_at (pivot_words q) 1 - 1)) same_row ∙ ap (made q.row) same_col
+  where
+    made : ℕ → ℕ → Pair
+    made r c = record { row = r; col = c }
+
+pivots_again : (qs : List Pair) → All IsTextPlace qs → map pivot_of (map pivot_words qs) ≡ qs
+pivots_again qs small = given_again pivot_of pivot_words IsTextPlace one_again qs small
 
 matrix_has : (p : ℕ) (A : Matrix) → IsMatrix p A → HasLines p (items_of A) [] (A ∷ [])
 matrix_has p A is = record { words = λ more. items_no_words p A more; matrices = λ more. items_matrix_then p A more is }
@@ -171,7 +156,7 @@ all_values c = c.left ∷ c.right ∷ claim_values c.claim
 certificate_has : (p : ℕ) (c : plain.Certificate) → IsModulo p c → HasLines p (certificate_items c) (all_lines c) (all_values c)
 certificate_has p c is =
     let first : HasLines p (Words (title_words c) ∷ pivot_items c.pivots) (all_lines c) [] =
-    subst (λ l. HasLines p (Words (title_words c) ∷ l) (all_lines c) []) (sym (pivot_lines_are c.pivots)) (words_have p (all_lines c)) in
+    subst (λ l. HasLines p (Words (title_words c) ∷ l) (all_lines c) []) (sym (items_of_words pivot_words c.pivots)) (words_have p (all_lines c)) in
     let left = have_more p (Words (title_words c) ∷ pivot_items c.pivots) (items_of c.left) (all_lines c) [] (c.left ∷ []) first (matrix_has p c.left is.left) in
     let right = have_more p _ (items_of c.right) (all_lines c) (c.left ∷ []) (c.right ∷ []) left (matrix_has p c.right is.right) in
     have_more p _ (claim_items c.claim) (all_lines c) (c.left ∷ c.right ∷ []) (claim_values c.claim) right (claim_has p c.claim is.claim)

@@ -1,7 +1,6 @@
 -- The parts of a certificate's text that are read one after another.
-use Rattle.std.specs.Prelude.{◌≡◌, ◌<◌, ◌≤◌, true, ℕ, List, [], ◌∷◌, Option, None, Some, map, slice_index_or}
+use Rattle.std.specs.Prelude.{◌≡◌, ◌<◌, ◌≤◌, true, ℕ, List, [], ◌∷◌, Option, None, Some, slice_index_or}
 use Rattle.residue_words.specs.declared.modulus.TheConstants.{MODULUS_BOUND}
-use Rattle.residue_words.specs.declared.plain.Pair.{Pair}
 use Rattle.residue_words.specs.Matrix.{Matrix}
 use Rattle.sparse_rows.specs.Rows.{ResidueMatrix}
 use Rattle.sms_text.specs.declared.reader.TheConstants.{LARGEST_TEXT_SIZE}
@@ -13,7 +12,7 @@ use Rattle.certificates.specs.declared.certificate.CertKind.{CertKind}
 use Rattle.certificates.specs.declared.certificate.CertKind.TheVariants.{Rank, Rref, Kernel}
 use Rattle.certificates.specs.declared.title.Title.{Title}
 use Rattle.certificates.specs.Certificate.{HasExtra}
-use Rattle.certificates.specs.CertificateText.{FitsText, HasLines, kind_word, pivot_of}
+use Rattle.certificates.specs.CertificateText.{FitsText, HasLines, kind_word}
 
 -- these words are a first line that says this
 pub record IsTitle (ws : List (List ℕ)) (t : Title) : Type 0 where
@@ -30,13 +29,6 @@ pub record SaysTitle (t : Title) (items : List Item) (due : List Due) : Type 0 w
   pub items_are : items ≡ Words words ∷ []
   pub due_are : due ≡ due_behind form.Certificate words
   pub title : IsTitle words t
-
--- the lines of all pivots were read
-pub record SaysPivots (pivots : List Pair) (items : List Item) (due : List Due) : Type 0 where
-  pub whole : due ≡ []
-  pub lines : List (List (List ℕ))
-  pub items_are : items ≡ map Words lines
-  pub pivots_are : pivots ≡ map pivot_of lines
 
 -- the texts behind the factors, and the matrices that they are
 abbrev pub extra_due : CertKind → List Due

@@ -4,11 +4,11 @@ ghost use Rattle.residue_words.specs.declared.modulus.TheConstants.{MODULUS_BOUN
 ghost use Rattle.sms_text.specs.declared.reader.TheConstants.{LARGEST_TEXT_SIZE};
 ghost use Rattle.sms_text.specs.OuterLines.{is_pivot};
 ghost use Rattle.sms_text.specs.OuterLines as form;
-ghost use Rattle.sms_text.specs.Parts.{PartDid, wants};
+ghost use Rattle.sms_text.specs.Parts.{PartDid, SaysLines, wants};
 ghost use Rattle.sms_text.specs.Reading.{input};
 ghost use Rattle.sms_text.specs.Text.{Outer, pivot_lines};
 ghost use Rattle.certificates.specs.Certificate.{IsFormed, certificate_of};
-ghost use Rattle.certificates.specs.CertificateParts.{ExtraFitsText, SaysTitle, SaysPivots, SaysExtra, extra_due};
+ghost use Rattle.certificates.specs.CertificateParts.{ExtraFitsText, SaysTitle, SaysExtra, extra_due};
 ghost use Rattle.certificates.specs.CertificateText.{HasText, IsTextPlace, SaysCertificate, pivot_of};
 
 use crate::certificate::{CertKind, Certificate};
@@ -79,7 +79,7 @@ fn read_pivots<S: Source>(
 ) -> Result<List<Pair>, TextError>
     requires sound { reader.old.error ≡ None }
     requires closed { reader.old.open_text ≡ None }
-    ensures did { (p : ℕ) → PartDid (wants p (pivot_lines rank)) SaysPivots
+    ensures did { (p : ℕ) → PartDid (wants p (pivot_lines rank)) (SaysLines pivot_of)
         (input reader.old (S.state source.old)) (input reader.new (S.state source.new)) result }
     ensures count { IfOk result (λ pivots. length pivots ≡ rank) }
     ensures places { IfOk result (All IsTextPlace) }

@@ -2,7 +2,7 @@
 ghost use Rattle.std.specs.Prelude.{◌≡◌, ◌≤◌, ◌++◌, ◌∷◌, [], codes, length};
 ghost use Rattle.sms_text.specs.Writing.{Adds, Writes, output};
 ghost use Rattle.certificates.specs.Certificate.{IsFormed, certificate_of};
-ghost use Rattle.certificates.specs.CertificateText.{HasText, certificate_text, kind_word, title_line};
+ghost use Rattle.certificates.specs.CertificateText.{HasText, certificate_text, kind_word};
 ghost use Rattle.certificates.specs.CertificateParts.{ExtraFitsText, extra_text};
 
 use crate::certificate::{CertKind, Certificate};
@@ -20,37 +20,13 @@ pub fn write<K: Sink>(out: &mut K, certificate: &Certificate) -> Result<(), Writ
         (K.state out.old) (K.state out.new) }
 {
     let mut blocks = BlockWriter::new();
-    add_title(
-        out,
-        &mut blocks,
-        certificate.kind,
-        certificate.p,
-        certificate.rank,
-    )?;
+    let rank = u64::from(certificate.rank);
+    blocks.add_title(out, title_start(certificate.kind), certificate.p, rank)?;
     blocks.add_pairs(out, certificate.pivots.items())?;
     add_rows(out, &mut blocks, &certificate.l)?;
     add_rows(out, &mut blocks, &certificate.u)?;
     add_extra(out, &mut blocks, &certificate.extra)?;
     blocks.send(out)
-}
-
-// Adds the first line.
-fn add_title<K: Sink>(
-    out: &mut K,
-    blocks: &mut BlockWriter,
-    kind: CertKind,
-    p: u64,
-    rank: u32,
-) -> Result<(), WriteFault>
-    ensures { Adds result (title_line (kind_word kind) p rank)
-        (output blocks.old (K.state out.old)) (output blocks.new (K.state out.new)) }
-{
-    blocks.add(out, title_start(kind))?;
-    blocks.add_number(out, p)?;
-    blocks.add(out, b" ")?;
-    blocks.add_number(out, u64::from(rank))?;
-    blocks.add(out, b"\n")?;
-    Ok(())
 }
 
 // The first words of a certificate of this kind.

@@ -54,6 +54,7 @@ fn prepared<'a, L: Ledger>(
             walk,
             number,
             from: first_row(number, count, height),
+            steps: 0,
         });
     }
     Ok(workers)
@@ -84,22 +85,26 @@ fn run_all<R: Threads + Sync, G: Gate>(
     );
 }
 
-// Takes the workers' seats over, and lets their walks go.
-fn join_all(board: &Board<'_>, seat: &mut Seat, workers: Vec<Worker<'_>>)
+// Takes the workers' seats over, and lets their walks go. Tells how many steps they took, modulo 2^64.
+fn join_all(board: &Board<'_>, seat: &mut Seat, workers: Vec<Worker<'_>>) -> u64
     requires seat { IsSeatOf board.now seat.old }
     requires workers { All (IsWorkerOf board.now) workers.items }
     ensures { IsSeatOf board.now seat.new }
 {
     let mut workers = workers;
+    let mut taken = 0u64;
     while let Some(worker) = workers.pop() {
         let Worker {
             seat: other,
             walk: _walk,
             number: _number,
             from: _from,
+            steps,
         } = worker;
         board.join(seat, other);
+        taken = taken.wrapping_add(steps);
     }
+    taken
 }
 
 // Tries a row, unless it is done.
@@ -148,7 +153,8 @@ fn sweep<L: Ledger>(book: &mut Book, walk: &mut Walk, done: &Marks, steps: &mut 
     }
 }
 
-// Grows the book by several workers, and tells the starts of what they published. It takes all memory before the first begins.
+// Grows the book by several workers, and tells the starts of what they published and how many steps were taken, modulo 2^64. It
+// takes all memory before the first begins.
 fn search_with<'a, R: Threads + Sync, G: Gate, L: Ledger>(
     rt: &R,
     alloc: Global,
@@ -156,7 +162,7 @@ fn search_with<'a, R: Threads + Sync, G: Gate, L: Ledger>(
     workers: u32,
     gate: &G,
     blank: Blank,
-) -> Result<(Book<'a>, Starts), AllocError>
+) -> Result<(Book<'a>, Starts, u64), AllocError>
     requires name { blank.name ≡ L.name }
     requires parts { blank.parts ≡ L.parts }
     requires some { 0 < blank.parts }
@@ -171,7 +177,7 @@ fn search_with<'a, R: Threads + Sync, G: Gate, L: Ledger>(
     let mut walk = walk_over(alloc, &book, &mut steps)?;
     let mut team = prepared(alloc, &book, &board, &mut seat, workers, &mut steps)?;
     run_all(rt, &board, gate, team.as_mut_slice());
-    join_all(&board, &mut seat, team);
+    let taken = join_all(&board, &mut seat, team);
     let Closed {
         book: closed,
         done,
@@ -180,17 +186,17 @@ fn search_with<'a, R: Threads + Sync, G: Gate, L: Ledger>(
     let mut closed = closed;
     follow(&mut walk, closed.pairs(), first, &mut steps);
     sweep(&mut closed, &mut walk, &done, &mut steps);
-    Ok((closed, starts))
+    Ok((closed, starts, taken.wrapping_add(steps.count())))
 }
 
-// Grows the book by several workers, and tells the starts of what they published.
+// Grows the book by several workers, and tells the starts of what they published and how many steps were taken, modulo 2^64.
 pub(crate) fn search_together<'a, R: Threads + Sync, G: Gate>(
     rt: &R,
     alloc: Global,
     book: Book<'a>,
     workers: u32,
     gate: &G,
-) -> Result<(Book<'a>, Starts), AllocError>
+) -> Result<(Book<'a>, Starts, u64), AllocError>
     ensures rows { IfOk result (λ t. t.0.rows ≡ book.entry.rows) }
     ensures begins { IfOk result (λ t. StartsWith t.0.pairs book.entry.pairs) }
     ensures maximal { IfOk result (λ t. Maximal book.entry.rows.matrix t.0.pairs) }

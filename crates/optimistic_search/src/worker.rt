@@ -10,13 +10,15 @@ use pivot_table::{Board, Seat};
 use std::marker::Brand;
 use std::sync::ledger::{Blank, Ledger};
 
-// What one worker has: a seat at the board, a walk over what the seat has seen, its number, and the row that it begins at.
+// What one worker has: a seat at the board, a walk over what the seat has seen, its number, the row that it begins at, and how many
+// steps it has taken, modulo 2^64.
 #[derive(Drop)]
 pub(crate) struct Worker<'a> {
     pub(crate) seat: Seat,
     pub(crate) walk: Walk<'a>,
     pub(crate) number: u32,
     pub(crate) from: u32,
+    pub(crate) steps: u64,
 }
 
 // The row that a worker begins at: the workers begin as far apart as they can.
@@ -29,7 +31,7 @@ pub(crate) fn first_row(number: u32, workers: u32, height: u32) -> u32
 }
 
 impl<'a> Worker<'a> {
-    // Takes the rows between two.
+    // Takes the rows from one on and before another, from the last to the first.
     fn take_rows<G: Gate, L: Ledger>(
         &mut self,
         board: &Board<'_>,
@@ -42,7 +44,7 @@ impl<'a> Worker<'a> {
         requires inside { to ≤ board.now.rows.matrix.height }
         ensures { IsWorkerOf board.now self.new }
     {
-        for row in from..to {
+        for row in (from..to).rev() {
             let _ = take_row(
                 board,
                 &mut self.seat,
@@ -55,7 +57,7 @@ impl<'a> Worker<'a> {
         }
     }
 
-    // Goes once through the rows, in cyclic order from its first row on.
+    // Goes once through the rows, in cyclic order from its first row down.
     fn go_round<G: Gate, L: Ledger>(&mut self, board: &Board<'_>, gate: &G, blank: Blank)
         requires worker { IsWorkerOf board.now self.old }
         requires name { blank.name ≡ L.name }
@@ -65,9 +67,10 @@ impl<'a> Worker<'a> {
     {
         let mut steps = Steps::<L>::new(blank);
         let height = board.rows().height();
-        let from = self.from;
-        self.take_rows(board, from, height, gate, &mut steps);
-        self.take_rows(board, 0, from, gate, &mut steps);
+        let above = (self.from + 1).min(height);
+        self.take_rows(board, 0, above, gate, &mut steps);
+        self.take_rows(board, above, height, gate, &mut steps);
+        self.steps = steps.count();
     }
 
     // Goes once through the rows.

@@ -19,8 +19,9 @@ use std::thread::Threads;
 /// For every number of workers the book begins with the pairs that it had, each new pair was alive when it came, and nothing is
 /// alive afterwards. One worker tries the rows in ascending order and appends each that has an alive column with the least, so that
 /// what it finds is a function of the book; it doesn't call the gate. More workers go at once, on a board that they share without a
-/// lock: each goes once through the rows, the first from row 0 and the others from rows evenly apart, and takes those that no other
-/// has. What they find depends on their turns. What they should have left is swept by the calling thread.
+/// lock: each goes once through the rows, in cyclic order down from a row of its own, the first from row 0 and the others from rows
+/// evenly apart, and takes those that no other has. What they find depends on their turns. What they should have left is swept by
+/// the calling thread.
 ///
 /// One worker keeps a level for each column, the longest path of steps that leads to it. A walk leaves out the columns whose level is
 /// above that of every candidate, and a candidate of level 0 is alive without a walk. It takes 13 bytes a column and 16 bytes a pair
@@ -46,7 +47,7 @@ pub fn search<'a, R: Threads + Sync, G: Gate>(
     if workers == 1 || has_few_entries(book.rows()) {
         return search_alone(alloc, book);
     }
-    let (found, _starts) = search_together(rt, alloc, book, workers, gate)?;
+    let (found, _starts, _steps) = search_together(rt, alloc, book, workers, gate)?;
     Ok(found)
 }
 
@@ -90,10 +91,31 @@ pub fn search_traced<'a, R: Threads + Sync, G: Gate>(
             versions,
         });
     }
-    let (found, starts) = search_together(rt, alloc, book, workers, gate)?;
+    let (found, starts, _steps) = search_together(rt, alloc, book, workers, gate)?;
     let versions = started(alloc, &starts, found.pairs().len())?;
     Ok(Traced {
         book: found,
         versions,
     })
+}
+
+/// What `search` does with more workers than one, for every number of workers and every matrix, and how many steps the walks took,
+/// modulo 2^64.
+///
+/// It is kept to measure with: one worker goes on a board too, by walks, and in the order of the others.
+pub fn search_counted<'a, R: Threads + Sync, G: Gate>(
+    rt: &R,
+    alloc: Global,
+    book: Book<'a>,
+    workers: u32,
+    gate: &G,
+) -> Result<(Book<'a>, u64), AllocError>
+    requires some { 1 ≤ workers }
+    requires few { workers ≤ 64 }
+    ensures rows { IfOk result (λ t. t.0.rows ≡ book.entry.rows) }
+    ensures begins { IfOk result (λ t. StartsWith t.0.pairs book.entry.pairs) }
+    ensures maximal { IfOk result (λ t. Maximal book.entry.rows.matrix t.0.pairs) }
+{
+    let (found, _starts, steps) = search_together(rt, alloc, book, workers, gate)?;
+    Ok((found, steps))
 }

@@ -2,6 +2,5 @@ pub mod Appending
 pub mod Example
 pub mod FoundTraces
 pub mod ReplayedTraces
-pub mod StepsRead
 pub mod TraceRead
 pub mod WrittenTraces

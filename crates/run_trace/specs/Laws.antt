@@ -21,7 +21,8 @@ abbrev pub publication_words : Publication → List (List ℕ)
 publication_words x = decimal (x.pair.row + 1) ∷ decimal (x.pair.col + 1) ∷ decimal x.version ∷ []
 
 abbrev pub trace_items : Trace → List Item
-trace_items t = Words (trace_title_words t) ∷ map (λ (x : Publication). Words (publication_words x)) t.publications
+trace_items t = Words (trace_title_words t)
+    ∷ map (λ (x : Publication). Words (publication_words x)) t.publications
 
 -- The written text of a trace reads as this trace, modulo whatever the texts around it are, whatever stands behind it and whichever
 -- lines are due behind it; the lines behind it are read next, with the room that it leaves, and from the number of the line behind it on.

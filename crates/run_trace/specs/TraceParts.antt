@@ -1,13 +1,11 @@
 -- The parts of a trace's text that are read one after another.
-use Rattle.std.specs.Prelude.{◌≡◌, ◌<◌, ◌≤◌, true, ℕ, List, [], ◌∷◌, map}
+use Rattle.std.specs.Prelude.{◌≡◌, ◌<◌, ◌≤◌, true, ℕ, List, [], ◌∷◌}
 use Rattle.residue_words.specs.declared.modulus.TheConstants.{MODULUS_BOUND}
 use Rattle.sms_text.specs.declared.reader.TheConstants.{LARGEST_TEXT_SIZE}
 use Rattle.sms_text.specs.OuterLines as form
 use Rattle.sms_text.specs.OuterLines.{is_trace}
 use Rattle.sms_text.specs.Text.{Due, Item, Words, due_behind, number_at}
-use Rattle.run_trace.specs.declared.publication.Publication.{Publication}
 use Rattle.run_trace.specs.declared.title.Title.{Title}
-use Rattle.run_trace.specs.TraceText.{publication_of}
 
 -- these words are a first line that says this
 pub record IsTraceTitle (ws : List (List ℕ)) (t : Title) : Type 0 where
@@ -23,10 +21,3 @@ pub record SaysTraceTitle (t : Title) (items : List Item) (due : List Due) : Typ
   pub items_are : items ≡ Words words ∷ []
   pub due_are : due ≡ due_behind form.Trace words
   pub title : IsTraceTitle words t
-
--- the lines of all publications were read
-pub record SaysSteps (publications : List Publication) (items : List Item) (due : List Due) : Type 0 where
-  pub whole : due ≡ []
-  pub lines : List (List (List ℕ))
-  pub items_are : items ≡ map Words lines
-  pub publications_are : publications ≡ map publication_of lines

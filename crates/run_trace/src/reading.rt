@@ -4,10 +4,10 @@ ghost use Rattle.residue_words.specs.declared.modulus.TheConstants.{MODULUS_BOUN
 ghost use Rattle.sms_text.specs.declared.reader.TheConstants.{LARGEST_TEXT_SIZE};
 ghost use Rattle.sms_text.specs.OuterLines.{is_step};
 ghost use Rattle.sms_text.specs.OuterLines as form;
-ghost use Rattle.sms_text.specs.Parts.{PartDid, wants};
+ghost use Rattle.sms_text.specs.Parts.{PartDid, SaysLines, wants};
 ghost use Rattle.sms_text.specs.Reading.{input};
 ghost use Rattle.sms_text.specs.Text.{Outer, step_lines};
-ghost use Rattle.run_trace.specs.TraceParts.{SaysTraceTitle, SaysSteps};
+ghost use Rattle.run_trace.specs.TraceParts.{SaysTraceTitle};
 ghost use Rattle.run_trace.specs.TraceText.{HasTraceText, IsTextPublication, SaysTrace, publication_of};
 
 use crate::publication::Publication;
@@ -68,7 +68,7 @@ fn read_steps<S: Source>(
 ) -> Result<List<Publication>, TextError>
     requires sound { reader.old.error ≡ None }
     requires closed { reader.old.open_text ≡ None }
-    ensures did { (p : ℕ) → PartDid (wants p (step_lines count)) SaysSteps
+    ensures did { (p : ℕ) → PartDid (wants p (step_lines count)) (SaysLines publication_of)
         (input reader.old (S.state source.old)) (input reader.new (S.state source.new)) result }
     ensures count { IfOk result (λ publications. length publications ≡ count) }
     ensures fits { IfOk result (All IsTextPublication) }

@@ -1,7 +1,7 @@
 // Traces written as texts.
 ghost use Rattle.std.specs.Prelude.{All};
 ghost use Rattle.sms_text.specs.Writing.{Adds, Writes, output};
-ghost use Rattle.run_trace.specs.TraceText.{HasTraceText, IsTextPublication, publication_lines, trace_title, trace_text};
+ghost use Rattle.run_trace.specs.TraceText.{HasTraceText, IsTextPublication, publication_lines, trace_text};
 
 use crate::publication::Publication;
 use crate::trace::Trace;
@@ -18,27 +18,9 @@ pub fn write<K: Sink>(out: &mut K, trace: &Trace) -> Result<(), WriteFault>
 {
     let publications = trace.publications.items();
     let mut blocks = BlockWriter::new();
-    add_title(out, &mut blocks, trace.p, publications.len() as u64)?;
+    blocks.add_title(out, b"trace ", trace.p, publications.len() as u64)?;
     add_publications(out, &mut blocks, publications)?;
     blocks.send(out)
-}
-
-// Adds the first line.
-fn add_title<K: Sink>(
-    out: &mut K,
-    blocks: &mut BlockWriter,
-    p: u64,
-    count: u64,
-) -> Result<(), WriteFault>
-    ensures { Adds result (trace_title p count)
-        (output blocks.old (K.state out.old)) (output blocks.new (K.state out.new)) }
-{
-    blocks.add(out, b"trace ")?;
-    blocks.add_number(out, p)?;
-    blocks.add(out, b" ")?;
-    blocks.add_number(out, count)?;
-    blocks.add(out, b"\n")?;
-    Ok(())
 }
 
 // Adds a line for each publication.

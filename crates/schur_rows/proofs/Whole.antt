@@ -25,6 +25,19 @@ unit_same r k l = at_list_of r (λ j. if j == k then 1 else 0) k l ∙ cond-true
 unit_other : (r k i : ℕ) → i < r → i ≢ k → slice_index (unit r k) i ≡ 0
 unit_other r k i l d = at_list_of r (λ j. if j == k then 1 else 0) i l ∙ cond-false {A = ℕ} (eqb i k) 1 0 (ne_eqb i k d)
 
+-- what holds of a reducer's triangle holds of the triangle
+pub whole_of : {r t : TriangleState} {kept : Bool} {s : SchurRows} → r ≡ t → IsPartTo r kept 0 r.rows.matrix.height s → IsPartTo t kept 0 t.rows.matrix.height s
+whole_of {r} {t} {kept} {s} e h = subst (λ (t : TriangleState). IsPartTo t kept 0 t.rows.matrix.height s) e h
+
+pub whole_fits : {t : TriangleState} {kept : Bool} {s : SchurRows} → IsPartTo t kept 0 t.rows.matrix.height s → FitsRound t s
+whole_fits h = record {
+  rest = record { modulus = h.0.modulus; matrix = h.0.rest; height = omega (arith, h.1); width = h.0.width };
+  modulus = h.0.coefficient_modulus;
+  matrix = h.0.coefficients;
+  height = omega (arith, h.1, h.0.height);
+  width = h.0.coefficient_width;
+}
+
 module _ {t : TriangleState} {kept : Bool} {s : SchurRows} (tri : Triangular t.rows.matrix t.pairs) (h : IsPartTo t kept 0 t.rows.matrix.height s) where
   abbrev p : ℕ
   p = t.rows.modulus
@@ -72,18 +85,9 @@ module _ {t : TriangleState} {kept : Bool} {s : SchurRows} (tri : Triangular t.r
           sym (ap₂ (λ a b. (a + b) % p) (pivotal k j l lj) one ∙ ap (λ x. x % p) plain ∙ mod-eq_of_lt (entry_residue p A m (row_at t.pairs k) j (tri.nonzero k l).0 lj));
     }
 
-    fits : FitsRound t s
-    fits = record {
-      rest = record { modulus = h.0.modulus; matrix = h.0.rest; height = omega (arith, h.1); width = h.0.width };
-      modulus = h.0.coefficient_modulus;
-      matrix = h.0.coefficients;
-      height = omega (arith, h.1, h.0.height);
-      width = h.0.coefficient_width;
-    }
-
     pub whole : IsMatrix p A → IsPrime p → IsRound t s
     whole m prime = record {
-      fits = fits;
+      fits = whole_fits h;
       complement = whole_complement prime;
       one = λ k l. ap (λ u. slice_index u k) (itself k l) ∙ unit_same (length t.pairs) k l;
       alone = λ k i l li d. ap (λ u. slice_index u i) (itself k l) ∙ unit_other (length t.pairs) k i li d;

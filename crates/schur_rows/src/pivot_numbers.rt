@@ -8,9 +8,9 @@ ghost use Rattle.sparse_rows.specs.declared.rows.TheConstants.{LARGEST_SIZE};
 ghost use Rattle.triangular_solve.specs.Reduced.{IsPivotRow};
 ghost use Rattle.schur_rows.specs.PivotNumbers.{AreNumbersOf, HasNumbers, IsRowOfPair};
 
+use crate::row_reducer::RowReducer;
 use pivot_table::Pair;
 use std::alloc::{AllocError, Global};
-use triangular_solve::Triangle;
 
 // Stands at each row that is no pivot's.
 const NONE: u32 = u32::MAX;
@@ -25,13 +25,13 @@ pub(crate) struct PivotNumbers {
 
 impl PivotNumbers {
     // In time proportional to the height, and to the pairs times a logarithm.
-    pub(crate) fn of(alloc: Global, triangle: &Triangle) -> Result<PivotNumbers, AllocError>
-        ensures { IfOk result (HasNumbers triangle.now.pairs) }
+    pub(crate) fn of(alloc: Global, reducer: &RowReducer) -> Result<PivotNumbers, AllocError>
+        ensures { IfOk result (HasNumbers reducer.now.pairs) }
     {
         // The call tells how high a matrix is.
-        let _ = triangle.rows().height();
-        let rows = triangle.rows().filled(alloc)?;
-        let numbers = numbers_of(alloc, &rows, triangle.pairs())?;
+        let _ = reducer.rows().height();
+        let rows = reducer.rows().filled(alloc)?;
+        let numbers = numbers_of(alloc, &rows, reducer.pairs())?;
         Ok(PivotNumbers { rows, numbers })
     }
 

@@ -4,6 +4,7 @@ ghost use Rattle.residue_words.specs.Residues.{IsPrime};
 ghost use Rattle.triangular_solve.specs.Reduced.{IsComplement};
 ghost use Rattle.schur_rows.specs.Round.{FitsComplement, FitsRound, IsRound};
 
+use crate::row_reducer::RowReducer;
 use crate::workers::left_by;
 use sparse_rows::Rows;
 use std::alloc::{AllocError, Global};
@@ -39,11 +40,12 @@ pub fn schur<R: Threads + Sync>(
 {
     // The calls' contracts tell that the pivots are triangular, and the entries residues.
     let _ = (triangle.pairs().len(), triangle.rows().modulus());
-    let left = left_by(rt, alloc, triangle, workers, true)?;
+    let reducer = RowReducer::by_walks(triangle);
+    let left = left_by(rt, alloc, &reducer, workers, true)?;
     Ok(left)
 }
 
-/// The complement alone, by so many workers.
+/// The complement alone, by so many workers: by flat rows, which they share, where these are cheaper than walks.
 pub fn complement<R: Threads + Sync>(
     rt: &R,
     alloc: Global,
@@ -59,7 +61,8 @@ pub fn complement<R: Threads + Sync>(
 {
     // The calls' contracts tell that the pivots are triangular, and the entries residues.
     let _ = (triangle.pairs().len(), triangle.rows().modulus());
-    let left = left_by(rt, alloc, triangle, workers, false)?;
+    let reducer = RowReducer::of(alloc, triangle)?;
+    let left = left_by(rt, alloc, &reducer, workers, false)?;
     let SchurRows { rows, .. } = left;
     Ok(rows)
 }

@@ -2,30 +2,32 @@
 ghost use Rattle.std.specs.Prelude.{◌≡◌, ◌<◌, ◌≤◌, ◌+◌, ◌-◌, ℕ, length, IfOk, OnOk};
 ghost use Rattle.std.specs.Option.{MatchOption};
 ghost use Rattle.sparse_rows.specs.declared.rows.TheConstants.{LARGEST_SIZE};
+ghost use Rattle.triangular_solve.specs.PivotRows.{IsAlike};
 ghost use Rattle.triangular_solve.specs.Reduced.{workspace_of};
 ghost use Rattle.schur_rows.specs.Parts.{AddsLeft, AddsRow, AddsZeros, AreZeroRows, MayTakeRow, IsNextBelow, IsPartTo, itself};
 ghost use Rattle.schur_rows.specs.PivotNumbers.{HasNumbers};
 
 use crate::pivot_numbers::PivotNumbers;
 use crate::round::SchurRows;
+use crate::row_reducer::RowReducer;
 use sparse_rows::{Rows, Sparse};
 use std::alloc::{AllocError, Global};
-use triangular_solve::{Triangle, Work};
+use triangular_solve::Work;
 
 // No row, with room for about as many entries as so many rows of the matrix have.
 pub(crate) fn no_rows(
     alloc: Global,
-    triangle: &Triangle,
+    reducer: &RowReducer,
     kept: bool,
     height: u32,
 ) -> Result<SchurRows, AllocError>
     requires { height ≤ LARGEST_SIZE }
-    ensures { IfOk result (λ part. (from : ℕ) → IsPartTo triangle.now kept from from part) }
+    ensures { IfOk result (λ part. (from : ℕ) → IsPartTo reducer.now kept from from part) }
 {
-    let rows = triangle.rows();
+    let rows = reducer.rows();
     // The call's contract tells how high a matrix is; a triangle has no more pivots.
     let _ = rows.height();
-    let pivots = triangle.pairs().len() as u32;
+    let pivots = reducer.pairs().len() as u32;
     let entries = entries_in(rows, height);
     let coefficients = if kept { entries } else { 0 };
     Ok(SchurRows {
@@ -43,28 +45,29 @@ fn entries_in(rows: &Rows, height: u32) -> usize {
 // What is left of the rows from `from` up to `to`; the coefficients are zeros where they aren't kept.
 pub(crate) fn part_of(
     alloc: Global,
-    triangle: &Triangle,
+    reducer: &RowReducer,
     pivot_rows: &PivotNumbers,
     kept: bool,
     from: u32,
     to: u32,
     work: &mut Work,
 ) -> Result<SchurRows, AllocError>
-    requires work { work.old ≡ workspace_of triangle.now }
+    requires work { work.old ≡ workspace_of reducer.now }
     requires order { from ≤ to }
-    requires inside { to ≤ triangle.now.rows.matrix.height }
-    requires numbers { HasNumbers triangle.now.pairs pivot_rows.now }
+    requires inside { to ≤ reducer.now.rows.matrix.height }
+    requires numbers { HasNumbers reducer.now.pairs pivot_rows.now }
     ensures work { work.new ≡ work.old }
-    ensures part { IfOk result (IsPartTo triangle.now kept from to) }
+    ensures part { IfOk result (IsPartTo reducer.now kept from to) }
 {
-    let rows = triangle.rows();
+    let rows = reducer.rows();
     // The calls' contracts tell how high a matrix of residues is, and that the pivots are triangular.
-    let _ = (rows.modulus(), rows.height(), triangle.pairs().len());
-    let mut part = no_rows(alloc, triangle, kept, to - from)?;
+    let _ = (rows.modulus(), rows.height(), reducer.pairs().len());
+    let mut part = no_rows(alloc, reducer, kept, to - from)?;
+    let mut rest = Sparse::new(alloc, rows.width(), rows.modulus());
     let mut next = from;
     while let Some(i) = next_below(rows, next, to) {
         append_zeros(&mut part, i - next)?;
-        append_left(alloc, triangle, pivot_rows, kept, i, work, &mut part)?;
+        append_left(alloc, reducer, pivot_rows, kept, i, work, &mut rest, &mut part)?;
         next = i + 1;
     }
     append_zeros(&mut part, to - next)?;
@@ -93,39 +96,44 @@ fn append_zeros(part: &mut SchurRows, count: u32) -> Result<(), AllocError>
     Ok(())
 }
 
-// Appends what is left of row i.
+// Appends what is left of row i. Where the coefficients aren't kept it passes through `rest`.
 fn append_left(
     alloc: Global,
-    triangle: &Triangle,
+    reducer: &RowReducer,
     pivot_rows: &PivotNumbers,
     kept: bool,
     i: u32,
     work: &mut Work,
+    rest: &mut Sparse,
     part: &mut SchurRows,
 ) -> Result<(), AllocError>
-    requires row { i < triangle.now.rows.matrix.height }
-    requires numbers { HasNumbers triangle.now.pairs pivot_rows.now }
-    requires work { work.old ≡ workspace_of triangle.now }
-    requires part { MayTakeRow triangle.now part.old }
+    requires row { i < reducer.now.rows.matrix.height }
+    requires numbers { HasNumbers reducer.now.pairs pivot_rows.now }
+    requires work { work.old ≡ workspace_of reducer.now }
+    requires rest_modulus { rest.old.modulus ≡ reducer.now.rows.modulus }
+    requires rest_width { length rest.old.row ≡ reducer.now.rows.matrix.width }
+    requires part { MayTakeRow reducer.now part.old }
     ensures work { work.new ≡ work.old }
-    ensures added { OnOk result (AddsLeft triangle.now kept i part.old part.new) }
+    ensures rest { IsAlike rest.old rest.new }
+    ensures added { OnOk result (AddsLeft reducer.now kept i part.old part.new) }
 {
-    let rows = triangle.rows();
+    let rows = reducer.rows();
     // The call's contract tells that the entries are residues.
     let _ = rows.modulus();
     let cols = rows.cols(i);
     let vals = rows.vals(i);
-    if let Some(k) = pivot_rows.find(i, triangle.pairs()) {
+    if let Some(k) = pivot_rows.find(i, reducer.pairs()) {
         append_pivot(alloc, k, part)?;
         return Ok(());
     }
     if kept {
-        let reduced = triangle.reduce(alloc, cols, vals, work)?;
+        let reduced = reducer.reduce(alloc, cols, vals, work)?;
         part.rows.append(&reduced.rest)?;
         part.coefficients.append(&reduced.coefficients)?;
         return Ok(());
     }
-    part.rows.append(&triangle.rest(alloc, cols, vals, work)?)?;
+    reducer.rest(alloc, cols, vals, work, rest)?;
+    part.rows.append(rest)?;
     part.coefficients.append_zeros(1)?;
     Ok(())
 }

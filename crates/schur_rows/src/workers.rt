@@ -7,11 +7,11 @@ ghost use Rattle.schur_rows.specs.PivotNumbers.{HasNumbers};
 use crate::pivot_numbers::PivotNumbers;
 use crate::round::SchurRows;
 use crate::row_ranges::{no_rows, part_of};
+use crate::row_reducer::RowReducer;
 use crate::stacking::append_all;
 use std::alloc::{AllocError, Global};
 use std::thread;
 use std::thread::Threads;
-use triangular_solve::{Triangle, Work};
 
 // How many parts a worker makes, so that all have about as much to do.
 const PARTS: usize = 16;
@@ -45,19 +45,19 @@ impl Deal {
 pub(crate) fn left_by<R: Threads + Sync>(
     rt: &R,
     alloc: Global,
-    triangle: &Triangle,
+    reducer: &RowReducer,
     workers: u32,
     kept: bool,
 ) -> Result<SchurRows, AllocError>
     requires some { 1 ≤ workers }
     requires few { workers ≤ 64 }
-    ensures { IfOk result (IsPartTo triangle.now kept 0 triangle.now.rows.matrix.height) }
+    ensures { IfOk result (IsPartTo reducer.now kept 0 reducer.now.rows.matrix.height) }
 {
-    let height = triangle.rows().height();
-    let pivot_rows = PivotNumbers::of(alloc, triangle)?;
+    let height = reducer.rows().height();
+    let pivot_rows = PivotNumbers::of(alloc, reducer)?;
     if workers == 1 {
-        let mut work = Work::new(alloc, triangle)?;
-        return part_of(alloc, triangle, &pivot_rows, kept, 0, height, &mut work);
+        let mut work = reducer.work(alloc)?;
+        return part_of(alloc, reducer, &pivot_rows, kept, 0, height, &mut work);
     }
     let count = PARTS * workers as usize;
     let deal = Deal {
@@ -66,52 +66,52 @@ pub(crate) fn left_by<R: Threads + Sync>(
         count,
         workers: workers as usize,
     };
-    let shares = shares_of(rt, alloc, triangle, &pivot_rows, deal)?;
-    merged(alloc, triangle, deal, &shares)
+    let shares = shares_of(rt, alloc, reducer, &pivot_rows, deal)?;
+    merged(alloc, reducer, deal, &shares)
 }
 
 // The shares of the workers.
 fn shares_of<R: Threads + Sync>(
     rt: &R,
     alloc: Global,
-    triangle: &Triangle,
+    reducer: &RowReducer,
     pivot_rows: &PivotNumbers,
     deal: Deal,
 ) -> Result<Vec<Share>, AllocError>
-    requires deal { IsDeal triangle.now.rows.matrix.height deal }
-    requires numbers { HasNumbers triangle.now.pairs pivot_rows.now }
+    requires deal { IsDeal reducer.now.rows.matrix.height deal }
+    requires numbers { HasNumbers reducer.now.pairs pivot_rows.now }
     ensures count { IfOk result (λ shares. length shares.items ≡ deal.workers) }
-    ensures shares { IfOk result (λ shares. HaveParts triangle.now deal shares.items) }
+    ensures shares { IfOk result (λ shares. HaveParts reducer.now deal shares.items) }
 {
     thread::map_indices(
         rt,
         alloc,
         deal.workers,
-        &|worker| share_of(alloc, triangle, pivot_rows, deal, worker),
+        &|worker| share_of(alloc, reducer, pivot_rows, deal, worker),
     )
 }
 
 // The parts worker, worker + workers, worker + 2 workers and so on.
 fn share_of(
     alloc: Global,
-    triangle: &Triangle,
+    reducer: &RowReducer,
     pivot_rows: &PivotNumbers,
     deal: Deal,
     worker: usize,
 ) -> Share
     requires worker { worker < deal.workers }
-    requires deal { IsDeal triangle.now.rows.matrix.height deal }
-    requires numbers { HasNumbers triangle.now.pairs pivot_rows.now }
-    ensures { IfOk result (λ parts. HasParts triangle.now deal worker parts.items) }
+    requires deal { IsDeal reducer.now.rows.matrix.height deal }
+    requires numbers { HasNumbers reducer.now.pairs pivot_rows.now }
+    ensures { IfOk result (λ parts. HasParts reducer.now deal worker parts.items) }
 {
-    let height = triangle.rows().height();
-    let mut work = Work::new(alloc, triangle)?;
+    let height = reducer.rows().height();
+    let mut work = reducer.work(alloc)?;
     let mut parts = Vec::new(alloc);
     let mut j = worker;
     while j < deal.count {
         let from = deal.cut(height, j);
         let to = deal.cut(height, j + 1);
-        parts.push(part_of(alloc, triangle, pivot_rows, deal.kept, from, to, &mut work)?)?;
+        parts.push(part_of(alloc, reducer, pivot_rows, deal.kept, from, to, &mut work)?)?;
         j += deal.workers;
     }
     Ok(parts)
@@ -120,16 +120,16 @@ fn share_of(
 // The parts of the shares behind each other.
 fn merged(
     alloc: Global,
-    triangle: &Triangle,
+    reducer: &RowReducer,
     deal: Deal,
     shares: &[Share],
 ) -> Result<SchurRows, AllocError>
-    requires deal { IsDeal triangle.now.rows.matrix.height deal }
+    requires deal { IsDeal reducer.now.rows.matrix.height deal }
     requires count { length shares.now ≡ deal.workers }
-    requires shares { HaveParts triangle.now deal shares.now }
-    ensures { IfOk result (IsPartTo triangle.now deal.kept 0 triangle.now.rows.matrix.height) }
+    requires shares { HaveParts reducer.now deal shares.now }
+    ensures { IfOk result (IsPartTo reducer.now deal.kept 0 reducer.now.rows.matrix.height) }
 {
-    let mut made = no_rows(alloc, triangle, deal.kept, triangle.rows().height())?;
+    let mut made = no_rows(alloc, reducer, deal.kept, reducer.rows().height())?;
     for j in 0..deal.count {
         match &shares[j % deal.workers] {
             Ok(parts) => join(alloc, &mut made, &parts[j / deal.workers])?,

@@ -1,4 +1,5 @@
 pub mod Closed
+pub mod CountedLines
 pub mod Digits
 pub mod Falling
 pub mod Feeding

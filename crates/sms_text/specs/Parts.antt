@@ -1,8 +1,8 @@
 -- Parts of an input that take several calls of a reader: whole texts, and the lines of words outside of them.
-use Rattle.std.specs.Prelude.{◌≡◌, ◌⊎◌, Bool, false, ℕ, List, [], ◌∷◌, ◌++◌, Option, None, Some, Result, MatchResult}
+use Rattle.std.specs.Prelude.{◌≡◌, ◌⊎◌, Bool, false, ℕ, List, [], ◌∷◌, ◌++◌, Option, None, Some, Result, MatchResult, map}
 use Rattle.sms_text.specs.declared.kind.TextError.{TextError}
 use Rattle.sms_text.specs.declared.kind.TextError.TheVariants as error
-use Rattle.sms_text.specs.Text.{Due, Header, Body, Scripted, Outer, Item, Fault, Short}
+use Rattle.sms_text.specs.Text.{Due, Header, Body, Scripted, Outer, Item, Words, Fault, Short}
 use Rattle.sms_text.specs.Reading.{ReaderState, InputState, MayFollow, Draws, Repeats, supply, is_failed, read_on, with_items}
 
 -- the sizes of the text that is open where these lines are due
@@ -76,3 +76,12 @@ PartDid w Means old new result = elim old.reader.error [
   | None ↦ ReadsPart w Means old new result
   | Some e ↦ Repeats old new result e
 ]
+
+-- as many lines of words as items, each of which is what the words of its line give
+pub record SaysLines {T : Type 0} (of : List (List ℕ) → T) (list : List T) (items : List Item)
+    (due : List Due)
+    : Type 0 where
+  pub whole : due ≡ []
+  pub lines : List (List (List ℕ))
+  pub items_are : items ≡ map Words lines
+  pub list_is : list ≡ map of lines

@@ -1,5 +1,5 @@
 // A buffer in front of a sink.
-ghost use Rattle.std.specs.Prelude.{◌≡◌, ℕ, ◌+◌, ◌≤◌, List, [], length, All};
+ghost use Rattle.std.specs.Prelude.{◌≡◌, ℕ, ◌+◌, ◌≤◌, List, [], ◌++◌, length, All};
 ghost use Rattle.sms_text.specs.Writing.{Writes, Adds, output};
 ghost use Rattle.std.specs.Fmt.{decimal};
 ghost use Rattle.sms_text.specs.Written.{head_line, entry_line, pair_line, pair_lines, end_line, IsSmallPlace};
@@ -89,6 +89,25 @@ impl BlockWriter {
     {
         let mut digits = Buffer::new();
         self.add(out, digits.format(n).as_bytes())
+    }
+
+    /// Adds a line of these bytes, at most 4,096, and two numbers with a space between them, as a first line has it of its words.
+    pub fn add_title<K: Sink>(
+        &mut self,
+        out: &mut K,
+        words: &[u8],
+        p: u64,
+        count: u64,
+    ) -> Result<(), WriteFault>
+        requires { length words.now ≤ 4096 }
+        ensures { Adds result (words.now ++ pair_line p count)
+            (output self.old (K.state out.old)) (output self.new (K.state out.new)) }
+    {
+        self.add(out, words)?;
+        self.add_number(out, p)?;
+        self.add(out, b" ")?;
+        self.add_number(out, count)?;
+        self.add(out, b"\n")
     }
 
     // Adds a line of two numbers.

@@ -70,7 +70,7 @@ behind_other {p} {n} (c ∷ cs) [] j s l d = absurd (omega (arith, s.long))
 behind_other {p} {n} (c ∷ cs) (v ∷ vs) j s l d = ap₂ (λ us ws. entry_at us ws j) (behind_is c cs) (behind_is v vs) ∙ sym (entry_tail c cs v vs j d)
 
 -- s + g u + f u is s where g is -f
-back : (p s u f g : ℕ) → f < p → g ≡ (p - f) % p → ((s + g * u) % p + f * u) % p ≡ s % p
+pub back : (p s u f g : ℕ) → f < p → g ≡ (p - f) % p → ((s + g * u) % p + f * u) % p ≡ s % p
 back p s u f g small e =
     let self : p % p ≡ 0 = (let one : p ≡ 1 * p = omega arith in ap (λ x. x % p) one ∙ multiple_zero p 1) in
     let turn : (g + f) % p ≡ 0 = add_same p g (p - f) f f (ap (λ x. x % p) e ∙ mod-mod (p - f) p) refl ∙ (let whole : p - f + f ≡ p = omega arith in ap (λ x. x % p) whole) ∙ self in

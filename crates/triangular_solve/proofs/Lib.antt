@@ -8,6 +8,7 @@ pub mod Draining
 pub mod Eliminating
 pub mod Examples
 pub mod Extent
+pub mod Flattening
 pub mod JoinedRows
 pub mod LedRows
 pub mod Listed
@@ -20,4 +21,5 @@ pub mod Queueing
 pub mod Reducing
 pub mod SchurRows
 pub mod SplitRows
+pub mod TakenRows
 pub mod Touched

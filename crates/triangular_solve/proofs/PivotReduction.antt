@@ -11,7 +11,8 @@ use Rattle.sparse_rows.specs.Stored.{spread}
 use Rattle.sparse_rows.proofs.Loops.{length_zeros}
 use Rattle.sparse_rows.proofs.Spread.{length_spread}
 use Rattle.triangular_solve.specs.PivotRows.{ArePivotRows, ArePlaced, ArePivotsReduced, AscendWhereNonzero, IsAlike, IsEliminated, IsEliminating, IsRoom, IsSplitRow, PlacedRows}
-use Rattle.triangular_solve.specs.Reduced.{FitsRest, IsReduced, Workspace}
+use Rattle.triangular_solve.specs.FlatRows.{IsLeft}
+use Rattle.triangular_solve.specs.Reduced.{FitsRest, IsReduced, IsSchurRow, Workspace}
 use Rattle.triangular_solve.specs.Triangle.{TriangleState}
 use Rattle.triangular_solve.proofs.Accumulating.{as_row}
 use Rattle.triangular_solve.proofs.SplitRows.{placed_or_none}
@@ -101,3 +102,18 @@ triangle_reduces {t} {placed} {n} cs vs {w} {c} P e m r = (
   subst (λ p. IsVector p (length t.pairs) c) P.modulus (subst (λ k. IsVector placed.rows.modulus k c) P.height r.residues),
   (λ prime. reduced_by_pivots P (subst (λ k. ArePivotsReduced placed (spread k cs vs) w.row c) e r) (length_spread t.rows.matrix.width cs vs) prime),
 )
+
+-- and of one of which this is left
+pub triangle_leaves : {t : TriangleState} {placed : PlacedRows} {n : ℕ} (cs vs : List ℕ) {w : ResidueRow} → ArePivotRows t.rows t.pairs placed → n ≡ t.rows.matrix.width → w.modulus ≡ t.rows.modulus → IsLeft placed (spread n cs vs) w.row →
+    FitsRest t w × (IsPrime t.rows.modulus → IsSchurRow t.rows.modulus t.rows.matrix t.pairs (spread t.rows.matrix.width cs vs) w.row)
+triangle_leaves {t} {placed} {n} cs vs {w} P e m l = (
+  fits,
+  (λ prime. let r = l.reduced (subst IsPrime (sym P.modulus) prime) in (fits.vector, (r.0, (triangle_reduces cs vs P e m r.1).2 prime))),
+)
+  where
+    fits : FitsRest t w
+    fits = record {
+      modulus = m;
+      vector = subst (λ p. IsVector p t.rows.matrix.width w.row) P.modulus (subst (λ k. IsVector placed.rows.modulus k w.row) (length_spread n cs vs ∙ e) l.vector);
+      zero = λ k lk. let at = P.first.pivotal k lk in ap (slice_index w.row) (sym at.1) ∙ l.zero k (omega (arith, P.height));
+    }

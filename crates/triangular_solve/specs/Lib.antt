@@ -1,5 +1,6 @@
 pub mod Accumulator
 pub mod AscendingColumns
+pub mod FlatRows
 pub mod Leads
 pub mod Led
 pub mod Listing

@@ -156,6 +156,17 @@ impl Accumulator {
         Ok(())
     }
 
+    // Takes all entries, and answers how many there were.
+    pub(crate) fn count(&mut self) -> u64
+        ensures { IsAlike self.old self.new }
+    {
+        let mut count: u64 = 0;
+        while self.pop().is_some() {
+            count = count.saturating_add(1);
+        }
+        count
+    }
+
     // Makes it the zero row, in time proportional to the columns touched.
     pub(crate) fn clear(&mut self)
         ensures { self.new ≡ record { modulus = self.old.modulus; row = zeros (length self.old.row) } }

@@ -8,6 +8,9 @@
 mod accumulator;
 mod ascending_columns;
 mod column_order;
+mod flat_estimate;
+mod flat_rows;
+mod flat_triangle;
 mod leads;
 mod led;
 mod pivot_rows;
@@ -19,6 +22,7 @@ mod triangle;
 mod work;
 
 pub use accumulator::Accumulator;
+pub use flat_triangle::FlatTriangle;
 pub use leads::Leads;
 pub use reduced::{Reduced, schur_row_is_one};
 pub use triangle::{Triangle, triangular_order_is_one};

@@ -1,5 +1,5 @@
 // The pivot rows of a triangle on the columns in which they have an entry.
-ghost use Rattle.std.specs.Prelude.{◌≡◌, ◌≢◌, ◌<◌, ◌≤◌, ℕ, List, length, map, slice_index, slice_set, IfOk, OnOk, IfSome, IfNone};
+ghost use Rattle.std.specs.Prelude.{◌≡◌, ◌≢◌, ◌<◌, ◌≤◌, ◌*◌, ◌%◌, ℕ, List, length, map, slice_index, slice_set, IfOk, OnOk, IfSome, IfNone};
 ghost use Rattle.residue_words.specs.Residues.{IsPrime};
 ghost use Rattle.residue_words.specs.Matrix.{IsVector, entry, zeros};
 ghost use Rattle.row_space.specs.Factors.{row_at, col_at};
@@ -67,6 +67,24 @@ impl PivotRows {
         &self.order
     }
 
+    // The rows on these columns.
+    pub(crate) fn rows(&self) -> &Rows
+        ensures rows { result.now ≡ self.now.rows }
+        ensures placed { ArePlaced self.now }
+    {
+        &self.rows
+    }
+
+    // The inverse of the pivot at a place.
+    pub(crate) fn inverse(&self, place: u32) -> u64
+        requires { place < self.now.rows.matrix.height }
+        ensures residue { result < self.now.rows.modulus }
+        ensures inverse { IsPrime self.now.rows.modulus →
+            (entry self.now.rows.matrix place place * result) % self.now.rows.modulus ≡ 1 }
+    {
+        self.inverses[place as usize]
+    }
+
     // Takes the first sum away, if it stands at a pivot, by a multiple of the pivot's row, and answers the pivot's place with the
     // factor of its row; None where no sum at a pivot is left.
     fn eliminate_next(&self, sums: &mut Accumulator) -> Option<(u32, u64)>
@@ -128,6 +146,18 @@ impl PivotRows {
         // The call's contract tells the range of the modulus.
         let _ = self.rows.modulus();
         while self.eliminate_next(sums).is_some() {}
+    }
+
+    // Takes all sums at pivots away, and answers how many entries of pivot rows were met.
+    pub(crate) fn count_walk(&self, sums: &mut Accumulator) -> u64
+        requires sums { AreColumnSums self.now sums.old }
+        ensures sums { AreColumnSums self.now sums.new }
+    {
+        let mut met: u64 = 0;
+        while let Some((place, _)) = self.eliminate_next(sums) {
+            met = met.saturating_add(self.rows.cols(place).len() as u64);
+        }
+        met
     }
 }
 

@@ -5,15 +5,24 @@ ghost use Rattle.sparse_rows.specs.Rows.{AreBelow};
 ghost use Rattle.sparse_rows.specs.Stored.{IsSparse, spread};
 ghost use Rattle.sparse_rows.specs.declared.rows.TheConstants.{LARGEST_SIZE};
 ghost use Rattle.triangular_solve.specs.Accumulator.{IsClear};
+ghost use Rattle.triangular_solve.specs.FlatRows.{AreAllFlat, IsLeft};
 ghost use Rattle.triangular_solve.specs.PivotRows.{ArePivotsReduced, IsAlike, IsRoomFor};
 ghost use Rattle.triangular_solve.specs.Reduced.{workspace_of};
 
 use crate::accumulator::Accumulator;
+use crate::flat_rows::FlatRows;
 use crate::pivot_rows::PivotRows;
 use crate::triangle::Triangle;
 use sparse_rows::Sparse;
 use std::alloc::{AllocError, Global};
 use std::marker::Model;
+
+// What a walk costs: the entries of pivot rows that it meets, and those that it leaves in their columns.
+#[derive(Clone, Copy, Debug)]
+pub(crate) struct Counts {
+    pub(crate) met: u64,
+    pub(crate) left: u64,
+}
 
 /// Room in which rows are reduced by a triangle's pivots, one row after another: a worker has one of its own, while all share
 /// the triangle. Contracts see the modulus, the number of pairs and the width for which it is made.
@@ -117,6 +126,52 @@ impl Work {
         self.passed.clear();
         done
     }
+
+    // The same by flat rows.
+    pub(crate) fn flat_rest(
+        &mut self,
+        alloc: Global,
+        pivots: &PivotRows,
+        flat: &FlatRows,
+        cols: &[u32],
+        vals: &[u64],
+        rest: &mut Sparse,
+    ) -> Result<(), AllocError>
+        requires flat { AreAllFlat pivots.now flat.now }
+        requires row { IsSparse self.old.modulus self.old.width cols.now vals.now }
+        requires modulus { self.old.modulus ≡ pivots.now.rows.modulus }
+        requires below { AreBelow self.old.width pivots.now.columns }
+        requires rest { rest.old ≡ record { modulus = self.old.modulus; row = zeros self.old.width } }
+        ensures work { self.new ≡ self.old }
+        ensures rest { IsAlike rest.old rest.new }
+        ensures left { OnOk result (IsLeft pivots.now (spread self.old.width cols.now vals.now) rest.new.row) }
+    {
+        fit(alloc, pivots, &mut self.sums)?;
+        let done = flat.rest_by(pivots, cols, vals, &mut self.sums, &mut self.passed, rest);
+        self.sums.clear();
+        self.passed.clear();
+        done
+    }
+
+    // How many entries of pivot rows are met where this row is reduced, and how many are left in their columns.
+    pub(crate) fn count(
+        &mut self,
+        alloc: Global,
+        pivots: &PivotRows,
+        cols: &[u32],
+        vals: &[u64],
+    ) -> Result<Counts, AllocError>
+        requires row { IsSparse self.old.modulus self.old.width cols.now vals.now }
+        requires modulus { self.old.modulus ≡ pivots.now.rows.modulus }
+        requires below { AreBelow self.old.width pivots.now.columns }
+        ensures work { self.new ≡ self.old }
+    {
+        fit(alloc, pivots, &mut self.sums)?;
+        let done = count_by(pivots, cols, vals, &mut self.sums, &mut self.passed);
+        self.sums.clear();
+        self.passed.clear();
+        done
+    }
 }
 
 // Makes sums that are 0 as many as the columns of the pivot rows, if they are not.
@@ -196,4 +251,24 @@ fn rest_by(
     // The call's contract tells that the rest holds residues.
     let _ = rest.width();
     Ok(())
+}
+
+// What is met and left where the row that stands in these columns and values is reduced.
+fn count_by(
+    pivots: &PivotRows,
+    cols: &[u32],
+    vals: &[u64],
+    sums: &mut Accumulator,
+    passed: &mut Sparse,
+) -> Result<Counts, AllocError>
+    requires row { IsSparse pivots.now.rows.modulus (length passed.old.row) cols.now vals.now }
+    requires room { IsRoomFor pivots.now sums.old passed.old }
+    requires below { AreBelow (length passed.old.row) pivots.now.columns }
+    ensures sums { IsAlike sums.old sums.new }
+    ensures passed { IsAlike passed.old passed.new }
+{
+    pivots.order().split(cols, vals, sums, passed)?;
+    let met = pivots.count_walk(sums);
+    let left = sums.count();
+    Ok(Counts { met, left })
 }

@@ -1,20 +1,26 @@
 -- Pivot by pivot.
-use Rattle.std.proofs.Common.{◌≡◌, ◌++◌, ◌∷◌, [], None, Some, sym, ap, ◌∙◌, rules}
+use Rattle.std.proofs.Common.{◌≡◌, ◌++◌, ◌∷◌, [], None, Some, sym, ap, ◌∙◌, refl, subst, arith, rules}
+use Rattle.std.specs.Prelude.{All}
+use Rattle.std.proofs.lemmas.List.Elements.{All-nil, All-push}
 use Rattle.sms_text.specs.declared.kind.Kind.TheVariants as kind
 use Rattle.sms_text.specs.declared.kind.TextError.TheVariants as error
-use Rattle.sms_text.specs.Parts.{wants}
+use Rattle.sms_text.specs.OuterLines.{Pivot}
+use Rattle.sms_text.specs.Parts.{SaysLines, wants}
 use Rattle.sms_text.specs.Reading.{input}
 use Rattle.sms_text.specs.Text.{pivot_lines}
+use Rattle.sms_text.proofs.CountedLines.{lines_begin, lines_go, lines_end, lines_pause, lines_stop, lines_refuse, lines_shut}
 use Rattle.sms_text.proofs.Parts.{part_handed}
-use Rattle.certificates.specs.CertificateParts.{SaysPivots}
-use Rattle.certificates.proofs.PivotsRead.{pivots_begin, pivots_go, pivots_end, pivots_pause, pivots_stop, pivots_refuse, pivots_shut, pivots_count}
+use Rattle.certificates.specs.CertificateText.{IsTextPlace, pivot_of}
 use Rattle.certificates.proofs.reading.read_pivots.Goals as goal
 
 pub loop-init : goal.loop-init
-loop-init g c = λ p. pivots_begin p c.args.rank (input c.args.reader.now (g.S.Source.state c.args.source.now)) c.new-pivots.result c.requires.sound c.requires.closed c.new-pivots.ensures
+loop-init g c = (
+  subst (All IsTextPlace) (sym c.new-pivots.ensures) (All-nil IsTextPlace),
+  λ p. lines_begin Pivot pivot_of p c.args.rank (input c.args.reader.now (g.S.Source.state c.args.source.now)) c.new-pivots.result c.requires.sound c.requires.closed c.new-pivots.ensures,
+)
 
 pub words-requires : goal.words-requires
-words-requires g c = pivots_shut 0 _ _ _ _ _ (c.loop.invariant 0)
+words-requires g c = lines_shut Pivot pivot_of 0 _ _ _ _ _ (c.loop.invariant.1 0)
 
 pub returns-in_err-line-clause-did : goal.returns-in_err-line-clause-did
 returns-in_err-line-clause-did g c = λ p.
@@ -22,34 +28,39 @@ returns-in_err-line-clause-did g c = λ p.
     let old = input c.args.reader.now (g.S.Source.state c.args.source.now) in
     let mid = input c.loop.reader (g.S.Source.state c.loop.source) in
     let new = input c.words.new.self (g.S.Source.state c.words.new.source) in
-    part_handed (wants p (pivot_lines c.args.rank)) SaysPivots old new e c.from_residual.result c.from_residual.ensures.1
-    (pivots_stop p c.args.rank c.loop.counter c.loop.pivots old mid new (c.loop.invariant p) c.loop-test.true e c.in_err-line.ensures.did)
+    part_handed (wants p (pivot_lines c.args.rank)) (SaysLines pivot_of) old new e c.from_residual.result c.from_residual.ensures.1
+    (lines_stop Pivot pivot_of p c.args.rank c.loop.counter c.loop.pivots old mid new (c.loop.invariant.1 p) c.loop-test.true e c.in_err-line.ensures.did)
 
 pub returns-in_default-clause-did : goal.returns-in_default-clause-did
 returns-in_default-clause-did g c = λ p.
     let is : c.refuse.result ≡ error.Bad c.in_ok-line.line.number kind.Certificate = c.refuse.ensures.value ∙ ap (λ n. error.Bad n kind.Certificate) c.number.ensures in
-    pivots_refuse p c.args.rank c.loop.counter c.loop.pivots (input c.args.reader.now (g.S.Source.state c.args.source.now)) (input c.loop.reader (g.S.Source.state c.loop.source)) (input c.words.new.self (g.S.Source.state c.words.new.source)) (c.loop.invariant p) c.loop-test.true
+    lines_refuse Pivot pivot_of p c.args.rank c.loop.counter c.loop.pivots (input c.args.reader.now (g.S.Source.state c.args.source.now)) (input c.loop.reader (g.S.Source.state c.loop.source))
+    (input c.words.new.self (g.S.Source.state c.words.new.source)) (c.loop.invariant.1 p) c.loop-test.true
     c.in_ok-line.line c.refuse.result c.refuse.new.self c.in_ok-line.ensures.did (search rules) is (c.refuse.ensures.kept ∙ ap (λ e. record c.words.new.self { error = Some e; last = None }) (sym c.refuse.ensures.value))
 
 pub returns-then-is_err-clause-did : goal.returns-then-is_err-clause-did
 returns-then-is_err-clause-did g c = λ p.
     let s = c.in-Some.ensures in
-    pivots_pause p c.args.rank c.loop.counter c.loop.pivots _ (input c.loop.reader (g.S.Source.state c.loop.source)) _ (c.loop.invariant p) c.loop-test.true c.in-Some.pivot c.in_ok-line.line c.in_ok-line.ensures.did s.0 s.1 s.2 c.in_ok-line.ensures.open
+    lines_pause Pivot pivot_of p c.args.rank c.loop.counter c.loop.pivots _ (input c.loop.reader (g.S.Source.state c.loop.source)) _ (c.loop.invariant.1 p) c.loop-test.true
+    c.in-Some.pivot c.in_ok-line.line (λ n ws. refl) c.in_ok-line.ensures.did s.0 s.1 c.in_ok-line.ensures.open
 
 pub loop-preserved : goal.loop-preserved
-loop-preserved g c = λ p.
+loop-preserved g c =
     let s = c.in-Some.ensures in
-    let more : c.push.new.self ≡ c.loop.pivots ++ c.in-Some.pivot ∷ [] = search rules in
-    pivots_go p c.args.rank c.loop.counter c.loop.pivots _ (input c.loop.reader (g.S.Source.state c.loop.source)) _ (c.loop.invariant p) c.loop-test.true c.push.new.self c.in-Some.pivot c.in_ok-line.line c.in_ok-line.ensures.did s.0 s.1 s.2 c.in_ok-line.ensures.open more
+    let more : c.push.new.self ≡ c.loop.pivots ++ c.in-Some.pivot ∷ [] = search rules in (
+      subst (All IsTextPlace) (sym more) (All-push IsTextPlace c.loop.pivots c.in-Some.pivot c.loop.invariant.0 s.2),
+      λ p. lines_go Pivot pivot_of p c.args.rank c.loop.counter c.loop.pivots _ (input c.loop.reader (g.S.Source.state c.loop.source)) _ (c.loop.invariant.1 p) c.loop-test.true
+          c.push.new.self c.in-Some.pivot c.in_ok-line.line (λ n ws. refl) c.in_ok-line.ensures.did s.0 s.1 c.in_ok-line.ensures.open more,
+    )
 
 pub returns-clause-did : goal.returns-clause-did
-returns-clause-did g c = λ p. pivots_end p c.args.rank c.loop.counter c.loop.pivots _ _ (c.loop.invariant p) (search rules)
+returns-clause-did g c = λ p. lines_end Pivot pivot_of p c.args.rank c.loop.counter c.loop.pivots _ _ (c.loop.invariant.1 p) (search rules)
 
 pub returns-clause-count : goal.returns-clause-count
-returns-clause-count g c = pivots_count 0 c.args.rank c.loop.counter c.loop.pivots _ _ (c.loop.invariant 0) (search rules) (search rules)
+returns-clause-count g c = omega (arith, (c.loop.invariant.1 0).long, c.loop-test.false)
 
 pub returns-clause-closed : goal.returns-clause-closed
-returns-clause-closed g c = pivots_shut 0 _ _ _ _ _ (c.loop.invariant 0)
+returns-clause-closed g c = lines_shut Pivot pivot_of 0 _ _ _ _ _ (c.loop.invariant.1 0)
 
 pub returns-clause-places : goal.returns-clause-places
-returns-clause-places g c = (c.loop.invariant 0).small
+returns-clause-places g c = c.loop.invariant.0

@@ -2,11 +2,11 @@
 use Rattle.std.proofs.Common.{ℕ, List, [], ◌++◌, ap, append-nil, refl, subst, sym}
 use Rattle.std.specs.Prelude.{All}
 use Rattle.std.proofs.lemmas.Result.{err_from_is_err_and}
-use Rattle.sms_text.specs.Written.{IsSmallPlace, pair_lines, text_of}
+use Rattle.sms_text.specs.Written.{IsSmallPlace, pair_line, pair_lines, text_of}
 use Rattle.sms_text.proofs.WrittenRows.{added_nothing, added_more, added_fault, added_sent}
 use Rattle.certificates.specs.Certificate.{certificate_of}
 use Rattle.certificates.specs.CertificateParts.{extra_text}
-use Rattle.certificates.specs.CertificateText.{certificate_text, kind_word, title_line}
+use Rattle.certificates.specs.CertificateText.{certificate_text}
 use Rattle.certificates.proofs.CertificateWritten.{behind_title, extra_fits, small_places, text_cut}
 use Rattle.certificates.proofs.writing.write.Goals as goal
 
@@ -20,46 +20,50 @@ pub returns-in_err-add_title : goal.returns-in_err-add_title
 returns-in_err-add_title g c =
     let a = c.args.certificate.now in
     let text = certificate_text (certificate_of a) in
-    let title = title_line (kind_word a.kind) a.p a.rank in
+    let title = c.title_start.result.now ++ pair_line a.p c.from-rank.result in
+    let cut = text_cut a.l.modulus a c.title_start.result.now c.from-rank.result c.requires.formed c.title_start.ensures.value c.from-rank.ensures in
     let extra = extra_text a.extra in
     let last : List ℕ = text_of a.u.matrix ++ extra in
     let factors : List ℕ = text_of a.l.matrix ++ last in
     let fault = err_from_is_err_and c.from_residual.result c.from_residual.ensures.1 in
-    rw fault.1 (added_fault text text title (behind_title a) _ _ _ _ (text_cut a.l.modulus a c.requires.formed)
+    rw fault.1 (added_fault text text title (behind_title a) _ _ _ _ cut
     (added_nothing text _ _ _ c.new-blocks.ensures) c.in_err-add_title.ensures)
 
 pub returns-in_err-add_pairs : goal.returns-in_err-add_pairs
 returns-in_err-add_pairs g c =
     let a = c.args.certificate.now in
     let text = certificate_text (certificate_of a) in
-    let title = title_line (kind_word a.kind) a.p a.rank in
+    let title = c.title_start.result.now ++ pair_line a.p c.from-rank.result in
+    let cut = text_cut a.l.modulus a c.title_start.result.now c.from-rank.result c.requires.formed c.title_start.ensures.value c.from-rank.ensures in
     let extra = extra_text a.extra in
     let last : List ℕ = text_of a.u.matrix ++ extra in
     let factors : List ℕ = text_of a.l.matrix ++ last in
     let fault = err_from_is_err_and c.from_residual-in_err-add_pairs.result c.from_residual-in_err-add_pairs.ensures.1 in
     rw fault.1 (added_fault text (behind_title a) (pair_lines c.items.result.now) factors _ _ _ _ (ap (λ qs. pair_lines qs ++ factors) (sym c.items.ensures))
-    (added_more text text title (behind_title a) _ _ _ (text_cut a.l.modulus a c.requires.formed)
+    (added_more text text title (behind_title a) _ _ _ cut
     (added_nothing text _ _ _ c.new-blocks.ensures) c.in_ok-add_title.ensures) c.in_err-add_pairs.ensures)
 
 pub returns-in_err-add_rows : goal.returns-in_err-add_rows
 returns-in_err-add_rows g c =
     let a = c.args.certificate.now in
     let text = certificate_text (certificate_of a) in
-    let title = title_line (kind_word a.kind) a.p a.rank in
+    let title = c.title_start.result.now ++ pair_line a.p c.from-rank.result in
+    let cut = text_cut a.l.modulus a c.title_start.result.now c.from-rank.result c.requires.formed c.title_start.ensures.value c.from-rank.ensures in
     let extra = extra_text a.extra in
     let last : List ℕ = text_of a.u.matrix ++ extra in
     let factors : List ℕ = text_of a.l.matrix ++ last in
     let fault = err_from_is_err_and c.from_residual-in_err-add_rows.result c.from_residual-in_err-add_rows.ensures.1 in
     rw fault.1 (added_fault text factors (text_of a.l.matrix) last _ _ _ _ refl
     (added_more text (behind_title a) (pair_lines c.items.result.now) factors _ _ _ (ap (λ qs. pair_lines qs ++ factors) (sym c.items.ensures))
-    (added_more text text title (behind_title a) _ _ _ (text_cut a.l.modulus a c.requires.formed)
+    (added_more text text title (behind_title a) _ _ _ cut
     (added_nothing text _ _ _ c.new-blocks.ensures) c.in_ok-add_title.ensures) c.in_ok-add_pairs.ensures) c.in_err-add_rows.ensures)
 
 pub returns-in_err-add_rows-2 : goal.returns-in_err-add_rows-2
 returns-in_err-add_rows-2 g c =
     let a = c.args.certificate.now in
     let text = certificate_text (certificate_of a) in
-    let title = title_line (kind_word a.kind) a.p a.rank in
+    let title = c.title_start.result.now ++ pair_line a.p c.from-rank.result in
+    let cut = text_cut a.l.modulus a c.title_start.result.now c.from-rank.result c.requires.formed c.title_start.ensures.value c.from-rank.ensures in
     let extra = extra_text a.extra in
     let last : List ℕ = text_of a.u.matrix ++ extra in
     let factors : List ℕ = text_of a.l.matrix ++ last in
@@ -67,14 +71,15 @@ returns-in_err-add_rows-2 g c =
     rw fault.1 (added_fault text last (text_of a.u.matrix) extra _ _ _ _ refl
     (added_more text factors (text_of a.l.matrix) last _ _ _ refl
     (added_more text (behind_title a) (pair_lines c.items.result.now) factors _ _ _ (ap (λ qs. pair_lines qs ++ factors) (sym c.items.ensures))
-    (added_more text text title (behind_title a) _ _ _ (text_cut a.l.modulus a c.requires.formed)
+    (added_more text text title (behind_title a) _ _ _ cut
     (added_nothing text _ _ _ c.new-blocks.ensures) c.in_ok-add_title.ensures) c.in_ok-add_pairs.ensures) c.in_ok-add_rows.ensures) c.in_err-add_rows-2.ensures)
 
 pub returns-in_err-add_extra : goal.returns-in_err-add_extra
 returns-in_err-add_extra g c =
     let a = c.args.certificate.now in
     let text = certificate_text (certificate_of a) in
-    let title = title_line (kind_word a.kind) a.p a.rank in
+    let title = c.title_start.result.now ++ pair_line a.p c.from-rank.result in
+    let cut = text_cut a.l.modulus a c.title_start.result.now c.from-rank.result c.requires.formed c.title_start.ensures.value c.from-rank.ensures in
     let extra = extra_text a.extra in
     let last : List ℕ = text_of a.u.matrix ++ extra in
     let factors : List ℕ = text_of a.l.matrix ++ last in
@@ -83,14 +88,15 @@ returns-in_err-add_extra g c =
     (added_more text last (text_of a.u.matrix) extra _ _ _ refl
     (added_more text factors (text_of a.l.matrix) last _ _ _ refl
     (added_more text (behind_title a) (pair_lines c.items.result.now) factors _ _ _ (ap (λ qs. pair_lines qs ++ factors) (sym c.items.ensures))
-    (added_more text text title (behind_title a) _ _ _ (text_cut a.l.modulus a c.requires.formed)
+    (added_more text text title (behind_title a) _ _ _ cut
     (added_nothing text _ _ _ c.new-blocks.ensures) c.in_ok-add_title.ensures) c.in_ok-add_pairs.ensures) c.in_ok-add_rows.ensures) c.in_ok-add_rows-2.ensures) c.in_err-add_extra.ensures)
 
 pub returns : goal.returns
 returns g c =
     let a = c.args.certificate.now in
     let text = certificate_text (certificate_of a) in
-    let title = title_line (kind_word a.kind) a.p a.rank in
+    let title = c.title_start.result.now ++ pair_line a.p c.from-rank.result in
+    let cut = text_cut a.l.modulus a c.title_start.result.now c.from-rank.result c.requires.formed c.title_start.ensures.value c.from-rank.ensures in
     let extra = extra_text a.extra in
     let last : List ℕ = text_of a.u.matrix ++ extra in
     let factors : List ℕ = text_of a.l.matrix ++ last in
@@ -99,5 +105,5 @@ returns g c =
     (added_more text last (text_of a.u.matrix) extra _ _ _ refl
     (added_more text factors (text_of a.l.matrix) last _ _ _ refl
     (added_more text (behind_title a) (pair_lines c.items.result.now) factors _ _ _ (ap (λ qs. pair_lines qs ++ factors) (sym c.items.ensures))
-    (added_more text text title (behind_title a) _ _ _ (text_cut a.l.modulus a c.requires.formed)
+    (added_more text text title (behind_title a) _ _ _ cut
     (added_nothing text _ _ _ c.new-blocks.ensures) c.in_ok-add_title.ensures) c.in_ok-add_pairs.ensures) c.in_ok-add_rows.ensures) c.in_ok-add_rows-2.ensures) c.in_ok-add_extra.ensures) c.send.ensures.did

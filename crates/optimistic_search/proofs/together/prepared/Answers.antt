@@ -13,7 +13,7 @@ pub loop-number-preserved : goal.loop-number-preserved
 loop-number-preserved g c =
     let inv = c.loop-number.invariant in
     let more = c.push_reserved.ensures in
-    let one : Worker = record { seat = c.split.result; walk = c.in_ok-walk.walk; number = c.loop-number.number; from = c.first_row.result } in
+    let one : Worker = record { seat = c.split.result; walk = c.in_ok-walk.walk; number = c.loop-number.number; from = c.first_row.result; steps = 0 } in
     let walk = c.in_ok-walk.ensures in
     let low = c.first_row.ensures in
     let height : c.height-height.result ≡ c.args.board.now.rows.matrix.height = c.height-height.ensures.value ∙ ap (λ (m : ResidueMatrix). m.matrix.height) c.rows.ensures in

@@ -1,4 +1,4 @@
-use Rattle.std.proofs.Common.{◌≡◌, ◌≤◌, ◌-◌}
+use Rattle.std.proofs.Common.{◌≡◌, ◌≤◌, ◌-◌, length}
 use Rattle.triangular_solve.specs.Reduced.{workspace_of}
 use Rattle.schur_rows.specs.Parts.{IsPartTo}
 use Rattle.schur_rows.proofs.row_ranges.part_of.Given as goal
@@ -6,8 +6,10 @@ use Rattle.schur_rows.proofs.row_ranges.part_of.Given as goal
 abbrev pub invariant-loop-i : goal.invariant-loop-i
 invariant-loop-i l = record {
   low : l.next ≤ l.to;
-  work : l.work ≡ workspace_of l.triangle;
-  part : IsPartTo l.triangle l.kept l.from l.next l.part;
+  work : l.work ≡ workspace_of l.reducer;
+  rest_modulus : l.rest.modulus ≡ l.reducer.rows.modulus;
+  rest_width : length l.rest.row ≡ l.reducer.rows.matrix.width;
+  part : IsPartTo l.reducer l.kept l.from l.next l.part;
 }
 
 abbrev pub decreases-loop-i : goal.decreases-loop-i
