@@ -1,11 +1,13 @@
-//! Times what the documents give figures of: multiples of rows added, the factors of a matrix, its structural pivots, and texts read and
-//! written.
+//! Times what the documents give figures of: multiples of rows added, the factors of a matrix, its structural pivots, certificates, and
+//! texts read and written.
 //!
-//! The words say which: `lanes`, `factors WORKERS`, `pivots WORKERS`, `walks`, `rounds WORKERS`, `read P` or `write P`, where P is a modulus; all but the first
-//! read a matrix from standard input. Times are in microseconds. With other words, or with none, one line says these.
+//! The words say which: `lanes`, `factors WORKERS`, `pivots WORKERS`, `walks`, `rounds WORKERS`, `certified WORKERS`, `read P` or
+//! `write P`, where P is a modulus; all but the first read a matrix from standard input, and `certified` a certificate behind it. Times are
+//! in microseconds. With other words, or with none, one line says these.
 #![tactic(auto)]
 
 mod added_rows;
+mod certified;
 mod factored;
 mod rounds;
 mod searched;
@@ -13,6 +15,7 @@ mod task;
 mod texts;
 
 use added_rows::time_additions;
+use certified::time_certificate;
 use factored::time_factors;
 use pluq_factor::Plan;
 use residue_words::{MODULUS_BOUND, Modulus};
@@ -64,6 +67,13 @@ fn perform<R: Threads + Sync + Clock + Print + Eprint, I: Read + Drop, O: Write 
             };
             time_rounds(rt, alloc, input, plan)
         }
+        Some(Task::Certified(workers)) if 1 <= workers && workers <= 64 => {
+            let plan = Plan {
+                workers,
+                rounds: ROUNDS,
+            };
+            time_certificate(rt, alloc, input, plan)
+        }
         Some(Task::Walks) => time_walks(rt, alloc, input),
         Some(Task::Read(p)) if 2 <= p && p < MODULUS_BOUND => {
             time_reading(rt, alloc, input, &Modulus::new(p))
@@ -72,7 +82,7 @@ fn perform<R: Threads + Sync + Clock + Print + Eprint, I: Read + Drop, O: Write 
             time_writing(rt, alloc, input, output, &Modulus::new(p))
         }
         _ => println!(rt;
-            "spasm_timed lanes | factors WORKERS | pivots WORKERS | walks | rounds WORKERS | read P | write P"
+            "spasm_timed lanes | factors WORKERS | pivots WORKERS | walks | rounds WORKERS | certified WORKERS | read P | write P"
         ),
     }
 }
