@@ -1,12 +1,13 @@
-//! Times what the documents give figures of: multiples of rows added, the factors of a matrix, its structural pivots, and texts read and
-//! written.
+//! Times what the documents give figures of: multiples of rows added, the factors of a matrix, its structural pivots, certificates, and
+//! texts read and written.
 //!
-//! The words say which: `lanes`, `factors WORKERS`, `pivots WORKERS`, `walks`, `board WORKERS`, `rounds WORKERS`, `read P` or `write P`,
-//! where P is a modulus; all but the first read a matrix from standard input. Times are in microseconds. With other words, or with
-//! none, one line says these.
+//! The words say which: `lanes`, `factors WORKERS`, `pivots WORKERS`, `walks`, `board WORKERS`, `rounds WORKERS`, `certified WORKERS`,
+//! `read P` or `write P`, where P is a modulus; all but the first read a matrix from standard input, and `certified` a certificate behind
+//! it. Times are in microseconds. With other words, or with none, one line says these.
 #![tactic(auto)]
 
 mod added_rows;
+mod certified;
 mod factored;
 mod rounds;
 mod searched;
@@ -15,6 +16,7 @@ mod texts;
 mod turns;
 
 use added_rows::time_additions;
+use certified::time_certificate;
 use factored::time_factors;
 use pluq_factor::Plan;
 use residue_words::{MODULUS_BOUND, Modulus};
@@ -66,6 +68,13 @@ fn perform<R: Threads + Sync + Clock + Print + Eprint, I: Read + Drop, O: Write 
             };
             time_rounds(rt, alloc, input, plan)
         }
+        Some(Task::Certified(workers)) if 1 <= workers && workers <= 64 => {
+            let plan = Plan {
+                workers,
+                rounds: ROUNDS,
+            };
+            time_certificate(rt, alloc, input, plan)
+        }
         Some(Task::Walks) => time_walks(rt, alloc, input),
         Some(Task::Board(workers)) if 1 <= workers && workers <= 64 => {
             time_board(rt, alloc, input, workers)
@@ -77,7 +86,7 @@ fn perform<R: Threads + Sync + Clock + Print + Eprint, I: Read + Drop, O: Write 
             time_writing(rt, alloc, input, output, &Modulus::new(p))
         }
         _ => println!(rt;
-            "spasm_timed lanes | factors WORKERS | pivots WORKERS | walks | board WORKERS | rounds WORKERS | read P | write P"
+            "spasm_timed lanes | factors WORKERS | pivots WORKERS | walks | board WORKERS | rounds WORKERS | certified WORKERS | read P | write P"
         ),
     }
 }

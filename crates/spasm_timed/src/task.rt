@@ -14,6 +14,8 @@ pub(crate) enum Task {
     Board(u32),
     // The rank of the matrix on standard input, and the rounds that lead to it, by so many workers.
     Rounds(u32),
+    // The certificate behind the matrix on standard input, checked and found anew, by so many workers.
+    Certified(u32),
     // The matrix on standard input read, modulo this.
     Read(u64),
     // The same matrix written.
@@ -32,6 +34,7 @@ impl Task {
             ("walks", None) => Some(Task::Walks),
             ("board", Some(workers)) => Some(Task::Board(u32::try_from(workers).ok()?)),
             ("rounds", Some(workers)) => Some(Task::Rounds(u32::try_from(workers).ok()?)),
+            ("certified", Some(workers)) => Some(Task::Certified(u32::try_from(workers).ok()?)),
             ("read", Some(p)) => Some(Task::Read(p)),
             ("write", Some(p)) => Some(Task::Write(p)),
             _ => None,

@@ -3,7 +3,6 @@ ghost use Rattle.std.specs.Prelude.{◌<◌, ◌≤◌};
 ghost use Rattle.sms_text.specs.declared.reader.TheConstants.{LARGEST_INPUT};
 
 mod answers;
-mod certificates;
 mod faults;
 mod generated;
 mod inputs;
@@ -12,6 +11,7 @@ mod outputs;
 mod plain_ranks;
 mod refused_words;
 mod traces;
+mod written_certificates;
 
 use crate::running::run_within;
 use crate::status::Status;
