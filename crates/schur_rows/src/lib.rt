@@ -8,12 +8,14 @@
 mod pivot_numbers;
 mod round;
 mod row_ranges;
+mod row_reducer;
 mod stacking;
 mod workers;
 
 ghost use Rattle.schur_rows.specs.Laws.{ComplementIsOne, RoundJoins, RoundRank, RoundSpans};
 
 pub use round::{SchurRows, complement, schur};
+pub use row_reducer::RowReducer;
 pub use stacking::append_all;
 
 /// A matrix has at most one complement, for a prime modulus.

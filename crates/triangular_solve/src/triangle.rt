@@ -8,7 +8,7 @@ ghost use Rattle.sparse_rows.specs.Stored.{IsSparse, spread};
 ghost use Rattle.sparse_rows.specs.declared.rows.TheConstants.{LARGEST_SIZE};
 ghost use Rattle.pivot_table.specs.Order.{IsTriangularOrder, Triangular};
 ghost use Rattle.triangular_solve.specs.Listing.{AreSortedPivots, AreWaits, EachOtherPlace, EachPlaceOf, HasReady, TakesReady};
-ghost use Rattle.triangular_solve.specs.PivotRows.{ArePivotRows};
+ghost use Rattle.triangular_solve.specs.PivotRows.{ArePivotRows, IsAlike};
 ghost use Rattle.triangular_solve.specs.Reduced.{FitsReduced, FitsRest, IsReduced, IsSchurRow, reduction_of, workspace_of};
 ghost use Rattle.triangular_solve.specs.Triangle.{TriangularOrderIsOne};
 
@@ -37,7 +37,7 @@ pub struct Triangle<'a> {
 
 impl<'a> Model for Triangle<'a> {
     ghost use Rattle.pivot_table.specs.Order.{Triangular};
-    ghost use Rattle.triangular_solve.specs.PivotRows.{ArePivotRows};
+    ghost use Rattle.triangular_solve.specs.PivotRows.{ArePivotRows, IsAlike};
     ghost use Rattle.triangular_solve.specs.Triangle.{TriangleState};
 
     ghost Value = { TriangleState };
@@ -129,8 +129,33 @@ impl<'a> Triangle<'a> {
             self.now.rows.matrix self.now.pairs (spread self.now.rows.matrix.width cols.now vals.now) s.row) }
     {
         let mut rest = Sparse::new(alloc, self.rows.width(), self.rows.modulus());
-        work.rest(alloc, &self.pivots, cols, vals, &mut rest)?;
+        self.rest_to(alloc, cols, vals, work, &mut rest)?;
         Ok(rest)
+    }
+
+    /// Makes `rest` what is left of the row that stands in these columns and values by the pivots; its memory serves again.
+    pub fn rest_to(
+        &self,
+        alloc: Global,
+        cols: &[u32],
+        vals: &[u64],
+        work: &mut Work,
+        rest: &mut Sparse,
+    ) -> Result<(), AllocError>
+        requires row { IsSparse self.now.rows.modulus self.now.rows.matrix.width cols.now vals.now }
+        requires work { work.old ≡ workspace_of self.now }
+        requires rest_modulus { rest.old.modulus ≡ self.now.rows.modulus }
+        requires rest_width { length rest.old.row ≡ self.now.rows.matrix.width }
+        ensures work { work.new ≡ work.old }
+        ensures alike { IsAlike rest.old rest.new }
+        ensures fits { OnOk result (FitsRest self.now rest.new) }
+        ensures rest { OnOk result (IsPrime self.now.rows.modulus → IsSchurRow self.now.rows.modulus
+            self.now.rows.matrix self.now.pairs (spread self.now.rows.matrix.width cols.now vals.now)
+            rest.new.row) }
+    {
+        rest.clear();
+        work.rest(alloc, &self.pivots, cols, vals, rest)?;
+        Ok(())
     }
 
     // The pivot rows.

@@ -1,18 +1,7 @@
-use Rattle.std.proofs.Common.{◌∙◌, ap, subst}
-use Rattle.triangular_solve.specs.PivotRows.{ArePivotRows}
-use Rattle.triangular_solve.specs.Reduced.{Workspace}
+use Rattle.std.proofs.Common.{◌∙◌, length, ap}
+use Rattle.sparse_rows.proofs.Loops.{length_zeros}
 use Rattle.triangular_solve.specs.Triangle.{TriangleState}
-use Rattle.triangular_solve.proofs.PivotReduction.{triangle_reduces}
 use Rattle.triangular_solve.proofs.triangle.Triangle.rest.Goals as goal
 
-pub returns-clause-fits : goal.returns-clause-fits
-returns-clause-fits c = (triangle_reduces c.args.cols.now c.args.vals.now (subst (λ (t : TriangleState). ArePivotRows t.rows t.pairs c.self.inside.pivots) c.self.view_is c.self.invariant.1)
-    (ap (λ (w : Workspace). w.width) c.requires.work)
-    (c.in_ok-rest.ensures.rest.0 ∙ c.new-rest.ensures.modulus ∙ c.modulus.ensures.value ∙ ap (λ (t : TriangleState). t.rows.modulus) c.self.view_is) c.in_ok-rest.ensures.reduced.1).0
-
-pub returns-clause-rest : goal.returns-clause-rest
-returns-clause-rest c = λ prime.
-    let r = triangle_reduces c.args.cols.now c.args.vals.now (subst (λ (t : TriangleState). ArePivotRows t.rows t.pairs c.self.inside.pivots) c.self.view_is c.self.invariant.1)
-    (ap (λ (w : Workspace). w.width) c.requires.work)
-    (c.in_ok-rest.ensures.rest.0 ∙ c.new-rest.ensures.modulus ∙ c.modulus.ensures.value ∙ ap (λ (t : TriangleState). t.rows.modulus) c.self.view_is) c.in_ok-rest.ensures.reduced.1 in
-    (r.0.vector, (c.in_ok-rest.ensures.reduced.0, r.2 prime))
+pub rest_to-requires-clause-rest_width : goal.rest_to-requires-clause-rest_width
+rest_to-requires-clause-rest_width c = ap length c.new-rest.ensures.row ∙ length_zeros c.width.result ∙ c.width.ensures.value ∙ ap (λ (t : TriangleState). t.rows.matrix.width) c.self.view_is
