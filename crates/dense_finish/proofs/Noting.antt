@@ -1,5 +1,6 @@
 -- Columns that get places, and rows put there.
-use Rattle.std.proofs.Common.{ℕ, zero, suc, Bool, map, ◌≡◌, ◌≢◌, ◌+◌, ◌<◌, ◌≤◌, inl, inr, List, [], ◌∷◌, ◌++◌, length, slice_index, slice_set, sym, refl, ap, ap₂, subst, ◌∙◌, arith, length-append}
+use Rattle.std.specs.Result.{OnErr}
+use Rattle.std.proofs.Common.{ℕ, zero, suc, Bool, Result, Ok, Err, map, ◌≡◌, ◌≢◌, ◌+◌, ◌<◌, ◌≤◌, inl, inr, List, [], ◌∷◌, ◌++◌, length, slice_index, slice_set, sym, refl, ap, ap₂, subst, ◌∙◌, arith, length-append}
 use Rattle.std.proofs.Math.ListN.{get_or-append}
 use Rattle.std.proofs.Math.Seq.{get_or-append_seam}
 use Rattle.std.proofs.lemmas.Bool.{cases_eq, cases_lt}
@@ -208,3 +209,8 @@ taken_moved {p} {places} {columns} {v} {s} {b} {new} rose h vector t is =
           (subst (SameSpan p (matrix_at places (matrix_of_rows new))) (moved_more places (matrix_of_rows b) v)
           (moved_span places (omega arith) (matrix_of_reduced t.reduced) (matrix_more (matrix_of_reduced h.reduced) vector) (t.span prime)));
     }
+
+-- what holds, holds at an error
+pub any_err : {T E P : Type 0} (r : Result T E) → P → OnErr r P
+any_err (Ok x) h = tt
+any_err (Err e) h = h
