@@ -12,7 +12,7 @@ use Rattle.sparse_rows.proofs.Spread.{entry_cover, entry_here}
 use Rattle.row_space.specs.Echelon.{SameSpan}
 use Rattle.sparse_rows.proofs.Loops.{matrix_more}
 use Rattle.dense_finish.specs.Block.{block_row}
-use Rattle.dense_finish.specs.DenseBasis.{AreBasisParts, AreNoted, ArePlaces, KeepsRows, TakesIn, at_places, basis_of, matrix_at}
+use Rattle.dense_finish.specs.DenseBasis.{AreBasisParts, AreNoted, ArePlaces, KeepsRows, ReceivesRow, at_places, basis_of, matrix_at}
 use Rattle.dense_finish.specs.Panel.{PanelRows}
 use Rattle.dense_finish.specs.ReducedRows.{AreReducedRows, AreWidened, TakesRow, matrix_of_rows}
 use Rattle.dense_finish.proofs.MovedRows.{moved_more, moved_span, places_few}
@@ -199,7 +199,7 @@ parts_taken rose h t = record {
 }
 
 pub taken_moved : {p : ℕ} {places columns v s : List ℕ} {b new : PanelRows} (rose : Bool) → AreBasisParts p places columns b → IsVector p b.width v → TakesRow p b v new rose → at_places places v ≡ s →
-    TakesIn (basis_of p places b) s (basis_of p places new) rose
+    ReceivesRow (basis_of p places b) s (basis_of p places new) rose
 taken_moved {p} {places} {columns} {v} {s} {b} {new} rose h vector t is =
     let two : 2 ≤ p = h.two_or_more in
     record {

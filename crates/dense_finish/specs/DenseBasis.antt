@@ -24,7 +24,7 @@ pub record IsSoundBasis (b : ResidueMatrix) : Type 0 where
 
 -- v came to the rows: they are one more where the number rose, else as many, and for a prime modulus they span what they did
 -- with v
-pub record TakesIn (old : ResidueMatrix) (v : List ℕ) (new : ResidueMatrix) (rose : Bool) : Type 0 where
+pub record ReceivesRow (old : ResidueMatrix) (v : List ℕ) (new : ResidueMatrix) (rose : Bool) : Type 0 where
   pub height : new.matrix.height ≡ old.matrix.height + (if rose then 1 else 0)
   pub span : IsPrime old.modulus → SameSpan old.modulus new.matrix (with_row old.matrix v)
 

@@ -70,10 +70,11 @@ impl<W: Residue> Dense<W> {
         ensures entries { IfOk result (AreEntriesAt cols.now vals.now columns.now) }
     {
         let mut row = Dense::zeros(alloc, columns.len(), p)?;
+        let mut near = 0;
         for k in 0..cols.len() {
-            if let Ok(j) = columns.binary_search(&cols[k]) {
-                row.set(j, vals[k], p);
-            }
+            let j = place_of(columns, cols[k], near);
+            row.set(j, vals[k], p);
+            near = j + 1;
         }
         Ok(row)
     }
@@ -313,13 +314,13 @@ impl Dense<u64> {
 }
 
 impl Dense<u32> {
-    // The four entries from `at` on.
+    // The eight entries from `at` on.
     #[inline(always)]
-    pub(crate) fn lanes(&self, at: usize) -> u64x4
-        requires inside { at + 4 ≤ length self.now }
-        ensures { (k : ℕ) → k < 4 → slice_index result k ≡ slice_index self.now (at + k) }
+    pub(crate) fn eight_at(&self, at: usize) -> [u32; 8]
+        requires inside { at + 8 ≤ length self.now }
+        ensures { (k : ℕ) → k < 8 → slice_index result k ≡ slice_index self.now (at + k) }
     {
-        u32x4::from_slice(&self.places[at..]).cast::<u64>()
+        u32x8::from_slice(&self.places[at..]).to_array()
     }
 
     // Adds sums at these columns, of which there are at most eight.
@@ -350,5 +351,21 @@ impl Dense<u32> {
         for j in columns.start..columns.end {
             self.set(j, p.add(self.get(j), sums[j - columns.start] % p.p()), p);
         }
+    }
+}
+
+// Where a column stands among these: at `near`, as in a full row, or elsewhere.
+fn place_of(columns: &[u32], column: u32, near: usize) -> usize
+    requires rising { AreRising columns.now }
+    requires known { (j : ℕ) × (j < length columns.now) × (slice_index columns.now j ≡ column) }
+    ensures inside { result < length columns.now }
+    ensures there { slice_index columns.now result ≡ column }
+{
+    if near < columns.len() && columns[near] == column {
+        return near;
+    }
+    match columns.binary_search(&column) {
+        Ok(j) => j,
+        Err(j) => j,
     }
 }

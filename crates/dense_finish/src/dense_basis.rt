@@ -4,7 +4,7 @@ ghost use Rattle.residue_words.specs.Matrix.{IsVector};
 ghost use Rattle.sparse_rows.specs.Rows.{AreBelow};
 ghost use Rattle.sparse_rows.specs.Stored.{IsSparse, spread};
 ghost use Rattle.sparse_rows.specs.declared.rows.TheConstants.{LARGEST_SIZE};
-ghost use Rattle.dense_finish.specs.DenseBasis.{AreBasisParts, AreNoted, ArePlaces, IsSoundBasis, KeepsRows, TakesIn, at_places, basis_of, no_basis};
+ghost use Rattle.dense_finish.specs.DenseBasis.{AreBasisParts, AreNoted, ArePlaces, IsSoundBasis, KeepsRows, ReceivesRow, at_places, basis_of, no_basis};
 
 use crate::dense::Dense;
 use crate::reduced_rows::ReducedRows;
@@ -76,7 +76,7 @@ impl DenseBasis {
         requires { IsSparse self.old.modulus self.old.matrix.width cols.now vals.now }
         ensures modulus { self.new.modulus ≡ self.old.modulus }
         ensures width { self.new.matrix.width ≡ self.old.matrix.width }
-        ensures taken { IfOk result (TakesIn self.old (spread self.old.matrix.width cols.now vals.now) self.new) }
+        ensures taken { IfOk result (ReceivesRow self.old (spread self.old.matrix.width cols.now vals.now) self.new) }
         ensures err { OnErr result (self.new ≡ self.old) }
     {
         let p = self.modulus;
@@ -138,7 +138,7 @@ fn take_in(
     requires noted { AreNoted cols.now places.now }
     requires width { rows.old.width ≡ length columns.now }
     ensures parts { AreBasisParts p.now places.now columns.now rows.new }
-    ensures taken { IfOk result (TakesIn (basis_of p.now places.now rows.old)
+    ensures taken { IfOk result (ReceivesRow (basis_of p.now places.now rows.old)
         (spread (length places.now) cols.now vals.now)
         (basis_of p.now places.now rows.new)) }
     ensures err { OnErr result (rows.new ≡ rows.old) }

@@ -21,7 +21,7 @@ use Rattle.pivot_table.specs.Order.{Triangular}
 use Rattle.triangular_solve.specs.Reduced.{FitsRest, IsComplement, IsPivotRow, IsSchurRow}
 use Rattle.triangular_solve.specs.Triangle.{TriangleState}
 use Rattle.triangular_solve.proofs.Appending.{of_own_rows, with_own_row}
-use Rattle.dense_finish.specs.DenseBasis.{IsSoundBasis, TakesIn, no_basis}
+use Rattle.dense_finish.specs.DenseBasis.{IsSoundBasis, ReceivesRow, no_basis}
 use Rattle.schur_rows.specs.PivotNumbers.{IsRowOfPair}
 use Rattle.schur_rows.specs.Streamed.{FitsBasis, TakesLeft}
 use Rattle.schur_rows.proofs.Spanning.{round_ranked}
@@ -68,7 +68,7 @@ takes_pivot {t} {qs} {i} {k} {b} fits sound pairs is =
 pub takes_rest : {t : TriangleState} {R : ResidueMatrix} {qs : List Pair} {i : ℕ} {cols vals inner values : List ℕ} {w : ResidueRow} {old new : ResidueMatrix} (rose : Bool) → FitsBasis t old → R ≡ t.rows → IsMatrix R.modulus R.matrix →
     i < t.rows.matrix.height → cols ≡ support (row R.matrix i) → vals ≡ nonzeros (row R.matrix i) → qs ≡ t.pairs → ¬ IsPivotRow qs i → FitsRest t w →
     (IsPrime t.rows.modulus → IsSchurRow t.rows.modulus t.rows.matrix t.pairs (spread t.rows.matrix.width cols vals) w.row) →
-    inner ≡ support w.row → values ≡ nonzeros w.row → TakesIn old (spread old.matrix.width inner values) new rose → TakesLeft t i old new
+    inner ≡ support w.row → values ≡ nonzeros w.row → ReceivesRow old (spread old.matrix.width inner values) new rose → TakesLeft t i old new
 takes_rest {t} {R} {qs} {i} {cols} {vals} {inner} {values} {w} {old} {new} rose fits same sound li columns stands pairs none rest schur inside nonzero taken =
     let free : ¬ IsPivotRow t.pairs i = subst (λ qs. ¬ IsPivotRow qs i) pairs none in
     let n : ℕ = t.rows.matrix.width in

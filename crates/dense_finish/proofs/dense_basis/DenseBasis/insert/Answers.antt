@@ -1,7 +1,7 @@
 use Rattle.std.proofs.Common.{ℕ, ◌≡◌, ◌<◌, ◌∙◌, ap, arith, length, slice_index, subst, sym}
 use Rattle.sparse_rows.specs.Rows.{AreBelow, ResidueMatrix}
 use Rattle.sparse_rows.specs.Stored.{IsSparse, spread}
-use Rattle.dense_finish.specs.DenseBasis.{AreBasisParts, AreNoted, TakesIn, basis_of}
+use Rattle.dense_finish.specs.DenseBasis.{AreBasisParts, AreNoted, ReceivesRow, basis_of}
 use Rattle.dense_finish.proofs.Noting.{any_err}
 use Rattle.dense_finish.proofs.dense_basis.DenseBasis.insert.Goals as goal
 
@@ -35,6 +35,6 @@ returns-clause-taken c =
     let rows = c.make_room.new.rows in
     let new = c.take_in.new.rows in
     let places = c.make_room.new.places.items in
-    let base : TakesIn (basis_of p places rows) (spread (length places) c.args.cols.now c.args.vals.now) (basis_of p places new) c.in_ok-rose.rose =
-    subst (λ l. TakesIn (basis_of p l rows) (spread (length l) c.args.cols.now c.args.vals.now) (basis_of p l new) c.in_ok-rose.rose) c.deref.ensures.value c.in_ok-rose.ensures.taken in
-    subst (λ (K : ResidueMatrix). TakesIn K (spread K.matrix.width c.args.cols.now c.args.vals.now) (basis_of p places new) c.in_ok-rose.rose) (c.make_room.ensures.same ∙ c.self.view_is) base
+    let base : ReceivesRow (basis_of p places rows) (spread (length places) c.args.cols.now c.args.vals.now) (basis_of p places new) c.in_ok-rose.rose =
+    subst (λ l. ReceivesRow (basis_of p l rows) (spread (length l) c.args.cols.now c.args.vals.now) (basis_of p l new) c.in_ok-rose.rose) c.deref.ensures.value c.in_ok-rose.ensures.taken in
+    subst (λ (K : ResidueMatrix). ReceivesRow K (spread K.matrix.width c.args.cols.now c.args.vals.now) (basis_of p places new) c.in_ok-rose.rose) (c.make_room.ensures.same ∙ c.self.view_is) base

@@ -1,8 +1,7 @@
 use Rattle.std.proofs.Common.{ℕ, List, ◌≡◌, ◌≤◌, ◌∙◌, ◌-◌, ◌+◌, ap, arith, drop, length, length-drop, slice_index, sym, take}
-use Rattle.std.specs.Simd.Lanes.{chunk}
-use Rattle.std.proofs.lemmas.List.{get_or-drop, get_or-map, map-id, take_rest}
-use Rattle.std.proofs.lemmas.Simd.{get_or-chunk, length-chunk}
-use Rattle.dense_finish.proofs.dense.Dense+u32.lanes.Goals as goal
+use Rattle.std.proofs.lemmas.List.{get_or-drop, map-id, take_rest}
+use Rattle.std.proofs.lemmas.Simd.{get_or-chunk}
+use Rattle.dense_finish.proofs.dense.Dense+u32.eight_at.Goals as goal
 
 pub returns : goal.returns
 returns c = λ k l.
@@ -11,9 +10,6 @@ returns c = λ k l.
     let same : xs ≡ c.args.self.now = c.deref.ensures.value ∙ sym (map-id c.self.inside.places.items) ∙ c.self.view_is in
     let rest = take (length xs - at) (drop at xs) in
     let whole : rest ≡ drop at xs = take_rest xs at in
-    let long : length rest ≡ length xs - at = ap length whole ∙ length-drop at xs in
-    let room : 4 ≤ length rest = omega (arith, ap length same, c.requires.inside) in
     let plain : 0 + k ≡ k = omega arith in
-    get_or-map (λ (x : ℕ). x) (chunk 0 4 rest) k 0 0 (omega (arith, length-chunk 0 4 rest room))
-    ∙ get_or-chunk 0 4 rest k 0 l ∙ ap (λ i. slice_index rest i) plain
+    get_or-chunk 0 8 rest k 0 l ∙ ap (λ i. slice_index rest i) plain
     ∙ ap (λ (v : List ℕ). slice_index v k) whole ∙ get_or-drop at xs k 0 ∙ ap (λ (v : List ℕ). slice_index v (at + k)) same

@@ -11,13 +11,13 @@ use Rattle.dense_finish.proofs.AddingEach.{adds_vector}
 use Rattle.dense_finish.proofs.BlockRows.{read_row}
 use Rattle.dense_finish.proofs.ProductSums.{products_units, zeros_at}
 use Rattle.dense_finish.proofs.UnitRows.{reduced_by_units}
-use Rattle.dense_finish.proofs.panel.Panel+u32.reduce_tile.Goals as goal
+use Rattle.dense_finish.proofs.panel.Panel+u32.reduce_block.Goals as goal
 
 pub loop-t-init : goal.loop-t-init
 loop-t-init c = record {
-  four = refl;
+  all = refl;
   taken = λ t k l lk. absurd (omega arith);
-  small = λ t k. omega (arith, zeros_at 4 64 t k, c.p.ensures.two_or_more, c.p.ensures.value);
+  small = λ t k. omega (arith, zeros_at 32 64 t k, c.p.ensures.two_or_more, c.p.ensures.value);
   cleared = λ t l. absurd (omega arith);
   ahead = λ t l. refl;
 }
@@ -59,7 +59,7 @@ loop-t-preserved c =
     let e = c.entries_at.result in
     let w = c.clear.new.self in
     let inside : t < length rows = omega (arith, c.loop-t.auto.rows, c.loop-t-test.true) in
-    let low : t < length by = omega (arith, c.loop-t.invariant.four, c.requires.few_rows, c.loop-t-test.true) in
+    let low : t < length by = omega (arith, c.loop-t.invariant.all, c.requires.few_rows, c.loop-t-test.true) in
     let cols : c.deref.result.now ≡ panel.columns = c.deref.ensures.value ∙ ap (λ (m : PanelRows). m.columns) c.self.view_is in
     let cols_then : c.deref-in-loop-t.result.now ≡ panel.columns = c.deref-in-loop-t.ensures.value ∙ ap (λ (m : PanelRows). m.columns) c.self.view_is in
     let here = read_row rows t c.index-rows-t.result inside ∙ c.loop-t.invariant.ahead t (omega arith) in
@@ -76,7 +76,7 @@ loop-t-preserved c =
     let cleared_now : IsCleared p (length panel.columns) (slice_index panel.columns) (block_row olds t) w =
     subst (λ v. IsCleared p (length panel.columns) (slice_index panel.columns) v w) here_then cleared_then in
     record {
-      four = length-set by t e ∙ c.loop-t.invariant.four;
+      all = length-set by t e ∙ c.loop-t.invariant.all;
       taken = λ x k l lk. elim (cases_eq x t) [
         | inl same ↦
             ap (λ y. entry_of (set by t e) y k) same ∙ ap (λ v. slice_index v k) (get_or-set_same by t e [] low) ∙ taken_now k lk
