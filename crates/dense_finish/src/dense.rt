@@ -283,7 +283,12 @@ impl Dense<u64> {
     }
 
     // A multiple of it.
-    pub(crate) fn scaled(&self, alloc: Global, by: u64, p: &Modulus) -> Result<Dense<u64>, AllocError>
+    pub(crate) fn scaled(
+        &self,
+        alloc: Global,
+        by: u64,
+        p: &Modulus,
+    ) -> Result<Dense<u64>, AllocError>
         requires factor { by < p.now }
         requires residues { IsVector p.now (length self.now) self.now }
         ensures { IfOk result (λ row. row ≡ plus_multiple p.now by (zeros (length self.now)) self.now) }

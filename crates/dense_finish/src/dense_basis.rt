@@ -149,11 +149,7 @@ fn take_in(
 }
 
 // Gives each of these columns a place, if it has none.
-fn note_columns(
-    places: &mut [u32],
-    columns: &mut Vec<u32>,
-    cols: &[u32],
-) -> Result<(), AllocError>
+fn note_columns(places: &mut [u32], columns: &mut Vec<u32>, cols: &[u32]) -> Result<(), AllocError>
     requires places { ArePlaces places.old columns.old.items }
     requires few { length places.old ≤ LARGEST_SIZE }
     requires inside { AreBelow (length places.old) cols.now }
