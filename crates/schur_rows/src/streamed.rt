@@ -29,9 +29,9 @@ pub fn left_rank(alloc: Global, triangle: &Triangle) -> Result<usize, AllocError
     let rows = triangle.rows();
     // The calls' contracts tell that the entries are residues, and that the pivots are triangular.
     let _ = (rows.height(), triangle.pairs().len());
-    let numbers = PivotNumbers::of(alloc, triangle)?;
     let reducer = RowReducer::of(alloc, triangle)?;
-    let mut work = Work::new(alloc, triangle)?;
+    let numbers = PivotNumbers::of(alloc, &reducer)?;
+    let mut work = reducer.work(alloc)?;
     let mut left = Sparse::new(alloc, rows.width(), rows.modulus());
     let mut basis = DenseBasis::new(alloc, rows.width(), &rows.modulus())?;
     for i in 0..rows.height() {
