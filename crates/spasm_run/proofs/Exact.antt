@@ -426,15 +426,15 @@ dashed words b e f c a =
     absurd cc
 
 -- words that clap refuses
-pub refused : (words : List Text) (o : Option ArgMatches) → AreTaken words o → o ≡ None → AreRefused words
-refused words o h e c a = subst (AreTaken words) e h (accepted_fault words c a)
+pub refused : (words : List Text) (o : Option ArgMatches) → AreTaken command_line words o → o ≡ None → AreRefused words
+refused words o h e c a = subst (AreTaken command_line words) e h (accepted_fault words c a)
 
 -- words that clap takes, with the command that the matches say, if they say one
 pub answered : (words : List (Bor Text)) (b : Bool) (o : Option ArgMatches) (m : ArgMatches) (result : Option Command) → b ≡ list_any (λ w. bytes_eq w.now (codes "--")) words → b ≡ false
-    → AreTaken (bytes words) o → o ≡ Some m → MatchOption result ((c : Command) → ¬ AsksFor (subcommand_rows_of m) c) (AsksFor (subcommand_rows_of m)) → IsCommandOf (bytes words) result
+    → AreTaken command_line (bytes words) o → o ≡ Some m → MatchOption result ((c : Command) → ¬ AsksFor (subcommand_rows_of m) c) (AsksFor (subcommand_rows_of m)) → IsCommandOf (bytes words) result
 answered words b o m None e f t is h =
-    let k = subst (AreTaken (bytes words)) is t in
-    λ c a. h c (subst (λ (x : Option (Text × List Row)). AsksFor x c) (sym k.1) (accepted_says (bytes words) c a))
+    let k = subst (AreTaken command_line (bytes words)) is t in
+    λ c a. h c (subst (λ (x : Option (Text × List Row)). AsksFor x c) (sym k.2) (accepted_says (bytes words) c a))
 answered words b o m (Some c) e f t is h =
-    let k = subst (AreTaken (bytes words)) is t in
-    says_accepted (bytes words) c (no_dashes (bytes words) (sym (words_dashes words) ∙ sym e ∙ f)) k.0 (subst (λ (x : Option (Text × List Row)). AsksFor x c) k.1 h)
+    let k = subst (AreTaken command_line (bytes words)) is t in
+    says_accepted (bytes words) c (no_dashes (bytes words) (sym (words_dashes words) ∙ sym e ∙ f)) k.0 (subst (λ (x : Option (Text × List Row)). AsksFor x c) k.2 h)
