@@ -131,7 +131,7 @@ basis_vector {p} {leads} {column} {f} v two b = record {
 }
 
 -- a value pushed at one row more
-sum_pushed : (i j : ℕ) (ts : List Triple) (t : Triple) → sum_at i j (ts ++ t ∷ []) ≡ sum_at i j ts + sum_at i j (t ∷ [])
+pub sum_pushed : (i j : ℕ) (ts : List Triple) (t : Triple) → sum_at i j (ts ++ t ∷ []) ≡ sum_at i j ts + sum_at i j (t ∷ [])
 sum_pushed i j [] t = none_add (sum_at i j (t ∷ []))
   where
     none_add : (x : ℕ) → x ≡ 0 + x

@@ -1,10 +1,13 @@
 pub mod AtLeads
 pub mod Basis
+pub mod Exchange
 pub mod Free
 pub mod Inverting
 pub mod Matrices
 pub mod Preparing
+pub mod Products
 pub mod Read
 pub mod Refuting
 pub mod RightHalf
 pub mod Transforming
+pub mod Turning

@@ -12,12 +12,12 @@ use Rattle.sparse_rows.specs.ColumnSet.{AllZero}
 use Rattle.sparse_rows.specs.Rows.{matrix_by, nonzeros, selected, support, transposed}
 use Rattle.sparse_rows.specs.Stored.{entry_at}
 use Rattle.sparse_rows.proofs.Spread.{entry_support}
-use Rattle.kernel_solve.specs.Refuted.{IsFirstHit, IsFirstNonzero, multiple}
 use Rattle.sparse_rows.proofs.Spread.{map_range_equal}
 use Rattle.row_space.specs.Kernel.{EndsAt, IsNull}
 use Rattle.row_space.specs.Solution.{IsReducedSolution, IsSolution}
 use Rattle.row_space.proofs.KernelLaws.{null_orthogonal}
-use Rattle.kernel_solve.specs.Column.{column}
+use Rattle.kernel_solve.specs.Column.{column, column_at}
+use Rattle.kernel_solve.specs.Refuted.{multiple}
 use Rattle.kernel_solve.specs.Prepared.{Transforms}
 use Rattle.kernel_solve.specs.ReadOff.{IsAtLeads}
 use Rattle.kernel_solve.proofs.AtLeads.{lead_or_none}
@@ -130,27 +130,6 @@ module _ {values to : List ℕ} {k : ℕ} (h : IsCopiedTo values k to) (l : k < 
 pub copied_all : {values to : List ℕ} {k : ℕ} → IsCopiedTo values k to → k ≡ length values → to ≡ values
 copied_all {values} {to} {k} h e = list_equal k to values (h.long ∙ sym e) (sym e) h.done
 
--- a part of a matrix by selected rows and columns
-pub part_is : (F : Matrix) (r n w : ℕ) → r ≤ F.height → n + w ≡ F.width →
-    transposed (selected (transposed (selected F (range_with_len 0 r))) (range_with_len n w)) ≡ matrix_by r w (λ i j. entry F i (n + j))
-part_is F r n w high wide =
-    let S : Matrix = selected F (range_with_len 0 r) in
-    let R : Matrix = selected (transposed S) (range_with_len n w) in
-    let rows_many : length (range_with_len 0 r) ≡ r = length-range 0 r in
-    let columns_many : length (range_with_len n w) ≡ w = length-range n w in
-    let turned : (i j : ℕ) → i < r → j < w → entry R j i ≡ entry F i (n + j) = λ i j li lj.
-    ap (λ u. slice_index u i) (get_or-map (row (transposed S)) (range_with_len n w) j 0 [] (omega (arith, columns_many)) ∙ ap (row (transposed S)) (at-range n w j lj))
-    ∙ entry_matrix_of F.width (length (range_with_len 0 r)) (λ i j. entry S j i) (n + j) i (omega (arith, wide)) (omega (arith, rows_many))
-    ∙ ap (λ u. slice_index u (n + j)) (get_or-map (row F) (range_with_len 0 r) i 0 [] (omega (arith, rows_many)) ∙ ap (row F) (at-range 0 r i li ∙ zero-add i)) in
-    ap₂ (λ h w. matrix_by h w (λ i j. entry R j i)) rows_many columns_many
-    ∙ ap (λ rows. record { height = r; width = w; rows = rows }) (map_range_equal (λ i. list_of w (λ j. entry R j i)) (λ i. list_of w (λ j. entry F i (n + j))) 0 r (λ i low li. list_of_equal w _ _ (λ j lj. turned i j (omega (arith, zero-add r)) lj)))
-  where
-    length-range : (n w : ℕ) → length (range_with_len n w) ≡ w
-    length-range n w = sym (ap length (map-id (range_with_len n w))) ∙ length-map-range_with_len (λ x. x) n w
-
-    at-range : (n w j : ℕ) → j < w → slice_index (range_with_len n w) j ≡ n + j
-    at-range n w j l = sym (ap (λ xs. slice_index xs j) (map-id (range_with_len n w))) ∙ get_or-map-range_with_len (λ x. x) n w j (n + j) 0 l refl
-
 pub copied_none : (values to : List ℕ) → to ≡ zeros (length values) → IsCopiedTo values 0 to
 copied_none values to e = record {
   long = ap length e ∙ length_list_of (length values) _;
@@ -158,34 +137,11 @@ copied_none values to e = record {
   behind = λ j b l. ap (slice_index to) refl ∙ ap (λ xs. slice_index xs j) e ∙ at_zeros (length values) j (omega (arith, ap length e, length_list_of (length values) (λ j. 0)));
 }
 
-pub range_more : (n k : ℕ) → range_with_len n k ++ (n + k) ∷ [] ≡ range_with_len n (k + 1)
-range_more n k =
-    ap (λ xs. xs ++ (n + k) ∷ []) (sym (map-id (range_with_len n k))) ∙ sym (map-range_with_len_more (λ x. x) n k (n + k) refl) ∙ map-id (range_with_len n (k + 1))
+-- a multiple of a column
+pub multiple_long : (p f : ℕ) (M : Matrix) (k : ℕ) → length (multiple p f (column_at M k)) ≡ M.height
+multiple_long p f M k = length_list_of (length (column_at M k)) _ ∙ length_list_of M.height _
 
-pub range_many : (n w : ℕ) → length (range_with_len n w) ≡ w
-range_many n w = sym (ap length (map-id (range_with_len n w))) ∙ length-map-range_with_len (λ x. x) n w
-
-pub range_inside : (n w m : ℕ) → n + w ≤ m → (k d : ℕ) → k < length (range_with_len n w) → slice_index_or (range_with_len n w) k d < m
-range_inside n w m small k d l = let lk : k < w = omega (arith, range_many n w) in omega (arith, get_or-range_with_len n w k d lk)
-
--- zeros to which a multiple of a row was added
-pub multiple_made : (p factor : ℕ) (v before sums : List ℕ) → length before ≡ length v → ((j : ℕ) → j < length v → slice_index before j ≡ 0) → length sums ≡ length before →
-    ((j : ℕ) → j < length before → slice_index sums j ≡ (slice_index before j + factor * entry_at (support v) (nonzeros v) j) % p) → sums ≡ multiple p factor v
-multiple_made p factor v before sums n none long are =
-    list_equal (length v) sums _ (long ∙ n) (length_list_of (length v) _) (λ j l.
-    let zero_there : slice_index before j ≡ 0 = none j l in
-    let same : slice_index before j + factor * entry_at (support v) (nonzeros v) j ≡ factor * slice_index v j = omega (arith, zero_there, ap (λ x. factor * x) (entry_support v j)) in
-    are j (omega (arith, n)) ∙ ap (λ x. x % p) same ∙ sym (at_list_of (length v) (λ j. factor * slice_index v j % p) j l))
-
--- products with the rows of the kernel of A transposed
-pub hit_first : (p : ℕ) (K : Matrix) (b : List ℕ) (k : ℕ) → IsFirstNonzero (apply p K b) k → IsFirstHit p K b k
-hit_first p K b k h =
-    let below : k < K.height = omega (arith, h.inside, length_list_of K.height (λ i. sum_below K.width (λ j. entry K i j * slice_index b j) % p)) in
-    record {
-      below = below;
-      hit = λ z. h.nonzero (at_apply p K b k below ∙ z);
-      before = λ t l. sym (at_apply p K b t (omega arith)) ∙ h.before t l;
-    }
-
-pub not_hit : (p : ℕ) (K : Matrix) (b : List ℕ) → AllZero (apply p K b) → (k : ℕ) → IsFirstHit p K b k → ⊥
-not_hit p K b none k h = h.hit (sym (at_apply p K b k h.below) ∙ none k (omega (arith, h.below, length_list_of K.height (λ i. sum_below K.width (λ j. entry K i j * slice_index b j) % p))))
+pub multiple_entry : (p f : ℕ) (M : Matrix) (k i : ℕ) → i < M.height → slice_index (multiple p f (column_at M k)) i ≡ f * entry M i k % p
+multiple_entry p f M k i l =
+    at_list_of (length (column_at M k)) (λ j. f * slice_index (column_at M k) j % p) i (omega (arith, length_list_of M.height (λ i. entry M i k)))
+    ∙ ap (λ x. f * x % p) (at_list_of M.height (λ i. entry M i k) i l)

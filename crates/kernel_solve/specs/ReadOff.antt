@@ -1,5 +1,6 @@
 -- What is read off the columns of an echelon form (textbook): a row of the kernel basis, and a solution.
-use Rattle.std.specs.Prelude.{◌≡◌, ◌≢◌, ◌<◌, ◌-◌, ◌%◌, ℕ, List, length, slice_index}
+use Rattle.std.specs.Prelude.{◌≡◌, ◌≢◌, ◌<◌, ◌+◌, ◌-◌, ◌%◌, ℕ, List, length, slice_index}
+use Rattle.sparse_rows.specs.Rows.{Building, sum_at}
 
 -- column j is free: no row leads there
 abbrev pub IsFree : List ℕ → ℕ → Type 0
@@ -17,3 +18,12 @@ pub record IsBasisRow (p : ℕ) (leads column : List ℕ) (f : ℕ) (v : List �
 pub record IsAtLeads (leads column x : List ℕ) : Type 0 where
   pub at_lead : (k : ℕ) → k < length leads → slice_index x (slice_index leads k) ≡ slice_index column k
   pub elsewhere : (j : ℕ) → j < length x → IsFree leads j → slice_index x j ≡ 0
+
+-- the last entries of v were pushed into column k of what is built, from behind
+pub record PushesRow (v : List ℕ) (k : ℕ) (before after : Building) : Type 0 where
+  pub modulus : after.modulus ≡ before.modulus
+  pub height : after.height ≡ before.height
+  pub width : after.width ≡ before.width
+  pub here : (i : ℕ) → i < before.height →
+      sum_at i k after.pushed ≡ sum_at i k before.pushed + slice_index v (length v - 1 - i)
+  pub elsewhere : (i j : ℕ) → j ≢ k → sum_at i j after.pushed ≡ sum_at i j before.pushed

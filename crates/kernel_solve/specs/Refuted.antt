@@ -1,5 +1,5 @@
 -- Refuting combinations by the kernel basis of the transposed matrix: y A = 0 exactly where y is in that kernel.
-use Rattle.std.specs.Prelude.{◌≡◌, ◌≢◌, ◌<◌, ◌*◌, ◌%◌, ℕ, List, length, slice_index}
+use Rattle.std.specs.Prelude.{◌≡◌, ◌≢◌, ◌<◌, ◌≤◌, ◌*◌, ◌%◌, ℕ, List, length, slice_index}
 use Rattle.residue_words.specs.Residues.{IsPrime, inverse}
 use Rattle.residue_words.specs.Matrix.{Matrix, IsMatrix, IsVector, dot, list_of, row}
 use Rattle.sparse_rows.specs.Rows.{transposed}
@@ -10,11 +10,16 @@ use Rattle.row_space.specs.Solution.{IsRefutingCombination, IsSolution}
 abbrev pub multiple : ℕ → ℕ → List ℕ → List ℕ
 multiple p c v = list_of (length v) (λ j. c * slice_index v j % p)
 
--- the first number of the list that isn't 0 stands at k
-pub record IsFirstNonzero (xs : List ℕ) (k : ℕ) : Type 0 where
+-- all numbers of the list from `from` on are 0
+abbrev pub AreZeroBehind : List ℕ → ℕ → Type 0
+AreZeroBehind xs from = (t : ℕ) → from ≤ t → t < length xs → slice_index xs t ≡ 0
+
+-- the last number of the list that isn't 0 stands at k, which is `from` or behind it
+pub record IsLastNonzero (xs : List ℕ) (from k : ℕ) : Type 0 where
+  pub high : from ≤ k
   pub inside : k < length xs
   pub nonzero : slice_index xs k ≢ 0
-  pub before : (t : ℕ) → t < k → slice_index xs t ≡ 0
+  pub behind : (t : ℕ) → k < t → t < length xs → slice_index xs t ≡ 0
 
 -- row k of K is the first whose product with b isn't 0
 pub record IsFirstHit (p : ℕ) (K : Matrix) (b : List ℕ) (k : ℕ) : Type 0 where

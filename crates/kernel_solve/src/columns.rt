@@ -29,7 +29,7 @@ pub(crate) fn column_at(alloc: Global, rows: &Rows, j: u32) -> Result<Sparse, Al
 }
 
 // The entry at row i and column j.
-fn entry_of(rows: &Rows, i: u32, j: u32) -> u64
+pub(crate) fn entry_of(rows: &Rows, i: u32, j: u32) -> u64
     requires { i < rows.now.matrix.height }
     ensures { result ≡ entry rows.now.matrix i j }
 {

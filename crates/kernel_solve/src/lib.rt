@@ -18,6 +18,6 @@ mod tests;
 pub use bases::{kernel, left_kernel};
 pub use inverses::{doubled, inverse, inverse_in, null_row};
 pub use outcome::Inverse;
-pub use prepared::{Prepared, Reply};
+pub use prepared::{Prepared, Reply, beside_exchange};
 pub use refutations::{first_hit_refutes, unsolvable_is_hit};
 pub use systems::{Found, refuting_system, solution};

@@ -1,23 +1,23 @@
 // Many right-hand sides for one matrix.
-ghost use Rattle.std.specs.Prelude.{◌≡◌, ◌≢◌, ◌<◌, ◌≤◌, ◌+◌, ◌*◌, ◌%◌, ℕ, List, length, slice_index, take, IfOk};
-ghost use Rattle.std.specs.List.{range_with_len};
+ghost use Rattle.std.specs.Prelude.{◌≡◌, ◌≢◌, ◌<◌, ◌≤◌, ◌+◌, ◌*◌, ◌%◌, ℕ, List, length, slice_index, IfOk, OnOk};
 ghost use Rattle.std.specs.Option.{MatchOption};
-ghost use Rattle.residue_words.specs.Matrix.{IsVector, entry, row};
+ghost use Rattle.residue_words.specs.Residues.{inverse};
+ghost use Rattle.residue_words.specs.Matrix.{Matrix, IsMatrix, IsVector, combine, row, zeros};
 ghost use Rattle.sparse_rows.specs.declared.rows.TheConstants.{LARGEST_SIZE};
-ghost use Rattle.sparse_rows.specs.ColumnSet.{AllZero};
-ghost use Rattle.sparse_rows.specs.Rows.{AreRising, matrix_by};
-ghost use Rattle.kernel_solve.specs.Prepared.{IsSplitAt};
+ghost use Rattle.sparse_rows.specs.Rows.{AreRising, beside};
 ghost use Rattle.sparse_rows.specs.Stored.{IsSparse, entry_at};
-ghost use Rattle.kernel_solve.specs.Column.{column};
-ghost use Rattle.kernel_solve.specs.Prepared.{IsPreparedFor, IsReply};
-ghost use Rattle.kernel_solve.specs.Refuted.{IsFirstNonzero, multiple};
+ghost use Rattle.echelon_form.specs.Form.{IsFormOf};
+ghost use Rattle.kernel_solve.specs.Column.{column, column_at};
+ghost use Rattle.kernel_solve.specs.Prepared.{IsPreparedFor, IsReply, IsSplitAt, exchange, turned_from};
+ghost use Rattle.kernel_solve.specs.ReadOff.{PushesRow};
+ghost use Rattle.kernel_solve.specs.Refuted.{AreZeroBehind, IsLastNonzero, multiple};
 
-use crate::bases::left_kernel;
+use crate::columns::entry_of;
 use crate::inverses::one_row;
 use crate::systems::at_leads;
 use echelon_form::Echelon;
 use residue_words::Modulus;
-use sparse_rows::{LARGEST_SIZE, Rows, Sparse};
+use sparse_rows::{LARGEST_SIZE, Rows, RowsBuilder, Sparse};
 use std::alloc::{AllocError, Global};
 use std::marker::Model;
 use std::thread::Threads;
@@ -34,38 +34,28 @@ pub enum Reply {
 /// A matrix A prepared for any number of right-hand sides: eliminated once, so that answers take products alone.
 ///
 /// It keeps the transformation T for which T A is the echelon form of A, the leads of this form, and the kernel basis of A
-/// transposed.
+/// transposed: by the columns of both, since an answer takes those where its right-hand side isn't 0.
 #[derive(Debug, Drop)]
 pub struct Prepared {
     width: u32,
     leads: Vec<u32>,
-    transformation: Rows,
-    relations: Rows,
+    // Row i: column i of T, and behind it column i of the relations, the last relation first.
+    columns: Rows,
 }
 
 impl Model for Prepared {
-    ghost use Rattle.kernel_solve.specs.Prepared.{IsPreparation, Preparation};
+    ghost use Rattle.kernel_solve.specs.Prepared.{IsPreparation, Preparation, preparation};
 
     ghost Value = { Preparation };
 
-    ghost view = { λ q. record {
-      width = q.width;
-      leads = q.leads.items;
-      transformation = q.transformation;
-      relations = q.relations;
-    } };
+    ghost view = { λ q. preparation q.width q.leads.items q.columns };
 
-    ghost invariant = { λ q. IsPreparation (record {
-      width = q.width;
-      leads = q.leads.items;
-      transformation = q.transformation;
-      relations = q.relations;
-    }) };
+    ghost invariant = { λ q. IsPreparation q.width q.leads.items q.columns.matrix };
 }
 
 impl Prepared {
-    /// Prepares A, whose height and width are together at most 2^31: the transformation is read off the echelon form of
-    /// [A | I] (the method of Gauss and Jordan).
+    /// Prepares A, whose height and width are together at most 2^31, by the form of [A | J]. A caller who makes the form by
+    /// another way calls `beside_exchange` and `in_form`.
     pub fn of<R: Threads + Sync>(
         rt: &R,
         alloc: Global,
@@ -77,53 +67,89 @@ impl Prepared {
         requires few { workers ≤ 64 }
         ensures { IfOk result (IsPreparedFor a.now.modulus a.now.matrix) }
     {
-        let n = a.width();
-        let m = a.height();
-        let identity = Rows::identity(alloc, m, &a.modulus())?;
-        let both = a.beside(alloc, &identity)?;
-        drop(identity);
+        // The proof wants that A is a matrix of residues.
+        let _ = a.height();
+        let both = beside_exchange(alloc, a)?;
         let form = Echelon::of(rt, alloc, &both, workers)?;
         drop(both);
+        let prepared = Prepared::in_form(alloc, &form, a.width())?;
+        Ok(prepared)
+    }
+
+    /// The preparation of a matrix A of n columns by the form of [A | J], J the exchange matrix (the method of Gauss and
+    /// Jordan). Each row of the form is a combination of the rows of [A | J], whose coefficients stand behind the columns of A
+    /// in reverse order. Where a row leads in A they are a row of T. The other rows are 0 in A, so they are relations, and
+    /// each ends at its lead when it is turned round: together they are the kernel basis of A transposed, the last row first.
+    ///
+    /// It takes time proportional to the entries and the sizes of the form.
+    pub fn in_form(alloc: Global, form: &Echelon, n: u32) -> Result<Prepared, AllocError>
+        requires { n ≤ form.now.matrix.width }
+        ensures { IfOk result (λ q. (p : ℕ) (A : Matrix) → IsMatrix p A → A.width ≡ n
+            → IsFormOf p (beside A (exchange A.height)) form.now → IsPreparedFor p A q) }
+    {
+        // The proof wants to know how wide and how high the form is.
+        let _ = (form.rows().width(), form.rows().height());
         let rank = count_below(form.leads(), n);
         let leads = Vec::from_slice(alloc, &form.leads()[..rank as usize])?;
-        let transformation = part(alloc, form.rows(), rank, n, m)?;
-        drop(form);
-        let relations = left_kernel(rt, alloc, a, workers)?;
+        let columns = columns_from(alloc, form.rows(), n)?;
         Ok(Prepared {
             width: n,
             leads,
-            transformation,
-            relations,
+            columns,
         })
     }
 
-    /// The reduced solution of A x = b for a column b, exactly where there is one, else the refuting combination. It takes the
-    /// time of products with what is kept, and memory by the height and the width.
+    /// The reduced solution of A x = b for a column b, exactly where there is one, else the refuting combination. It takes time
+    /// by the entries of T and the relations in the columns where b isn't 0, by the height, and by what is told; where there
+    /// is no solution also that of a search in each column.
     pub fn answer(&self, alloc: Global, b: &Rows) -> Result<Reply, AllocError>
         requires modulus { b.now.modulus ≡ self.now.transformation.modulus }
         requires height { b.now.matrix.height ≡ self.now.transformation.matrix.width }
         requires column { b.now.matrix.width ≡ 1 }
         ensures { IfOk result (IsReply self.now b.now.matrix) }
     {
-        // The proof wants that all three are matrices of residues, and how high and wide they are.
-        let _ = (
-            b.modulus(),
-            self.relations.height(),
-            self.transformation.height(),
-        );
-        let _ = self.relations.width();
+        // The proof wants that both are matrices of residues, and how high and wide they are.
+        let _ = (b.modulus(), self.columns.modulus());
+        let _ = (self.columns.height(), self.columns.width());
         let side = first_column(alloc, b)?;
-        let hits = self.relations.times(alloc, &side)?;
-        if let Some(k) = first_nonzero(&hits) {
-            let factor = self.relations.modulus().inv(hits[k]);
-            let y = multiple_of(alloc, &self.relations, k as u32, factor)?;
-            return Ok(Reply::Refuted(one_row(alloc, &y)?));
+        let products = combined(alloc, &self.columns, &side)?;
+        let rank = self.leads.len();
+        if let Some(k) = last_nonzero(&products, rank) {
+            let y = refuting(alloc, &self.columns, k as u32, products[k])?;
+            return Ok(Reply::Refuted(y));
         }
-        let values = self.transformation.times(alloc, &side)?;
-        let values = sparse(alloc, &values, &self.transformation.modulus())?;
+        let values = sparse(alloc, &products[..rank], &self.columns.modulus())?;
         let x = at_leads(alloc, &values, &self.leads, self.width)?;
         Ok(Reply::Solution(x))
     }
+}
+
+/// [A | J], J the exchange matrix, for a matrix A whose height and width are together at most 2^31: its form is what
+/// `Prepared::in_form` reads. In time proportional to the entries and the height.
+pub fn beside_exchange(alloc: Global, a: &Rows) -> Result<Rows, AllocError>
+    requires { a.now.matrix.width + a.now.matrix.height ≤ LARGEST_SIZE }
+    ensures modulus { IfOk result (λ rows. rows.modulus ≡ a.now.modulus) }
+    ensures matrix { IfOk result (λ rows. rows.matrix ≡ beside a.now.matrix (exchange a.now.matrix.height)) }
+{
+    let exchange = exchange(alloc, a.height(), a.modulus())?;
+    let both = a.beside(alloc, &exchange)?;
+    Ok(both)
+}
+
+// The exchange matrix of n rows.
+fn exchange(alloc: Global, n: u32, modulus: Modulus) -> Result<Rows, AllocError>
+    requires { n ≤ LARGEST_SIZE }
+    ensures modulus { IfOk result (λ rows. rows.modulus ≡ modulus) }
+    ensures matrix { IfOk result (λ rows. rows.matrix ≡ exchange n) }
+{
+    let mut rows = Rows::with_room(alloc, modulus, n, n, n as usize)?;
+    let mut row = Sparse::new(alloc, n, modulus);
+    for i in 0..n {
+        row.clear();
+        row.push(n - 1 - i, 1)?;
+        rows.append(&row)?;
+    }
+    Ok(rows)
 }
 
 // How many of these rising numbers are below n.
@@ -140,35 +166,39 @@ fn count_below(numbers: &[u32], n: u32) -> u32
     numbers.len() as u32
 }
 
-// The first `height` rows, of which `width` columns from column `from` on.
-fn part(alloc: Global, rows: &Rows, height: u32, from: u32, width: u32) -> Result<Rows, AllocError>
-    requires height { height ≤ rows.now.matrix.height }
-    requires width { from + width ≡ rows.now.matrix.width }
-    ensures modulus { IfOk result (λ part. part.modulus ≡ rows.now.modulus) }
-    ensures matrix { IfOk result (λ part.
-        part.matrix ≡ matrix_by height width (λ i j. entry rows.now.matrix i (from + j))) }
+// The columns from n on as rows, the last column first.
+fn columns_from(alloc: Global, rows: &Rows, n: u32) -> Result<Rows, AllocError>
+    requires { n ≤ rows.now.matrix.width }
+    ensures modulus { IfOk result (λ made. made.modulus ≡ rows.now.modulus) }
+    ensures matrix { IfOk result (λ made. made.matrix ≡ turned_from rows.now.matrix n) }
 {
-    // The proof wants to know how high and how wide a matrix is.
-    let _ = (rows.height(), rows.width());
-    let top = rows.select(alloc, &counted(alloc, 0, height)?)?;
-    let columns = top.transpose(alloc)?;
-    drop(top);
-    let right = columns.select(alloc, &counted(alloc, from, width)?)?;
-    drop(columns);
-    let part = right.transpose(alloc)?;
-    Ok(part)
+    let mut entries = RowsBuilder::new(alloc, rows.width() - n, rows.height(), rows.modulus())?;
+    for k in 0..rows.height() {
+        push_row(rows, k, n, &mut entries)?;
+    }
+    let made = entries.finish()?;
+    Ok(made)
 }
 
-// The numbers from `from` on, so many.
-fn counted(alloc: Global, from: u32, count: u32) -> Result<Vec<u32>, AllocError>
-    requires { from + count ≤ LARGEST_SIZE }
-    ensures { IfOk result (λ numbers. numbers.items ≡ range_with_len from count) }
+// Pushes the entries of row k from column n on at column k, that of the last column at row 0.
+fn push_row(rows: &Rows, k: u32, n: u32, to: &mut RowsBuilder) -> Result<(), AllocError>
+    requires row { k < rows.now.matrix.height }
+    requires modulus { to.old.modulus ≡ rows.now.modulus }
+    requires height { to.old.height + n ≡ rows.now.matrix.width }
+    requires width { to.old.width ≡ rows.now.matrix.height }
+    ensures { OnOk result (PushesRow (row rows.now.matrix k) k to.old to.new) }
 {
-    let mut numbers = Vec::with_capacity(alloc, count as usize)?;
-    for k in 0..count {
-        numbers.push(from + k)?;
+    // The proof wants that the entries are residues.
+    let _ = rows.modulus();
+    let width = rows.width();
+    let cols = rows.cols(k);
+    let vals = rows.vals(k);
+    for t in 0..cols.len() {
+        if n <= cols[t] {
+            to.push(width - 1 - cols[t], k, vals[t])?;
+        }
     }
-    Ok(numbers)
+    Ok(())
 }
 
 // The entries of a column.
@@ -182,30 +212,29 @@ fn first_column(alloc: Global, b: &Rows) -> Result<Vec<u64>, AllocError>
     Ok(side)
 }
 
-// The first that isn't 0.
-fn first_nonzero(values: &[u64]) -> Option<usize>
-    ensures { MatchOption result (AllZero values.now) (IsFirstNonzero values.now) }
+// The combination of the rows with these coefficients.
+fn combined(alloc: Global, rows: &Rows, coefficients: &[u64]) -> Result<Vec<u64>, AllocError>
+    requires { IsVector rows.now.modulus rows.now.matrix.height coefficients.now }
+    ensures { IfOk result (λ sums. sums.items ≡ combine rows.now.modulus coefficients.now rows.now.matrix) }
 {
-    for k in 0..values.len() {
-        if values[k] != 0 {
-            return Some(k);
-        }
-    }
-    None
+    let mut sums = vec![in alloc; 0; rows.width() as usize]?;
+    add_rows(rows, coefficients, &mut sums);
+    Ok(sums)
 }
 
-// Row k times a factor.
-fn multiple_of(alloc: Global, rows: &Rows, k: u32, factor: u64) -> Result<Sparse, AllocError>
-    requires row { k < rows.now.matrix.height }
-    requires factor { factor < rows.now.modulus }
-    ensures modulus { IfOk result (λ made. made.modulus ≡ rows.now.modulus) }
-    ensures row { IfOk result (λ made. made.row ≡ multiple rows.now.modulus factor (row rows.now.matrix k)) }
+// Makes zero sums the combination of the rows with these coefficients, by those that aren't 0.
+fn add_rows(rows: &Rows, coefficients: &[u64], sums: &mut [u64])
+    requires coefficients { IsVector rows.now.modulus rows.now.matrix.height coefficients.now }
+    requires zero { sums.old ≡ zeros rows.now.matrix.width }
+    ensures { sums.new ≡ combine rows.now.modulus coefficients.now rows.now.matrix }
 {
     let modulus = rows.modulus();
-    let mut entries = vec![in alloc; 0; rows.width() as usize]?;
-    add_multiple(&modulus, &mut entries, factor, rows.cols(k), rows.vals(k));
-    let made = sparse(alloc, &entries, &modulus)?;
-    Ok(made)
+    for i in 0..rows.height() {
+        let by = coefficients[i as usize];
+        if by != 0 {
+            add_multiple(&modulus, sums, by, rows.cols(i), rows.vals(i));
+        }
+    }
 }
 
 // Adds a multiple of the row that stands in these columns and values.
@@ -222,6 +251,60 @@ fn add_multiple(p: &Modulus, sums: &mut [u64], by: u64, cols: &[u32], vals: &[u6
         let product = p.mul(by, vals[k]);
         sums[j] = p.add(sums[j], product);
     }
+}
+
+// The last from `from` on that isn't 0.
+fn last_nonzero(values: &[u64], from: usize) -> Option<usize>
+    requires { from ≤ length values.now }
+    ensures { MatchOption result (AreZeroBehind values.now from) (IsLastNonzero values.now from) }
+{
+    let behind = values.len() - from;
+    for back in 0..behind {
+        let k = values.len() - 1 - back;
+        if values[k] != 0 {
+            return Some(k);
+        }
+    }
+    None
+}
+
+// Column k divided by a number, as a row.
+fn refuting(alloc: Global, rows: &Rows, k: u32, product: u64) -> Result<Rows, AllocError>
+    requires column { k < rows.now.matrix.width }
+    requires nonzero { product ≢ 0 }
+    requires residue { product < rows.now.modulus }
+    ensures modulus { IfOk result (λ y. y.modulus ≡ rows.now.modulus) }
+    ensures sound { IfOk result (λ y. IsMatrix y.modulus y.matrix) }
+    ensures height { IfOk result (λ y. y.matrix.height ≡ 1) }
+    ensures width { IfOk result (λ y. y.matrix.width ≡ rows.now.matrix.height) }
+    ensures row { IfOk result (λ y. row y.matrix 0
+        ≡ multiple rows.now.modulus (inverse rows.now.modulus product) (column_at rows.now.matrix k)) }
+{
+    // The proof wants to know how high a matrix is.
+    let _ = rows.height();
+    let factor = rows.modulus().inv(product);
+    let y = multiple_of(alloc, rows, k, factor)?;
+    let row = one_row(alloc, &y)?;
+    Ok(row)
+}
+
+// Column k times a factor, in the time of a search in each row.
+fn multiple_of(alloc: Global, rows: &Rows, k: u32, factor: u64) -> Result<Sparse, AllocError>
+    requires column { k < rows.now.matrix.width }
+    requires factor { factor < rows.now.modulus }
+    ensures modulus { IfOk result (λ made. made.modulus ≡ rows.now.modulus) }
+    ensures row { IfOk result (λ made. made.row
+        ≡ multiple rows.now.modulus factor (column_at rows.now.matrix k)) }
+{
+    let modulus = rows.modulus();
+    let mut made = Sparse::new(alloc, rows.height(), modulus);
+    for i in 0..rows.height() {
+        let product = modulus.mul(factor, entry_of(rows, i, k));
+        if product != 0 {
+            made.push(i, product)?;
+        }
+    }
+    Ok(made)
 }
 
 // The row with these entries.

@@ -2,7 +2,9 @@
 ghost use Rattle.sparse_rows.specs.declared.rows.TheConstants.{LARGEST_SIZE};
 ghost use Rattle.std.specs.Prelude.{◌≡◌, ◌≤◌, IfOk};
 
-use crate::{Found, Inverse, inverse, kernel, left_kernel, refuting_system, solution};
+use crate::{
+    Found, Inverse, Prepared, Reply, inverse, kernel, left_kernel, refuting_system, solution,
+};
 use echelon_form::Echelon;
 use residue_words::Modulus;
 use sparse_rows::{Rows, RowsBuilder};
@@ -213,6 +215,39 @@ fn inverses(rt: HostRuntime) -> Result<(), Fail> {
         assert!(rt; *n <= 8);
         let (found, entries) = inverted(&rt, alloc, *n, *a)?;
         assert!(rt; found == *is_inverse);
+        assert_eq!(rt; entries.as_slice(), *expected);
+    }
+    Ok(())
+}
+
+// What is replied to a column, for the matrix X: whether there is a solution, and the entries of the reply.
+fn replied<R: Threads + Sync>(
+    rt: &R,
+    alloc: Global,
+    triples: &[(u32, u32, u64)],
+) -> Result<(bool, Vec<(u32, u32, u64)>), AllocError> {
+    let a = built(alloc, 3, 3, X)?;
+    let prepared = Prepared::of(rt, alloc, &a, 1)?;
+    let b = built(alloc, 3, 1, triples)?;
+    match prepared.answer(alloc, &b)? {
+        Reply::Solution(x) => Ok((true, listed(alloc, &x)?)),
+        Reply::Refuted(y) => Ok((false, listed(alloc, &y)?)),
+    }
+}
+
+// The entries of a column, whether there is a solution for the matrix X, and the entries of the reply.
+const REPLIES: &[(&[(u32, u32, u64)], bool, &[(u32, u32, u64)])] = &[
+    (&[(2, 0, 1)], false, &[(0, 0, 6), (0, 1, 6), (0, 2, 1)]),
+    (&[(0, 0, 1), (2, 0, 1)], true, &[(2, 0, 1)]),
+    (&[], true, &[]),
+];
+
+#[test]
+fn replies(rt: HostRuntime) -> Result<(), Fail> {
+    let alloc = rt.alloc();
+    for (b, is_solvable, expected) in REPLIES {
+        let (found, entries) = replied(&rt, alloc, *b)?;
+        assert!(rt; found == *is_solvable);
         assert_eq!(rt; entries.as_slice(), *expected);
     }
     Ok(())

@@ -1,5 +1,0 @@
-use Rattle.std.proofs.Common.{ℕ, ◌≡◌, ◌<◌, slice_index}
-use Rattle.kernel_solve.proofs.prepared.first_nonzero.Given as goal
-
-abbrev pub invariant-loop-k : goal.invariant-loop-k
-invariant-loop-k l = (t : ℕ) → t < l.k → slice_index l.values t ≡ 0
