@@ -1,5 +1,5 @@
 -- The shapes of a matrix and of the right-hand sides behind it.
-use Rattle.std.proofs.Common.{ℕ, zero, suc, ◌≡◌, ◌≢◌, ◌+◌, ◌<◌, ◌≤◌, ◌⊎◌, inl, inr, List, [], ◌∷◌, Option, None, Some, length, map, drop, get_or, refl, sym, ap, subst, ◌∙◌, arith}
+use Rattle.std.proofs.Common.{ℕ, zero, suc, Bool, true, false, ◌≡◌, ◌≢◌, ◌+◌, ◌<◌, ◌≤◌, ◌⊎◌, inl, inr, List, [], ◌∷◌, Option, None, Some, length, map, drop, get_or, refl, sym, ap, subst, ◌∙◌, arith}
 use Rattle.std.specs.Prelude.{◌==◌, ◌&&◌, nat_lt, if◌then◌else◌, All}
 use Rattle.std.proofs.lemmas.Bool.Decides.{nat_tests}
 use Rattle.core.proofs.slice.Prefixes.{drop_more}
@@ -10,6 +10,7 @@ use Rattle.batch_solve.specs.declared.batch_status.BatchStatus.{BatchStatus}
 use Rattle.batch_solve.specs.declared.batch_status.BatchStatus.TheVariants.{Shape, Wide}
 use Rattle.batch_solve.specs.BatchAnswers.{batch_misfit, first_misshapen}
 use Rattle.batch_solve.specs.BatchFound.{matrices_of}
+use Rattle.batch_solve.proofs.Slots.{none_isnt, some_is}
 
 -- a column of this height fits, and another matrix doesn't
 fits : (m number : ℕ) (B : Matrix) (Bs : List Matrix) → B.height ≡ m → B.width ≡ 1 → first_misshapen m number (B ∷ Bs) ≡ first_misshapen m (number + 1) Bs
@@ -101,3 +102,26 @@ pub fit_columns : (texts : List ResidueMatrix) (d : ResidueMatrix) → 1 ≤ len
 fit_columns [] d some e = absurd (omega arith)
 fit_columns (A ∷ Bs) d some e =
     columns A.matrix.height 1 Bs (sym (narrow_one A.matrix (matrices_of Bs) (not_wide A.matrix (matrices_of Bs) e)) ∙ e)
+
+-- ---- what doesn't fit is refused
+
+abbrev pub IsRefusal : BatchStatus → Type 0
+IsRefusal (Shape number h w) = Unit {0}
+IsRefusal (Wide h w) = Unit {0}
+IsRefusal s = ⊥
+
+misshapen_refused : (m number : ℕ) (Bs : List Matrix) (s : BatchStatus) → first_misshapen m number Bs ≡ Some s → IsRefusal s
+misshapen_refused m number [] s e = absurd (none_isnt s e)
+misshapen_refused m number (B ∷ Bs) s e = go ((B.height == m) && (B.width == 1)) e
+  where
+    go : (b : Bool) → (if b then first_misshapen m (number + 1) Bs else Some (Shape number B.height B.width)) ≡ Some s → IsRefusal s
+    go true f = misshapen_refused m (number + 1) Bs s f
+    go false f = subst IsRefusal (some_is (Shape number B.height B.width) s f) tt
+
+pub misfit_refused : (values : List Matrix) (s : BatchStatus) → batch_misfit values ≡ Some s → IsRefusal s
+misfit_refused [] s e = absurd (none_isnt s e)
+misfit_refused (A ∷ Bs) s e = go (nat_lt LARGEST_SIZE (A.height + A.width)) e
+  where
+    go : (b : Bool) → (if b then Some (Wide A.height A.width) else first_misshapen A.height 1 Bs) ≡ Some s → IsRefusal s
+    go true f = subst IsRefusal (some_is (Wide A.height A.width) s f) tt
+    go false f = misshapen_refused A.height 1 Bs s f

@@ -30,6 +30,7 @@ use Rattle.batch_solve.specs.BatchStatus.{batch_status_of, is_read_fault}
 use Rattle.batch_solve.specs.BatchWords.{AcceptedBatch, AskForNoBatch}
 use Rattle.batch_solve.proofs.BatchOptions.{one_batch}
 use Rattle.batch_solve.proofs.BatchReading.{texts_due}
+use Rattle.batch_solve.proofs.BatchShapes.{IsRefusal, misfit_refused}
 
 abbrev Replies : Type 0
 Replies = Result (Vec Reply Global) BatchStatus
@@ -82,6 +83,20 @@ module _ (words : List (List ℕ)) (c : BatchCommand) (limit : ℕ) (accepted : 
   batch_unread (error.Bad line k) was = record { input = was.input; draws = moved false was.input was.draws; found = (c, accepted, was.says) }
   batch_unread error.Read was = record { input = was.input; draws = moved true was.input was.draws; found = (c, accepted, was.says) }
   batch_unread error.Memory was = record { input = was.input; draws = moved false was.input was.draws; found = tt }
+
+-- what doesn't fit is refused by its shape
+pub refused_comes : (p : ℕ) (values : List Matrix) (s : BatchStatus) → batch_misfit values ≡ Some s → ComesOfBatch p values (Err s)
+refused_comes p values s e = go s e (misfit_refused values s e)
+  where
+    go : (s : BatchStatus) → batch_misfit values ≡ Some s → IsRefusal s → ComesOfBatch p values (Err s)
+    go status.Done e is = absurd is
+    go status.Usage e is = absurd is
+    go (status.BadText line k) e is = absurd is
+    go (status.Shape q h w) e is = e
+    go status.ReadFault e is = absurd is
+    go status.WriteFault e is = absurd is
+    go status.Memory e is = absurd is
+    go (status.Wide h w) e is = e
 
 -- the texts were read, modulo a number that is the batch's, and something came of them
 pub found_read : (words : List (List ℕ)) (c : BatchCommand) (p limit : ℕ) (old new : SourceState) (values : List Matrix) (result : Replies) →
