@@ -6,7 +6,7 @@ ghost use Rattle.spasm_run.specs.Input.{IsOfText};
 ghost use Rattle.spasm_run.specs.Options.{bytes_of};
 ghost use Rattle.batch_solve.specs.declared.batch_words.TheConstants.{LARGEST_COUNT};
 ghost use Rattle.batch_solve.specs.BatchAnswers.{batch_misfit};
-ghost use Rattle.batch_solve.specs.BatchFound.{AreBatchReplies, IsSmallReply, WereFound, matrices_of};
+ghost use Rattle.batch_solve.specs.BatchFound.{AreBatchReplies, ComesOfBatch, IsSmallReply, WereFound, matrices_of};
 ghost use Rattle.batch_solve.specs.BatchRan.{BatchRan};
 ghost use Rattle.batch_solve.specs.BatchStatus.{BatchSaysWhy, is_batch_done, is_batch_written};
 ghost use Rattle.batch_solve.specs.BatchWords.{AcceptedBatch, AskForNoBatch};
@@ -170,11 +170,33 @@ fn answer_batch<R: Threads + Wait + Sync, S: Source, W: Watch>(
 {
     let p = Modulus::new(command.modulus);
     let texts = read_texts(alloc, command.count + 1, &p, source, limit)?;
-    if let Some(status) = misfit_of(&texts) {
-        return Err(status);
+    answer_texts(rt, alloc, &p, &texts, command.workers, watch)
+}
+
+// The replies to the right-hand sides behind a matrix, or how a batch of them ends without replies.
+fn answer_texts<R: Threads + Wait + Sync, W: Watch>(
+    rt: &R,
+    alloc: Global,
+    p: &Modulus,
+    texts: &[Rows],
+    workers: u32,
+    watch: &W,
+) -> Result<Vec<Reply>, BatchStatus>
+    requires some { 1 ≤ length texts.now }
+    requires few { length texts.now < 2 ^ 32 }
+    requires of_text { All (IsOfText p.now) texts.now }
+    requires some_workers { 1 ≤ workers }
+    requires few_workers { workers ≤ 64 }
+    ensures comes { ComesOfBatch p.now (matrices_of texts.now) result }
+    ensures small { IfOk result (λ replies. All IsSmallReply replies.items) }
+{
+    match misfit_of(texts) {
+        Some(status) => Err(status),
+        None => {
+            let replies = replies_to(rt, alloc, p, texts, workers, watch)?;
+            Ok(replies)
+        }
     }
-    let replies = replies_to(rt, alloc, &p, &texts, command.workers, watch)?;
-    Ok(replies)
 }
 
 // Replies to the right-hand sides behind a matrix.
