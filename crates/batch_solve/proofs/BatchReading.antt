@@ -49,7 +49,8 @@ module _ (p limit count : ℕ) (reader : ReaderState) (source : SourceState) (be
       let closed : reader.open_text ≡ open_at (texts_due count) = ap (λ r. r.open_text) begins ∙ sym (texts_closed count) in
       subst (λ ts. HasRead p count ts (input reader source) (input reader source)) (sym none) (record {
         items = [];
-        so_far = so_far_begins (wants p (texts_due count)) (input reader source) sound closed;
+        so_far = subst (λ n. ReadSoFar (wants p (texts_due count)) (input reader source) (input reader source) [] (texts_due n)) (let e : count ≡ count - 0 = omega arith in e)
+            (so_far_begins (wants p (texts_due count)) (input reader source) sound closed);
         matrix = λ more. refl;
         inside = λ more. refl;
         of_text = All-nil (IsOfText p);

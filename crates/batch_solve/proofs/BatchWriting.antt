@@ -30,20 +30,21 @@ pub none_written : (replies : List Reply) (s : SinkState) → Gained (replies_te
 none_written replies s = behind_nothing s
 
 -- one more was written
-pub more_written : (replies : List Reply) (k : ℕ) (d : Reply) (s s' s'' : SinkState) → k < length replies → Gained (replies_text (take k replies)) s s' →
-    Writes (Ok tt) (reply_text (get_or replies k d)) s' s'' → Gained (replies_text (take (k + 1) replies)) s s''
-more_written replies k d s s' s'' less before wrote =
-    writes_same (Ok tt) _ _ s s'' (text_more replies k d less) (writes_then (Ok tt) (replies_text (take k replies)) (reply_text (get_or replies k d)) s s' s'' before wrote)
+pub more_written : (replies : List Reply) (k : ℕ) (item : Reply) (s s' s'' : SinkState) → k < length replies → item ≡ get_or replies k item → Gained (replies_text (take k replies)) s s' →
+    Writes (Ok tt) (reply_text item) s' s'' → Gained (replies_text (take (k + 1) replies)) s s''
+more_written replies k item s s' s'' less is before wrote =
+    writes_same (Ok tt) _ _ s s'' (ap (λ (r : Reply). replies_text (take k replies) ++ reply_text r) is ∙ text_more replies k item less)
+    (writes_then (Ok tt) (replies_text (take k replies)) (reply_text item) s s' s'' before wrote)
 
 -- a part of one more was written
-pub part_written : (replies : List Reply) (k : ℕ) (d : Reply) (s s' s'' : SinkState) (fault : WriteFault) (result : Result (Unit {0}) WriteFault) → IsErr result → k < length replies →
-    Gained (replies_text (take k replies)) s s' → Writes (Err fault) (reply_text (get_or replies k d)) s' s'' → Writes result (replies_text replies) s s''
-part_written replies k d s s' s'' fault result failed less before wrote =
-    let up_to = writes_then (Err fault) (replies_text (take k replies)) (reply_text (get_or replies k d)) s s' s'' before wrote in
-    let all : (replies_text (take k replies) ++ reply_text (get_or replies k d)) ++ replies_text (drop (k + 1) replies) ≡ replies_text replies =
-    ap (λ (t : List ℕ). t ++ replies_text (drop (k + 1) replies)) (text_more replies k d less) ∙ sym (flat_map-append reply_text (take (k + 1) replies) (drop (k + 1) replies))
-    ∙ ap replies_text (take-append-drop (k + 1) replies) in
-    writes_same result _ _ s s'' all (writes_stops result fault (replies_text (take k replies) ++ reply_text (get_or replies k d)) (replies_text (drop (k + 1) replies)) s s'' failed up_to)
+pub part_written : (replies : List Reply) (k : ℕ) (item : Reply) (s s' s'' : SinkState) (fault : WriteFault) (result : Result (Unit {0}) WriteFault) → IsErr result → k < length replies →
+    item ≡ get_or replies k item → Gained (replies_text (take k replies)) s s' → Writes (Err fault) (reply_text item) s' s'' → Writes result (replies_text replies) s s''
+part_written replies k item s s' s'' fault result failed less is before wrote =
+    let up_to = writes_then (Err fault) (replies_text (take k replies)) (reply_text item) s s' s'' before wrote in
+    let all : (replies_text (take k replies) ++ reply_text item) ++ replies_text (drop (k + 1) replies) ≡ replies_text replies =
+    ap (λ (t : List ℕ). t ++ replies_text (drop (k + 1) replies)) (ap (λ (r : Reply). replies_text (take k replies) ++ reply_text r) is ∙ text_more replies k item less)
+    ∙ sym (flat_map-append reply_text (take (k + 1) replies) (drop (k + 1) replies)) ∙ ap replies_text (take-append-drop (k + 1) replies) in
+    writes_same result _ _ s s'' all (writes_stops result fault (replies_text (take k replies) ++ reply_text item) (replies_text (drop (k + 1) replies)) s s'' failed up_to)
 
 -- all were written
 pub all_written : (replies : List Reply) (k : ℕ) (s s' : SinkState) → length replies ≤ k → Gained (replies_text (take k replies)) s s' → Writes (Ok tt) (replies_text replies) s s'
@@ -68,4 +69,5 @@ shape_named s q h w a b c e f g d =
 
 -- the pieces of the line that names a right-hand side
 pub shape_pieces : (h w q : ℕ) → (((codes "error 4 shape " ++ decimal h) ++ (codes " " ++ decimal w)) ++ (codes " question " ++ decimal q)) ++ 10 ∷ [] ≡ shape_line h w q
-shape_pieces h w q = simp append_assoc
+shape_pieces h w q =
+    ap (λ (l : List ℕ). l ++ 10 ∷ []) (sym (append_assoc ((codes "error 4 shape " ++ decimal h) ++ (codes " " ++ decimal w)) (codes " question ") (decimal q)))

@@ -216,6 +216,9 @@ fn replies_to<R: Threads + Wait + Sync, W: Watch>(
     requires few_workers { workers ≤ 64 }
     ensures { IfOk result (λ replies. AreBatchReplies p.now (matrices_of texts.now) replies.items) }
 {
-    let prepared = Prepared::of(rt, alloc, &texts[0], workers)?;
+    let a = &texts[0];
+    // The proof wants that A is a matrix of residues.
+    let _ = a.height();
+    let prepared = Prepared::of(rt, alloc, a, workers)?;
     answer_all(rt, alloc, &prepared, &texts[1..], workers, watch)
 }
