@@ -55,16 +55,7 @@ pub fn run_batch<'a, R: Threads + Wait + Sync, S: Source, K: Sink, E: Sink, W: W
     ensures unwritten { is_batch_written result ≡ false → out.new ≡ out.old }
     ensures silent { is_batch_done result ≡ true → err.new ≡ err.old }
 {
-    run_batch_within(
-        rt,
-        alloc,
-        words,
-        source,
-        out,
-        err,
-        watch,
-        LARGEST_INPUT,
-    )
+    run_batch_within(rt, alloc, words, source, out, err, watch, LARGEST_INPUT)
 }
 
 /// The same for an input of at most `limit` bytes, a limit of at most `LARGEST_INPUT`.

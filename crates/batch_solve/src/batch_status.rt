@@ -92,7 +92,12 @@ impl BatchStatus {
                 question,
                 height,
                 width,
-            } => write_shape_line(err, u64::from(height), u64::from(width), u64::from(question)),
+            } => write_shape_line(
+                err,
+                u64::from(height),
+                u64::from(width),
+                u64::from(question),
+            ),
             BatchStatus::ReadFault => write_text(err, "error 6 read\n"),
             BatchStatus::WriteFault => write_text(err, "error 7 write\n"),
             BatchStatus::Memory => write_text(err, "error 8 memory\n"),
