@@ -3,6 +3,8 @@
 
 mod batch_run;
 mod batch_status;
+#[cfg(test)]
+mod batch_tests;
 mod batch_texts;
 mod batch_words;
 mod desk;
