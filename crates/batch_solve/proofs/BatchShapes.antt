@@ -2,7 +2,6 @@
 use Rattle.std.proofs.Common.{ℕ, zero, suc, Bool, true, false, ◌≡◌, ◌≢◌, ◌+◌, ◌<◌, ◌≤◌, ◌⊎◌, inl, inr, List, [], ◌∷◌, Option, None, Some, length, map, drop, get_or, refl, sym, ap, subst, ◌∙◌, arith}
 use Rattle.std.specs.Prelude.{◌==◌, ◌&&◌, nat_lt, if◌then◌else◌, All}
 use Rattle.std.proofs.lemmas.Bool.Decides.{nat_tests}
-use Rattle.core.proofs.slice.Prefixes.{drop_more}
 use Rattle.residue_words.specs.Matrix.{Matrix}
 use Rattle.sparse_rows.specs.Rows.{ResidueMatrix}
 use Rattle.sparse_rows.specs.declared.rows.TheConstants.{LARGEST_SIZE}
@@ -11,6 +10,14 @@ use Rattle.batch_solve.specs.declared.batch_status.BatchStatus.TheVariants.{Shap
 use Rattle.batch_solve.specs.BatchAnswers.{batch_misfit, first_misshapen}
 use Rattle.batch_solve.specs.BatchFound.{matrices_of}
 use Rattle.batch_solve.proofs.Slots.{none_isnt, some_is}
+
+-- the items from k on
+drop_more : {X : Type 0} (xs : List X) (k : ℕ) (d : X) → k < length xs → drop k xs ≡ get_or xs k d ∷ drop (k + 1) xs
+drop_more [] k d less = absurd (omega arith)
+drop_more (x ∷ xs) zero d less = refl
+drop_more (x ∷ xs) (suc k) d less =
+    let e : suc (k + 1) ≡ suc k + 1 = omega arith in
+    drop_more xs k d (omega arith) ∙ ap (λ n. get_or xs k d ∷ drop n (x ∷ xs)) e
 
 -- a column of this height fits, and another matrix doesn't
 fits : (m number : ℕ) (B : Matrix) (Bs : List Matrix) → B.height ≡ m → B.width ≡ 1 → first_misshapen m number (B ∷ Bs) ≡ first_misshapen m (number + 1) Bs

@@ -13,10 +13,10 @@ taken_by-requires c = ap is_simple_and_free c.in_ok-line.ensures ∙ line_is_rea
 
 pub returns-in-Some : goal.returns-in-Some
 returns-in-Some c =
-    let taken = subst (λ (app : App). AreTaken app (bytes_of c.args.words.now) c.in_ok-taken_by.field-0) c.in_ok-line.ensures c.in_ok-taken_by.ensures in
-    answered_batch c.args.words.now c.has_dashes.result c.in_ok-taken_by.field-0 c.in-Some.matches c.batch_of.result c.has_dashes.ensures c.if-has_dashes.false taken c.in-Some.is c.batch_of.ensures
+    let taken = subst (λ (app : App). AreTaken app (bytes_of c.args.words.now) c.in_ok-matches.field-0) c.in_ok-line.ensures c.in_ok-matches.ensures in
+    answered_batch c.args.words.now c.has_dashes.result c.in_ok-matches.field-0 c.in-Some.matches c.batch_of.result c.has_dashes.ensures c.if-has_dashes.false taken c.in-Some.is c.batch_of.ensures
 
 pub returns-in-None : goal.returns-in-None
 returns-in-None c =
-    let taken = subst (λ (app : App). AreTaken app (bytes_of c.args.words.now) c.in_ok-taken_by.field-0) c.in_ok-line.ensures c.in_ok-taken_by.ensures in
-    refused_batch _ c.in_ok-taken_by.field-0 taken c.in-None.is
+    let taken = subst (λ (app : App). AreTaken app (bytes_of c.args.words.now) c.in_ok-matches.field-0) c.in_ok-line.ensures c.in_ok-matches.ensures in
+    refused_batch _ c.in_ok-matches.field-0 taken c.in-None.is
