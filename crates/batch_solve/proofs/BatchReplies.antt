@@ -1,6 +1,8 @@
 -- From replies to the answer of a batch.
-use Rattle.std.proofs.Common.{ℕ, zero, suc, ◌≡◌, ◌+◌, ◌<◌, ◌≤◌, ◌++◌, inl, inr, All, List, [], ◌∷◌, None, Some, length, drop, get_or, refl, sym, ap, subst, ◌∙◌, arith}
+use Rattle.std.proofs.Common.{ℕ, zero, suc, ◌≡◌, ◌+◌, ◌-◌, ◌<◌, ◌≤◌, ◌++◌, inl, inr, All, IfOk, Result, Ok, Err, Vec, List, [], ◌∷◌, None, Some, length, take, drop, get_or, refl, sym, ap, subst, ◌∙◌, arith}
 use Rattle.std.specs.Prelude.{codes}
+use Rattle.std.specs.declared.alloc.Global.{Global}
+use Rattle.std.proofs.lemmas.List.{take_all}
 use Rattle.std.proofs.lemmas.List.Elements.{All-cons, All-nil}
 use Rattle.residue_words.specs.Residues.{IsPrime}
 use Rattle.residue_words.specs.Matrix.{Matrix, IsMatrix, row}
@@ -86,3 +88,13 @@ batch_questions p (A ∷ Bs) d q some texts fits prepared = λ k e less.
       height = shape.0 ∙ sym prepared.height;
       column = shape.1;
     }
+
+-- the texts behind the first
+pub texts_behind : (texts : List ResidueMatrix) → 1 ≤ length texts → take (length texts - 1) (drop 1 texts) ≡ drop 1 texts
+texts_behind [] some = absurd (omega arith)
+texts_behind (A ∷ Bs) some = let e : suc (length Bs) - 1 ≡ length Bs = omega arith in ap (λ n. take n Bs) e ∙ take_all Bs (length Bs) (omega arith)
+
+-- what is told of replies, if there are some
+pub replies_told : {E : Type 0} (P Q : Vec Reply Global → Type 0) (r : Result (Vec Reply Global) E) → ((x : Vec Reply Global) → P x → Q x) → IfOk r P → IfOk r Q
+replies_told P Q (Ok x) f h = f x h
+replies_told P Q (Err e) f h = tt

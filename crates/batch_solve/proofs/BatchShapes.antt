@@ -90,14 +90,14 @@ IsColumnFor m b = (b.matrix.height ≡ m) × (b.matrix.width ≡ 1)
 
 columns : (m number : ℕ) (questions : List ResidueMatrix) → first_misshapen m number (matrices_of questions) ≡ None → All (IsColumnFor m) questions
 columns m number [] e = λ k d less. absurd (omega arith)
-columns m number (b ∷ bs) e k d less = go k less
+columns m number (b ∷ bs) e k d less = go k less (columns m (number + 1) bs (test b.matrix (matrices_of bs) e).2)
   where
     test : (B : Matrix) (Bs : List Matrix) → first_misshapen m number (B ∷ Bs) ≡ None → (B.height ≡ m) × (B.width ≡ 1) × (first_misshapen m (number + 1) Bs ≡ None)
     test B Bs f = grind (arith, nat_tests)
 
-    go : (k : ℕ) → k < length (b ∷ bs) → IsColumnFor m (get_or (b ∷ bs) k d)
-    go zero less = let t = test b.matrix (matrices_of bs) e in (t.0, t.1)
-    go (suc k) less = columns m (number + 1) bs (test b.matrix (matrices_of bs) e).2 k d (omega arith)
+    go : (k : ℕ) → k < length (b ∷ bs) → All (IsColumnFor m) bs → IsColumnFor m (get_or (b ∷ bs) k d)
+    go zero less later = let t = test b.matrix (matrices_of bs) e in (t.0, t.1)
+    go (suc k) less later = later k d (omega arith)
 
 pub fit_narrow : (texts : List ResidueMatrix) (d : ResidueMatrix) → 1 ≤ length texts → batch_misfit (matrices_of texts) ≡ None →
     (get_or texts 0 d).matrix.height + (get_or texts 0 d).matrix.width ≤ LARGEST_SIZE
@@ -119,11 +119,11 @@ IsRefusal s = ⊥
 
 misshapen_refused : (m number : ℕ) (Bs : List Matrix) (s : BatchStatus) → first_misshapen m number Bs ≡ Some s → IsRefusal s
 misshapen_refused m number [] s e = absurd (none_isnt s e)
-misshapen_refused m number (B ∷ Bs) s e = go ((B.height == m) && (B.width == 1)) e
+misshapen_refused m number (B ∷ Bs) s e = go ((B.height == m) && (B.width == 1)) e (misshapen_refused m (number + 1) Bs s)
   where
-    go : (b : Bool) → (if b then first_misshapen m (number + 1) Bs else Some (Shape number B.height B.width)) ≡ Some s → IsRefusal s
-    go true f = misshapen_refused m (number + 1) Bs s f
-    go false f = subst IsRefusal (some_is (Shape number B.height B.width) s f) tt
+    go : (b : Bool) → (if b then first_misshapen m (number + 1) Bs else Some (Shape number B.height B.width)) ≡ Some s → (first_misshapen m (number + 1) Bs ≡ Some s → IsRefusal s) → IsRefusal s
+    go true f later = later f
+    go false f later = subst IsRefusal (some_is (Shape number B.height B.width) s f) tt
 
 pub misfit_refused : (values : List Matrix) (s : BatchStatus) → batch_misfit values ≡ Some s → IsRefusal s
 misfit_refused [] s e = absurd (none_isnt s e)
