@@ -77,11 +77,19 @@ seconds_and_peak() {
     { /usr/bin/time -f '%e %M' "$@" > /dev/null 2>&3; } 3>&1 | tail -n 1
 }
 
-# flint TASK TEXT: FLINT's seconds for TASK (rank or rref) modulo 42013, best of three; nothing where its library isn't installed
-# (Debian: libflint-dev).
+# flint TASK TEXT [P]: FLINT's seconds for TASK (rank or rref) modulo P (or 42013), best of three; nothing where its library isn't
+# installed (Debian: libflint-dev).
 flint() {
     gcc -O2 -o bench/out/flint bench/flint.c -lflint -lgmp -lm 2> /dev/null || { echo "FLINT isn't installed: no comparison" >&2; return 0; }
-    best 2 "$2" bench/out/flint "$1" 42013
+    best 2 "$2" bench/out/flint "$1" "${3:-42013}"
+}
+
+# ffpack TEXT P: fflas-ffpack's seconds for the rank modulo P, by one thread, best of three; nothing where its library isn't installed
+# (Debian: fflas-ffpack, libopenblas-dev) or doesn't take P.
+ffpack() {
+    g++ -O3 -march=x86-64-v2 -o bench/out/ffpack bench/ffpack.cpp -lopenblas -lgivaro -lgmpxx -lgmp 2> /dev/null \
+        || { echo "fflas-ffpack isn't installed: no comparison" >&2; return 0; }
+    OPENBLAS_NUM_THREADS=1 best 2 "$1" bench/out/ffpack "$2"
 }
 
 # chessboard_text M N K FILE: the boundary map of the chessboard complex of M x N squares, from K + 1 rooks to K.

@@ -1,7 +1,8 @@
 #!/usr/bin/env bash
 # Times the dense elimination: multiples of rows added by lanes against the plain loop, modulo 2147483647; and the factors, whose pivots
 # `spasm rank --rounds 0` counts, of a dense random 2000 x 2000 matrix modulo 42013 with 1 and with 4 workers, against FLINT's
-# `nmod_mat_rank` where FLINT's library is installed (Debian: libflint-dev). The elimination alone, best of three; then the whole command.
+# `nmod_mat_rank` and fflas-ffpack's `Rank` where these libraries are installed (Debian: libflint-dev; fflas-ffpack and
+# libopenblas-dev). The elimination alone, best of three; then the whole command, without rounds and as it is called by default.
 set -eu
 cd "$(dirname "$0")/.."
 . bench/common.sh
@@ -20,8 +21,13 @@ awk -v o="$one" -v f="$four" -v n="$size" \
 flint=$(flint rank "$text")
 test -z "$flint" || awk -v f="$flint" -v o="$one" \
     'BEGIN { printf "FLINT nmod_mat_rank: %.2f s; the factors take %.2f times as long\n", f, o / 1e6 / f }'
+ffpack=$(ffpack "$text" 42013)
+test -z "$ffpack" || awk -v f="$ffpack" -v o="$one" \
+    'BEGIN { printf "fflas-ffpack Rank: %.2f s; the factors take %.2f times as long\n", f, o / 1e6 / f }'
 ./spasm rank < examples/x.sms > /dev/null
-for workers in 1 4; do
-    seconds=$(best 1 "$text" seconds_and_peak ./spasm rank --rounds 0 --workers "$workers")
-    echo "spasm rank --rounds 0 --workers $workers, from the text: $seconds s"
+for rounds in "--rounds 0" ""; do
+    for workers in 1 4; do
+        seconds=$(best 1 "$text" seconds_and_peak ./spasm rank $rounds --workers "$workers")
+        echo "spasm rank $rounds --workers $workers, from the text: $seconds s"
+    done
 done

@@ -5,16 +5,22 @@ cd "$(dirname "$0")/.." || exit
 results=$(mktemp -d) || exit
 failures=0
 
-# expect STATUS OUTPUT ERRORS INPUT WORD..: runs the program on the text with these words.
+# expect STATUS OUTPUT ERRORS INPUT WORD..: runs the program on the text with these words; expect_batch the one for many right-hand sides.
+program=./spasm
+expect_batch() {
+    program=./spasm_batch
+    expect "$@"
+    program=./spasm
+}
 expect() {
     status=$1 output=$2 errors=$3 input=$4
     shift 4
-    printf "$input" | ./spasm "$@" >"$results/out" 2>"$results/err"
+    printf "$input" | "$program" "$@" >"$results/out" 2>"$results/err"
     code=$?
     printf "$output" >"$results/wanted_out"
     printf "$errors" >"$results/wanted_err"
     if test "$code" -ne "$status" || ! cmp -s "$results/out" "$results/wanted_out" || ! cmp -s "$results/err" "$results/wanted_err"; then
-        echo "spasm $*: status $code where $status was wanted, output '$(cat "$results/out")', errors '$(cat "$results/err")'"
+        echo "$program $*: status $code where $status was wanted, output '$(cat "$results/out")', errors '$(cat "$results/err")'"
         failures=$((failures + 1))
     fi
 }
@@ -36,6 +42,12 @@ expect 0 'trace 7 1\n1 1 0\n' '' "$answer" trace --modulus 7
 expect 0 'yes\n' '' '1 1 M\n1 1 1\n0 0 0\ntrace 7 1\n1 1 0\n' replay --modulus 7
 expect 1 'no\n' '' '1 1 M\n1 1 1\n0 0 0\ntrace 7 1\n1 1 1\n' replay --modulus 7
 expect 0 'rank 1\nyes\n' '' '0 2 M\n0 0 0\nrow 1 3\nrank\nin 1 5\nend\n' grow --modulus 7
+
+expect_batch 0 'solution\n1 1 M\n1 1 4\n0 0 0\nsolution\n1 1 M\n0 0 0\n' '' '1 1 M\n1 1 2\n0 0 0\n1 1 M\n1 1 1\n0 0 0\n1 1 M\n0 0 0\n' --count 2 --modulus 7
+expect_batch 2 '' 'error 2 usage\n' '' --modulus 7
+expect_batch 3 '' 'error 3 line 3 kind 6\n' '1 1 M\n0 0 0\n' --count 1
+expect_batch 4 '' 'error 4 shape 2 1 question 2\n' '1 1 M\n0 0 0\n1 1 M\n0 0 0\n2 1 M\n0 0 0\n' --count=2
+expect_batch 9 '' 'error 9 wide 2147483647 2\n' '2147483647 2 M\n0 0 0\n1 1 M\n0 0 0\n' --count=1
 
 # A source that fails, and an output and an error stream that take nothing.
 ./spasm rank </ >"$results/out" 2>"$results/err"

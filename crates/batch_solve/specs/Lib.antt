@@ -1,3 +1,9 @@
+pub mod BatchAnswers
+pub mod BatchFound
+pub mod BatchLine
+pub mod BatchRan
+pub mod BatchStatus
+pub mod BatchWords
 pub mod Desk
 pub mod Laws
 pub mod Replies

@@ -1,6 +1,12 @@
-//! Many right-hand sides for one matrix, answered by several workers.
+//! Many right-hand sides for one matrix, answered by several workers; and the top call of the program that does so.
 #![tactic(auto)]
 
+mod batch_run;
+mod batch_status;
+#[cfg(test)]
+mod batch_tests;
+mod batch_texts;
+mod batch_words;
 mod desk;
 mod desk_rule;
 mod hand;
@@ -12,7 +18,11 @@ mod tests;
 mod together;
 mod watch;
 mod worker;
+mod written_replies;
 
+pub use batch_run::{run_batch, run_batch_within};
+pub use batch_status::BatchStatus;
+pub use batch_words::{BatchCommand, LARGEST_COUNT, at_most_one_batch, read_batch_words};
 pub use desk::Desk;
 pub use laws::{drained_leaves_none, lists_share_no_number};
 pub use taker::Taker;

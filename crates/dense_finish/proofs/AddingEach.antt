@@ -6,7 +6,7 @@ use native.Mathlib.Nat.{mod-mod}
 use Rattle.residue_words.proofs.Residues.{add_same}
 use Rattle.residue_words.proofs.Sums.{sum_bound, sum_equal, sum_split, sum_zero}
 use Rattle.dense_finish.specs.Block.{AreVectors, block_row, entry_of}
-use Rattle.dense_finish.specs.Products.{AddsBetween, AddsToEach, columns_of, products, run_of}
+use Rattle.dense_finish.specs.Products.{AddsBetween, AddsToEach, IsTile, columns_of, products, run_of}
 use Rattle.dense_finish.specs.declared.products.Columns.{Columns}
 use Rattle.dense_finish.specs.declared.products.Run.{Run}
 
@@ -82,6 +82,21 @@ adds_nothing {p} {end} {width} {f} {old} {new} vectors none le h = record {
   };
 }
 
+-- zeros added
+pub adds_kept : {p width : ℕ} {columns : Columns} {f : ℕ → ℕ → ℕ} {rows : List (List ℕ)} → AreVectors p width rows → columns.start ≤ columns.end → columns.end ≤ width →
+    ((t j : ℕ) → f t j ≡ 0) → AddsToEach p columns f rows rows
+adds_kept {p} {width} {columns} {f} {rows} vectors order le none = record {
+  long = refl;
+  each = λ t l. record {
+    long = refl;
+    added = λ j from less.
+        let plain : slice_index (block_row rows t) j + f t j ≡ slice_index (block_row rows t) j = omega (arith, none t j) in
+        sym (ap (λ x. x % p) plain ∙ mod-eq_of_lt ((vectors t l).residues j (omega arith)));
+    before = λ j less. refl;
+    behind = λ j le. refl;
+  };
+}
+
 -- sums added one after the other
 pub adds_then : {p : ℕ} {columns : Columns} {f g h : ℕ → ℕ → ℕ} {old mid new : List (List ℕ)} → ((t j : ℕ) → f t j + g t j ≡ h t j) → AddsToEach p columns f old mid →
     AddsToEach p columns g mid new → AddsToEach p columns h old new
@@ -131,16 +146,37 @@ products_small p most c rows run j room few left right =
     omega arith
 
 -- the lanes of two vectors side by side
-pub joined_lanes : (at : ℕ) (f : ℕ → ℕ) (left right v : List ℕ) → ((k : ℕ) → k < 4 → slice_index v k ≡ slice_index left k) → ((k : ℕ) → k < 4 → slice_index v (4 + k) ≡ slice_index right k) →
-    ((k : ℕ) → k < 4 → slice_index left k ≡ f (at + k)) → ((k : ℕ) → k < 4 → slice_index right k ≡ f (at + 4 + k)) → (k : ℕ) → k < 8 → slice_index v k ≡ f (at + k)
-joined_lanes at f left right v front back low high k l = elim (cases_lt k 4) [
-  | inl less ↦ front k less ∙ low k less
+pub joined_lanes : (f : ℕ → ℕ) (left right v : List ℕ) → ((k : ℕ) → k < 4 → slice_index v k ≡ slice_index left k) → ((k : ℕ) → k < 4 → slice_index v (4 + k) ≡ slice_index right k) →
+    ((k : ℕ) → k < 4 → slice_index left k ≡ f (0 + k)) → ((k : ℕ) → k < 4 → slice_index right k ≡ f (4 + k)) → (k : ℕ) → k < 8 → slice_index v k ≡ f k
+joined_lanes f left right v front back low high k l = elim (cases_lt k 4) [
+  | inl less ↦ let plain : 0 + k ≡ k = omega arith in front k less ∙ low k less ∙ ap f plain
   | inr more ↦
       let place : 4 + (k - 4) ≡ k = omega arith in
-      let there : at + 4 + (k - 4) ≡ at + k = omega arith in
       let inside : k - 4 < 4 = omega arith in
-      ap (slice_index v) (sym place) ∙ back (k - 4) inside ∙ high (k - 4) inside ∙ ap f there
+      ap (slice_index v) (sym place) ∙ back (k - 4) inside ∙ high (k - 4) inside ∙ ap f place
 ]
+
+-- equal sums, each of the rows
+pub each_equal : {p : ℕ} {columns : Columns} {f g : ℕ → ℕ → ℕ} {old new : List (List ℕ)} → ((t j : ℕ) → columns.start ≤ j → j < columns.end → f t j ≡ g t j) → AddsToEach p columns f old new → AddsToEach p columns g old new
+each_equal same h = record { long = h.long; each = λ t l. adds_equal (same t) (h.each t l) }
+
+-- the products with a tile's rows are those with the rows that it is of
+pub products_tile : (c : List ℕ) (rows tile : List (List ℕ)) (start n j : ℕ) → IsTile start rows tile → n ≤ length rows → start ≤ j → j < start + 8 →
+    products c tile (run_of 0 n) (j - start) ≡ products c rows (run_of 0 n) j
+products_tile c rows tile start n j is few from less =
+    sum_equal n (λ i. slice_index c (0 + i) * entry_of tile (0 + i) (j - start)) (λ i. slice_index c (0 + i) * entry_of rows (0 + i) j)
+    (λ i l.
+    let place : start + (j - start) ≡ j = omega arith in
+    ap (λ y. slice_index c (0 + i) * y) (is (0 + i) (j - start) (omega arith) (omega arith) ∙ ap (entry_of rows (0 + i)) place))
+
+-- four entries side by side
+pub four_lanes : (row : List ℕ) (at k : ℕ) → k < 4 →
+    slice_index (slice_index row at ∷ slice_index row (at + 1) ∷ slice_index row (at + 2) ∷ slice_index row (at + 3) ∷ []) k ≡ slice_index row (at + k)
+four_lanes row at zero l = let plain : at ≡ at + 0 = omega arith in ap (slice_index row) plain
+four_lanes row at (suc zero) l = refl
+four_lanes row at (suc (suc zero)) l = refl
+four_lanes row at (suc (suc (suc zero))) l = refl
+four_lanes row at (suc (suc (suc (suc k)))) l = absurd (omega arith)
 
 -- one of four
 pub each_of_four : (P : ℕ → List ℕ → Type 0) (a b c d e : List ℕ) → P 0 a → P 1 b → P 2 c → P 3 d → (t : ℕ) → t < 4 → P t (slice_index_or (a ∷ b ∷ c ∷ d ∷ []) t e)

@@ -54,7 +54,7 @@ products_front c rows s n m j le =
     omega (arith, sum_split n (m - n) f, ap (λ t. sum_below t f) whole)
 
 -- a product more in a sum that is small
-module _ (by units : List (List ℕ)) (run : Run) (width : ℕ) (small : AreSmall by units run width) (i t j x y c : ℕ) (inside : i < run.count) (row : t < 4) (column : j < width)
+module _ (by units : List (List ℕ)) (run : Run) (small : AreSmall by units run) (i t j x y c : ℕ) (inside : i < run.count) (row : t < 32) (column : j < 8)
     (sum : x ≡ products_of by units (run_of run.first i) t j) (left : y ≡ entry_of units (run.first + i) j) (right : c ≡ entry_of by t (run.first + i)) where
   pub sum_then : x + y * c ≡ products_of by units (run_of run.first (i + 1)) t j
   sum_then =

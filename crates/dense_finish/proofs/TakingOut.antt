@@ -10,7 +10,7 @@ use Rattle.dense_finish.specs.Dense.{IsCleared, TakesOut}
 use Rattle.dense_finish.specs.Splitting.{IsTaken}
 
 -- v less a q, and a q, is v
-added_back : (p v q a : ℕ) → a < p → v < p → v ≡ ((v + ((p - a) % p) * q) % p + a * q) % p
+pub added_back : (p v q a : ℕ) → a < p → v < p → v ≡ ((v + ((p - a) % p) * q) % p + a * q) % p
 added_back p v q a la lv =
     let b : ℕ = (p - a) % p in
     let whole : p - a + a ≡ 1 * p = omega arith in

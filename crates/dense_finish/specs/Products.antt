@@ -1,5 +1,5 @@
 -- Sums of products of coefficients with rows, added to other rows.
-use Rattle.std.specs.Prelude.{◌≡◌, ◌<◌, ◌≤◌, ◌+◌, ◌*◌, ◌%◌, ℕ, List, length, slice_index}
+use Rattle.std.specs.Prelude.{◌≡◌, ◌<◌, ◌≤◌, ◌+◌, ◌-◌, ◌*◌, ◌%◌, ℕ, List, length, slice_index}
 use Rattle.residue_words.specs.Residues.{sum_below}
 use Rattle.dense_finish.specs.Block.{block_row, entry_of}
 use Rattle.dense_finish.specs.declared.products.Columns.{Columns}
@@ -20,12 +20,20 @@ run_of s n = record { first = s; count = n }
 abbrev pub columns_of : ℕ → ℕ → Columns
 columns_of a b = record { start = a; end = b }
 
--- coefficients of four rows below 2^32 for rows of so many entries, and sums of products below 2^64
-pub record AreSmall (by rows : List (List ℕ)) (run : Run) (width : ℕ) : Type 0 where
-  pub inside : run.first + run.count ≤ length rows
-  pub wide : (k : ℕ) → k < length rows → length (block_row rows k) ≡ width
-  pub coefficients : (t k : ℕ) → t < 4 → entry_of by t k < 4294967296
-  pub sums : (t j : ℕ) → t < 4 → j < width → products_of by rows run t j < 18446744073709551616
+-- a tile: the entries of these rows at the eight columns from this one on
+abbrev pub IsTile : ℕ → List (List ℕ) → List (List ℕ) → Type 0
+IsTile start rows tile = (k l : ℕ) → k < length rows → l < 8 → entry_of tile k l ≡ entry_of rows k (start + l)
+
+-- the sums of products with a tile whose first column is this one
+abbrev pub tile_products : List (List ℕ) → List (List ℕ) → Run → ℕ → ℕ → ℕ → ℕ
+tile_products by tile run start t j = products_of by tile run t (j - start)
+
+-- coefficients of 32 rows below 2^32, and sums of their products with rows of a tile of 64 below 2^64
+pub record AreSmall (by tile : List (List ℕ)) (run : Run) : Type 0 where
+  pub long : length tile ≡ 64
+  pub inside : run.first + run.count ≤ 64
+  pub coefficients : (t k : ℕ) → t < 32 → entry_of by t k < 4294967296
+  pub sums : (t l : ℕ) → t < 32 → l < 8 → products_of by tile run t l < 18446744073709551616
 
 -- new is the row old with the residues of old and f at these columns
 pub record AddsBetween (p : ℕ) (columns : Columns) (f : ℕ → ℕ) (old new : List ℕ) : Type 0 where

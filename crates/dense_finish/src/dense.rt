@@ -1,5 +1,5 @@
 // One dense row.
-ghost use Rattle.std.specs.Prelude.{◌≡◌, ◌<◌, ◌≤◌, ◌+◌, ◌-◌, ℕ, length, slice_index, slice_set, IfOk, OnOk, IfSome, IfNone};
+ghost use Rattle.std.specs.Prelude.{◌≡◌, ◌≢◌, ◌<◌, ◌≤◌, ◌+◌, ◌-◌, ℕ, length, slice_index, slice_set, IfOk, OnOk, IfSome, IfNone};
 ghost use Rattle.residue_words.specs.Matrix.{IsVector, zeros};
 ghost use Rattle.sparse_rows.specs.Rows.{AreRising};
 ghost use Rattle.sparse_rows.specs.declared.rows.TheConstants.{LARGEST_SIZE};
@@ -7,12 +7,14 @@ ghost use Rattle.dense_finish.specs.Dense.{AreEntriesAt, Gathers, IsZeroAtFree, 
 ghost use Rattle.sparse_rows.specs.Rows.{AreBelow};
 ghost use Rattle.dense_finish.specs.Multiples.{plus_multiple};
 ghost use Rattle.dense_finish.specs.Products.{AddsBetween};
+ghost use Rattle.dense_finish.specs.ReducedRows.{cleared_at};
 ghost use Rattle.dense_finish.specs.declared.panel.TheConstants.{PANEL};
 ghost use Rattle.residue_words.specs.declared.shoup.TheConstants.{LANE_BOUND};
 
 use crate::panel::PANEL;
 use crate::products::{Columns, Folding, add_lanes};
 use crate::residue::Residue;
+use crate::row_addition::axpy;
 use residue_words::Modulus;
 use sparse_rows::Sparse;
 use std::alloc::{AllocError, Global};
@@ -68,10 +70,11 @@ impl<W: Residue> Dense<W> {
         ensures entries { IfOk result (AreEntriesAt cols.now vals.now columns.now) }
     {
         let mut row = Dense::zeros(alloc, columns.len(), p)?;
+        let mut near = 0;
         for k in 0..cols.len() {
-            if let Ok(j) = columns.binary_search(&cols[k]) {
-                row.set(j, vals[k], p);
-            }
+            let j = place_of(columns, cols[k], near);
+            row.set(j, vals[k], p);
+            near = j + 1;
         }
         Ok(row)
     }
@@ -216,6 +219,7 @@ impl<W: Residue> Dense<W> {
         requires inside { limit ≤ length self.now }
         ensures within { result ≤ limit }
         ensures zeros { (j : ℕ) → j < result → slice_index self.now j ≡ 0 }
+        ensures nonzero { result < limit → slice_index self.now result ≢ 0 }
     {
         for j in 0..limit {
             if self.get(j) != 0 {
@@ -264,14 +268,64 @@ impl<W: Residue> Dense<W> {
     }
 }
 
-impl Dense<u32> {
-    // The four entries from `at` on.
-    #[inline(always)]
-    pub(crate) fn lanes(&self, at: usize) -> u64x4
-        requires inside { at + 4 ≤ length self.now }
-        ensures { (k : ℕ) → k < 4 → slice_index result k ≡ slice_index self.now (at + k) }
+impl Dense<u64> {
+    // Takes a row off as often as makes this one 0 at a column where that one is 1.
+    pub(crate) fn clear_at(&mut self, column: usize, unit: &Dense<u64>, p: &Modulus)
+        requires inside { column < length self.old }
+        requires residues { IsVector p.now (length self.old) self.old }
+        requires unit { IsVector p.now (length self.old) unit.now }
+        ensures { self.new ≡ cleared_at p.now column unit.now self.old }
     {
-        u32x4::from_slice(&self.places[at..]).cast::<u64>()
+        let a = self.get(column);
+        if a != 0 {
+            axpy(&mut self.places, p.neg(a), &unit.places, p);
+        }
+    }
+
+    // A multiple of it.
+    pub(crate) fn scaled(
+        &self,
+        alloc: Global,
+        by: u64,
+        p: &Modulus,
+    ) -> Result<Dense<u64>, AllocError>
+        requires factor { by < p.now }
+        requires residues { IsVector p.now (length self.now) self.now }
+        ensures { IfOk result (λ row. row ≡ plus_multiple p.now by (zeros (length self.now)) self.now) }
+    {
+        let mut row: Dense<u64> = Dense::zeros(alloc, self.len(), p)?;
+        axpy(&mut row.places, by, &self.places, p);
+        Ok(row)
+    }
+
+    // The row with zeros behind it.
+    pub(crate) fn widened(
+        &self,
+        alloc: Global,
+        width: usize,
+        p: &Modulus,
+    ) -> Result<Dense<u64>, AllocError>
+        requires wider { length self.now ≤ width }
+        requires residues { IsVector p.now (length self.now) self.now }
+        ensures vector { IfOk result (IsVector p.now width) }
+        ensures same { IfOk result (λ row. (j : ℕ) → slice_index row j ≡ slice_index self.now j) }
+    {
+        let mut row: Dense<u64> = Dense::zeros(alloc, width, p)?;
+        for j in 0..self.len() {
+            row.set(j, self.get(j), p);
+        }
+        Ok(row)
+    }
+}
+
+impl Dense<u32> {
+    // The eight entries from `at` on.
+    #[inline(always)]
+    pub(crate) fn eight_at(&self, at: usize) -> [u32; 8]
+        requires inside { at + 8 ≤ length self.now }
+        ensures { (k : ℕ) → k < 8 → slice_index result k ≡ slice_index self.now (at + k) }
+    {
+        u32x8::from_slice(&self.places[at..]).to_array()
     }
 
     // Adds sums at these columns, of which there are at most eight.
@@ -302,5 +356,21 @@ impl Dense<u32> {
         for j in columns.start..columns.end {
             self.set(j, p.add(self.get(j), sums[j - columns.start] % p.p()), p);
         }
+    }
+}
+
+// Where a column stands among these: at `near`, as in a full row, or elsewhere.
+fn place_of(columns: &[u32], column: u32, near: usize) -> usize
+    requires rising { AreRising columns.now }
+    requires known { (j : ℕ) × (j < length columns.now) × (slice_index columns.now j ≡ column) }
+    ensures inside { result < length columns.now }
+    ensures there { slice_index columns.now result ≡ column }
+{
+    if near < columns.len() && columns[near] == column {
+        return near;
+    }
+    match columns.binary_search(&column) {
+        Ok(j) => j,
+        Err(j) => j,
     }
 }

@@ -7,7 +7,7 @@ ghost use Rattle.dense_finish.specs.Units.{AreUnits, AreUnitRows};
 ghost use Rattle.residue_words.specs.declared.shoup.TheConstants.{LANE_BOUND};
 
 use crate::dense::Dense;
-use crate::products::{Columns, Folding, TILE_COLUMNS, TILE_ROWS, add_products};
+use crate::products::{BLOCK_ROWS, Columns, Folding, TILE_COLUMNS, add_products};
 use crate::reducing::Reducing;
 use crate::residue::Residue;
 use rayon::prelude::*;
@@ -122,7 +122,7 @@ impl<W: Reducing> Panel<W> {
             → PanelReduces p.now self.now (block_row rows.old t) (block_row rows.new t)) }
     {
         let mut units = self.unit_rows(alloc, p)?;
-        self.reduce_each(&mut units, p);
+        self.reduce_shared(rt, &mut units, p, workers);
         let first = zeros_before(&units, self.width);
         let later = &mut rows[from..];
         if workers == 1 || self.columns.is_empty() {
@@ -133,7 +133,38 @@ impl<W: Reducing> Panel<W> {
         Ok(())
     }
 
-    // Takes the pivots out of each row, by several workers.
+    // Takes the pivots out of each row, one after the other, by so many workers.
+    fn reduce_shared<R: Threads + Sync>(
+        &self,
+        rt: &R,
+        rows: &mut [Dense<W>],
+        p: &Modulus,
+        workers: usize,
+    )
+        requires modulus { W.serves p.now }
+        requires some { 1 ≤ workers }
+        requires residues { AreVectors p.now self.now.width rows.old }
+        requires pivots { ArePivots p.now self.now }
+        ensures { PanelReducesEach p.now self.now rows.old rows.new }
+    {
+        if workers == 1 || rows.is_empty() {
+            self.reduce_each(rows, p);
+            return;
+        }
+        let size = rows.len().div_ceil(workers);
+        par_chunks_mut_for_each(
+            rt,
+            rows,
+            size,
+            |_at: usize, piece: &mut [Dense<W>]|
+                requires { W.serves p.now × AreVectors p.now self.now.width piece.old
+                    × ArePivots p.now self.now }
+                ensures { PanelReducesEach p.entry.now self.entry.now piece.old piece.new }
+            { self.reduce_each(piece, p) },
+        );
+    }
+
+    // Takes the pivots out of each row by the units, by several workers.
     fn share<R: Threads + Sync>(
         &self,
         rt: &R,
@@ -185,12 +216,12 @@ impl Panel<u32> {
         if self.columns.len() > PANEL || self.width < TILE_COLUMNS {
             self.reduce_each(rows, p);
         } else {
-            self.reduce_tiles(units, from, rows, p);
+            self.reduce_blocks(units, from, rows, p);
         }
     }
 
     // The same for a panel of at least a tile's width.
-    fn reduce_tiles(&self, units: &[Dense<u32>], from: usize, rows: &mut [Dense<u32>], p: &Modulus)
+    fn reduce_blocks(&self, units: &[Dense<u32>], from: usize, rows: &mut [Dense<u32>], p: &Modulus)
         requires modulus { p.now < LANE_BOUND }
         requires residues { AreVectors p.now self.now.width rows.old }
         requires pivots { ArePivots p.now self.now }
@@ -202,21 +233,21 @@ impl Panel<u32> {
         let folding = Folding::of(p);
         let mut at = 0;
         while at < rows.len() {
-            let end = rows.len().min(at + TILE_ROWS);
-            self.reduce_tile(units, from, &mut rows[at..end], &folding);
+            let end = rows.len().min(at + BLOCK_ROWS);
+            self.reduce_block(units, from, &mut rows[at..end], &folding);
             at = end;
         }
     }
 
-    // Takes the pivots out of up to four rows.
-    fn reduce_tile(
+    // Takes the pivots out of the rows of a block.
+    fn reduce_block(
         &self,
         units: &[Dense<u32>],
         from: usize,
         rows: &mut [Dense<u32>],
         folding: &Folding,
     )
-        requires few_rows { length rows.old ≤ TILE_ROWS }
+        requires few_rows { length rows.old ≤ BLOCK_ROWS }
         requires residues { AreVectors folding.now.p self.now.width rows.old }
         requires pivots { ArePivots folding.now.p self.now }
         requires units { AreUnits folding.now.p self.now from units.now }
@@ -226,7 +257,7 @@ impl Panel<u32> {
     {
         // The call's contract tells the range of the modulus.
         let _ = folding.p.p();
-        let mut by = [[0u64; PANEL]; TILE_ROWS];
+        let mut by = [[0u64; PANEL]; BLOCK_ROWS];
         for t in 0..rows.len() {
             by[t] = rows[t].entries_at(&self.columns);
             rows[t].clear(&self.columns, &folding.p);

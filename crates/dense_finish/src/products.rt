@@ -1,6 +1,6 @@
 // Sums of products added to rows by tiles of lanes, for a modulus below 2^31.
-ghost use Rattle.dense_finish.specs.Block.{AreVectors, entry_of};
-ghost use Rattle.dense_finish.specs.Products.{AddsBetween, AddsToEach, AreSmall, columns_of, products_of, run_of};
+ghost use Rattle.dense_finish.specs.Block.{AreVectors, block_row, entry_of};
+ghost use Rattle.dense_finish.specs.Products.{AddsBetween, AddsToEach, AreSmall, IsTile, columns_of, products_of, run_of, tile_products};
 ghost use Rattle.dense_finish.specs.declared.panel.TheConstants.{PANEL};
 ghost use Rattle.residue_words.specs.declared.shoup.TheConstants.{LANE_BOUND};
 ghost use Rattle.std.specs.Prelude.{◌≡◌, ◌<◌, ◌≤◌, ◌+◌, ◌-◌, ◌*◌, ◌%◌, ◌/◌, ℕ, length, slice_index};
@@ -16,6 +16,9 @@ pub(crate) const TILE_ROWS: usize = 4;
 
 // How many columns a tile has.
 pub(crate) const TILE_COLUMNS: usize = 8;
+
+// How many rows the products are added to while a tile's columns of the other factor are at hand: a multiple of a tile's rows.
+pub(crate) const BLOCK_ROWS: usize = 32;
 
 // The lanes with the products of others and a number added.
 #[inline(always)]
@@ -126,26 +129,35 @@ struct Sums {
     fourth: u64x4,
 }
 
-// The sums at the columns from `at` on.
+// The four entries from `at` on, widened.
+#[inline(always)]
+fn lanes(row: &[u32; TILE_COLUMNS], at: usize) -> u64x4
+    requires inside { at + 4 ≤ TILE_COLUMNS }
+    ensures { (k : ℕ) → k < 4 → slice_index result k ≡ slice_index row.now (at + k) }
+{
+    u32x4::from_array([row[at], row[at + 1], row[at + 2], row[at + 3]]).cast::<u64>()
+}
+
+// The sums of the products of four rows of coefficients, from `row` on, at four columns of a tile, from `at` on.
 #[inline(always)]
 fn sums_at(
-    by: &[[u64; PANEL]; TILE_ROWS],
-    units: &[Dense<u32>],
+    by: &[[u64; PANEL]; BLOCK_ROWS],
+    row: usize,
+    tile: &[[u32; TILE_COLUMNS]; PANEL],
     run: Run,
     at: usize,
-    width: usize,
 ) -> Sums
-    requires high { length units.now ≤ PANEL }
-    requires small { AreSmall by.now units.now run width }
-    requires inside { at + 4 ≤ width }
+    requires four { row + TILE_ROWS ≤ BLOCK_ROWS }
+    requires small { AreSmall by.now tile.now run }
+    requires inside { at + 4 ≤ TILE_COLUMNS }
     ensures first { (k : ℕ) → k < 4 → slice_index result.first k
-        ≡ products_of by.now units.now run 0 (at + k) }
+        ≡ products_of by.now tile.now run row (at + k) }
     ensures second { (k : ℕ) → k < 4 → slice_index result.second k
-        ≡ products_of by.now units.now run 1 (at + k) }
+        ≡ products_of by.now tile.now run (row + 1) (at + k) }
     ensures third { (k : ℕ) → k < 4 → slice_index result.third k
-        ≡ products_of by.now units.now run 2 (at + k) }
+        ≡ products_of by.now tile.now run (row + 2) (at + k) }
     ensures fourth { (k : ℕ) → k < 4 → slice_index result.fourth k
-        ≡ products_of by.now units.now run 3 (at + k) }
+        ≡ products_of by.now tile.now run (row + 3) (at + k) }
 {
     let mut first = u64x4::splat(0);
     let mut second = first;
@@ -153,11 +165,11 @@ fn sums_at(
     let mut fourth = first;
     for i in 0..run.count {
         let k = run.first + i;
-        let y = units[k].lanes(at);
-        first = plus_products(first, y, by[0][k] as u32);
-        second = plus_products(second, y, by[1][k] as u32);
-        third = plus_products(third, y, by[2][k] as u32);
-        fourth = plus_products(fourth, y, by[3][k] as u32);
+        let y = lanes(&tile[k], at);
+        first = plus_products(first, y, by[row][k] as u32);
+        second = plus_products(second, y, by[row + 1][k] as u32);
+        third = plus_products(third, y, by[row + 2][k] as u32);
+        fourth = plus_products(fourth, y, by[row + 3][k] as u32);
     }
     Sums {
         first,
@@ -167,11 +179,12 @@ fn sums_at(
     }
 }
 
-// Adds the sums of products to up to four rows at these columns, of which there are at most eight.
+// Adds the sums of a run's products to up to four rows, from the block's row `at` on, at a tile's columns or at the first of them.
 fn add_tile(
     rows: &mut [Dense<u32>],
-    by: &[[u64; PANEL]; TILE_ROWS],
-    units: &[Dense<u32>],
+    by: &[[u64; PANEL]; BLOCK_ROWS],
+    at: usize,
+    tile: &[[u32; TILE_COLUMNS]; PANEL],
     run: Run,
     columns: Columns,
     width: usize,
@@ -179,15 +192,16 @@ fn add_tile(
 )
     requires few { length rows.old ≤ TILE_ROWS }
     requires residues { AreVectors folding.now.p width rows.old }
-    requires high { length units.now ≤ PANEL }
-    requires small { AreSmall by.now units.now run width }
+    requires four { at + TILE_ROWS ≤ BLOCK_ROWS }
+    requires small { AreSmall by.now tile.now run }
     requires order { columns.start ≤ columns.end }
     requires narrow { columns.end ≤ columns.start + TILE_COLUMNS }
     requires inside { columns.start + TILE_COLUMNS ≤ width }
-    ensures { AddsToEach folding.now.p columns (products_of by.now units.now run) rows.old rows.new }
+    ensures { AddsToEach folding.now.p columns
+        (λ t. tile_products by.now tile.now run columns.start (at + t)) rows.old rows.new }
 {
-    let left = sums_at(by, units, run, columns.start, width);
-    let right = sums_at(by, units, run, columns.start + 4, width);
+    let left = sums_at(by, at, tile, run, 0);
+    let right = sums_at(by, at, tile, run, 4);
     let sums = [
         joined(left.first, right.first),
         joined(left.second, right.second),
@@ -199,62 +213,113 @@ fn add_tile(
     }
 }
 
-// Adds the sums of a run's products to up to four rows.
+// Adds the sums of a run's products to the rows of a block at a tile's columns, some rows at a time.
 fn add_run(
     rows: &mut [Dense<u32>],
-    by: &[[u64; PANEL]; TILE_ROWS],
-    units: &[Dense<u32>],
+    by: &[[u64; PANEL]; BLOCK_ROWS],
+    tile: &[[u32; TILE_COLUMNS]; PANEL],
     run: Run,
     columns: Columns,
+    width: usize,
     folding: &Folding,
 )
-    requires few { length rows.old ≤ TILE_ROWS }
-    requires residues { AreVectors folding.now.p columns.end rows.old }
-    requires high { length units.now ≤ PANEL }
-    requires small { AreSmall by.now units.now run columns.end }
-    requires wide { TILE_COLUMNS ≤ columns.end }
-    requires before { (k j : ℕ) → k < length units.now → j < columns.start → entry_of units.now k j ≡ 0 }
-    ensures { AddsToEach folding.now.p (columns_of 0 columns.end)
-        (products_of by.now units.now run) rows.old rows.new }
+    requires few { length rows.old ≤ BLOCK_ROWS }
+    requires residues { AreVectors folding.now.p width rows.old }
+    requires small { AreSmall by.now tile.now run }
+    requires order { columns.start ≤ columns.end }
+    requires narrow { columns.end ≤ columns.start + TILE_COLUMNS }
+    requires inside { columns.start + TILE_COLUMNS ≤ width }
+    ensures { AddsToEach folding.now.p columns
+        (tile_products by.now tile.now run columns.start) rows.old rows.new }
 {
-    let mut end = columns.end;
-    while end > columns.start {
-        let start = end.saturating_sub(TILE_COLUMNS);
+    let mut at = 0;
+    while at < rows.len() {
+        let end = rows.len().min(at + TILE_ROWS);
         add_tile(
-            rows,
+            &mut rows[at..end],
             by,
-            units,
+            at,
+            tile,
             run,
-            Columns { start, end },
-            columns.end,
+            columns,
+            width,
             folding,
         );
-        end = start;
+        at += TILE_ROWS;
     }
 }
 
-// Adds the sums of products to up to four rows of entries before `columns.end`, as many products at a time as a sum takes.
+// Adds the sums of the products with a tile of so many rows to the rows of a block at its columns, as many products at a time as a
+// sum takes.
+fn add_columns(
+    rows: &mut [Dense<u32>],
+    by: &[[u64; PANEL]; BLOCK_ROWS],
+    tile: &[[u32; TILE_COLUMNS]; PANEL],
+    height: usize,
+    columns: Columns,
+    width: usize,
+    folding: &Folding,
+)
+    requires few { length rows.old ≤ BLOCK_ROWS }
+    requires residues { AreVectors folding.now.p width rows.old }
+    requires high { height ≤ PANEL }
+    requires long { length tile.now ≡ PANEL }
+    requires tile { (k l : ℕ) → k < height → l < TILE_COLUMNS → entry_of tile.now k l < folding.now.p }
+    requires coefficients { (t k : ℕ) → t < BLOCK_ROWS → entry_of by.now t k < folding.now.p }
+    requires order { columns.start ≤ columns.end }
+    requires narrow { columns.end ≤ columns.start + TILE_COLUMNS }
+    requires inside { columns.start + TILE_COLUMNS ≤ width }
+    ensures { AddsToEach folding.now.p columns
+        (tile_products by.now tile.now (run_of 0 height) columns.start) rows.old rows.new }
+{
+    let mut first = 0;
+    while first < height {
+        let count = folding.most.min(height - first);
+        let run = Run { first, count };
+        add_run(rows, by, tile, run, columns, width, folding);
+        first += count;
+    }
+}
+
+// The entries of the units at the eight columns from `start` on, one unit behind the other.
+fn tile_of(units: &[Dense<u32>], start: usize) -> [[u32; TILE_COLUMNS]; PANEL]
+    requires high { length units.now ≤ PANEL }
+    requires wide { (k : ℕ) → k < length units.now → start + TILE_COLUMNS ≤ length (block_row units.now k) }
+    ensures long { length result ≡ PANEL }
+    ensures tile { IsTile start units.now result }
+{
+    let mut tile = [[0u32; TILE_COLUMNS]; PANEL];
+    for k in 0..units.len() {
+        tile[k] = units[k].eight_at(start);
+    }
+    tile
+}
+
+// Adds the sums of products to the rows of a block, of entries before `columns.end`. The units are copied tile by tile, so that what
+// the sums take up lies side by side, and a tile serves all rows of the block.
 pub(crate) fn add_products(
     rows: &mut [Dense<u32>],
-    by: &[[u64; PANEL]; TILE_ROWS],
+    by: &[[u64; PANEL]; BLOCK_ROWS],
     units: &[Dense<u32>],
     columns: Columns,
     folding: &Folding,
 )
-    requires few { length rows.old ≤ TILE_ROWS }
+    requires few { length rows.old ≤ BLOCK_ROWS }
     requires residues { AreVectors folding.now.p columns.end rows.old }
     requires high { length units.now ≤ PANEL }
     requires units { AreVectors folding.now.p columns.end units.now }
-    requires coefficients { (t k : ℕ) → t < TILE_ROWS → entry_of by.now t k < folding.now.p }
+    requires coefficients { (t k : ℕ) → t < BLOCK_ROWS → entry_of by.now t k < folding.now.p }
     requires wide { TILE_COLUMNS ≤ columns.end }
     requires before { (k j : ℕ) → k < length units.now → j < columns.start → entry_of units.now k j ≡ 0 }
     ensures { AddsToEach folding.now.p (columns_of 0 columns.end)
         (products_of by.now units.now (run_of 0 (length units.now))) rows.old rows.new }
 {
-    let mut first = 0;
-    while first < units.len() {
-        let count = folding.most.min(units.len() - first);
-        add_run(rows, by, units, Run { first, count }, columns, folding);
-        first += count;
+    let mut end = columns.end;
+    while end > columns.start {
+        let start = end.saturating_sub(TILE_COLUMNS);
+        let tile = tile_of(units, start);
+        let here = Columns { start, end };
+        add_columns(rows, by, &tile, units.len(), here, columns.end, folding);
+        end = start;
     }
 }

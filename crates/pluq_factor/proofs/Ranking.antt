@@ -1,13 +1,17 @@
 -- The rank as pivots that are counted, round by round.
-use Rattle.std.proofs.Common.{ℕ, ◌≡◌, ◌+◌, ◌-◌, ◌<◌, ◌≤◌, inl, inr, List, length, min, slice_index, sym, ap, subst, ◌∙◌, arith}
+use Rattle.std.proofs.Common.{ℕ, ◌≡◌, ◌+◌, ◌-◌, ◌*◌, ◌%◌, ◌<◌, ◌≤◌, inl, inr, List, [], length, min, slice_index, sym, ap, subst, ◌∙◌, arith, mul-zero}
+use native.Mathlib.Nat.{zero-mod}
+use Rattle.std.proofs.lemmas.List.{get_or-replicate, get_or_past}
 use Rattle.std.proofs.lemmas.Bool.{cases_eq, cases_lt}
 use Rattle.residue_words.specs.declared.plain.Pair.{Pair}
 use Rattle.residue_words.specs.Residues.{IsPrime}
-use Rattle.residue_words.specs.Matrix.{Matrix, IsMatrix}
+use Rattle.residue_words.specs.Matrix.{Matrix, IsCombination, IsMatrix, combine, entry, row, zeros}
+use Rattle.residue_words.proofs.Sums.{sum_zero}
+use Rattle.residue_words.proofs.Vectors.{at_combine, at_zeros, length_list_of, row_combination}
 use Rattle.row_space.specs.Echelon.{HasRank, IsIndependent, IsRref}
 use Rattle.row_space.proofs.Counting.{independent_height, pigeonhole}
 use Rattle.row_space.proofs.Spans.{places_independent}
-use Rattle.sparse_rows.specs.Rows.{ResidueMatrix}
+use Rattle.sparse_rows.specs.Rows.{ResidueMatrix, with_zeros}
 use Rattle.pivot_table.specs.Order.{Triangular}
 use Rattle.triangular_solve.specs.Reduced.{IsComplement}
 use Rattle.triangular_solve.specs.Triangle.{TriangleState}
@@ -81,3 +85,52 @@ counted_all {R} {c} {most} {h} {w} {r} {more} left below small high wide few pri
     let least = rank_least prime whole in
     let e : c.count + r ≡ c.count + more = omega (arith, least.0, least.1, small, high, wide, few) in
     subst (HasRank R.modulus R.matrix) e whole
+
+-- where each entry is 0 the rank is
+zero_rank : {p : ℕ} {Z : Matrix} {r : ℕ} → IsPrime p → ((i j : ℕ) → i < Z.height → entry Z i j ≡ 0) → HasRank p Z r → r ≡ 0
+zero_rank {p} {Z} {r} prime none rank =
+    elim (cases_eq r 0) [
+      | inl e ↦ e
+      | inr d ↦
+          let E : Matrix = rank.0 in
+          let form : IsRref p Z E = rank.1 in
+          let some : 0 < E.height = omega (arith, rank.2) in
+          let places = form.form.1.1 in
+          let c : ℕ = slice_index form.form.0 0 in
+          let within : IsCombination p Z (row E 0) = (form.span (row E 0)).1 (row_combination p E 0 prime.two_or_more form.matrix some) in
+          let y : List ℕ = within.0 in
+          let inside : c < Z.width = omega (arith, places.inside 0 some, form.width) in
+          let nothing : slice_index (combine p y Z) c ≡ 0 =
+          at_combine p y Z c inside ∙ ap (λ x. x % p) (sum_zero Z.height (λ i. slice_index y i * entry Z i c) (λ i l. ap (λ x. slice_index y i * x) (none i c l) ∙ mul-zero (slice_index y i))) ∙ zero-mod p in
+          absurd (omega (arith, places.one 0 some, ap (λ v. slice_index v c) within.2, nothing))
+    ]
+
+-- a round's pivots, and the rank of what they leave, which is not kept
+pub counted_left : {R Z : ResidueMatrix} {t : TriangleState} {n h w most more left total : ℕ} → IsMatrix R.modulus R.matrix → t.rows ≡ R → Triangular t.rows.matrix t.pairs → n ≡ length t.pairs →
+    (IsPrime t.rows.modulus → HasRank t.rows.modulus t.rows.matrix (length t.pairs + left)) → most ≡ min h w → more ≡ min left (most - n) → total ≡ n + more →
+    Z.modulus ≡ R.modulus → Z.matrix ≡ with_zeros (record { height = 0; width = w; rows = [] }) h → h ≡ R.matrix.height → w ≡ R.matrix.width → LeavesRank R (record { count = total; rest = Z })
+counted_left {R} {Z} {t} {n} {h} {w} {most} {more} {left} {total} sound same tri count rank small few sum modulus zeros_are high wide =
+    let short = triangular_short tri in
+    let narrow = triangular_narrow tri in
+    let hs : t.rows.matrix.height ≡ R.matrix.height = ap (λ (R : ResidueMatrix). R.matrix.height) same in
+    let ws : t.rows.matrix.width ≡ R.matrix.width = ap (λ (R : ResidueMatrix). R.matrix.width) same in
+    record {
+      modulus = modulus;
+      height = ap (λ (M : Matrix). M.height) zeros_are ∙ omega (arith, high);
+      width = ap (λ (M : Matrix). M.width) zeros_are ∙ wide;
+      at_most_height = omega (arith, short, narrow, hs, ws, count, small, few, sum, high, wide);
+      at_most_width = omega (arith, short, narrow, hs, ws, count, small, few, sum, high, wide);
+      rank = λ prime r below.
+          let none : r ≡ 0 = zero_rank prime (λ i j l. nothing i j (omega (arith, ap (λ (M : Matrix). M.height) zeros_are))) below in
+          let whole : HasRank R.modulus R.matrix (length t.pairs + left) = subst (λ (R : ResidueMatrix). IsPrime R.modulus → HasRank R.modulus R.matrix (length t.pairs + left)) same rank prime in
+          let least = rank_least prime whole in
+          let e : length t.pairs + left ≡ total + r = omega (arith, none, least.0, least.1, count, small, few, sum, high, wide) in
+          subst (HasRank R.modulus R.matrix) e whole;
+    }
+  where
+    nothing : (i j : ℕ) → i < h → entry Z.matrix i j ≡ 0
+    nothing i j l =
+        ap (λ (M : Matrix). entry M i j) zeros_are ∙ ap (λ v. slice_index v j) (get_or-replicate h i (zeros w) [] l) ∙ zero_anywhere w j
+
+    zero_anywhere : (n j : ℕ) → slice_index (zeros n) j ≡ 0
+    zero_anywhere n j = elim (cases_lt j n) [ inl l ↦ at_zeros n j l | inr le ↦ get_or_past (zeros n) j 0 (omega (arith, length_list_of n (λ j. 0))) ]

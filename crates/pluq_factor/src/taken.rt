@@ -1,17 +1,19 @@
 // What one round takes out of a matrix.
-ghost use Rattle.std.specs.Prelude.{◌≡◌, ◌≤◌, [], IfOk, IfSome};
+ghost use Rattle.std.specs.Prelude.{◌≡◌, ◌≤◌, [], length, IfOk, IfSome};
 ghost use Rattle.std.specs.Option.{MatchOption};
 ghost use Rattle.pivot_table.specs.Selected.{Selected};
 ghost use Rattle.pluq_factor.specs.Counted.{LeavesRank};
 ghost use Rattle.pluq_factor.specs.Taken.{IsLeftBy, IsRoundTaken};
 
+use crate::extent::Extent;
 use crate::plan::{rows_of, select_pivots};
 use optimistic_search::Gate;
 use pivot_table::Pair;
-use schur_rows::{SchurRows, complement, schur};
+use schur_rows::{SchurRows, complement, left_rank, schur};
 use sparse_rows::{List, Rows};
 use std::alloc::{AllocError, Global};
 use std::thread::Threads;
+use triangular_solve::Triangle;
 
 // The pivots of a round, their rows, and what they leave, with the coefficients.
 #[derive(Debug, Drop)]
@@ -85,7 +87,8 @@ pub(crate) fn take_left<R: Threads + Sync, G: Gate>(
     Ok(Some(Left { top, rest }))
 }
 
-// One round whose pivots are counted alone; None where there is no pivot.
+// One round whose pivots are counted alone; None where there is no pivot. Where few columns and many rows are left, what is left
+// isn't kept, but counted too.
 pub(crate) fn count_round<R: Threads + Sync, G: Gate>(
     rt: &R,
     alloc: Global,
@@ -106,8 +109,39 @@ pub(crate) fn count_round<R: Threads + Sync, G: Gate>(
     if count == 0 {
         return Ok(None);
     }
+    if Extent::is_tall(alloc, rows, count)? {
+        let counted = count_left(alloc, rows, &triangle, count)?;
+        return Ok(Some(counted));
+    }
     let rest = complement(rt, alloc, &triangle, workers)?;
     Ok(Some(Counted { count, rest }))
+}
+
+// The pivots of a round with the rank of what they leave: no entry is left.
+fn count_left(
+    alloc: Global,
+    rows: &Rows,
+    triangle: &Triangle,
+    count: u32,
+) -> Result<Counted, AllocError>
+    requires triangle { triangle.now.rows ≡ rows.now }
+    requires count { count ≡ length triangle.now.pairs }
+    ensures { IfOk result (LeavesRank rows.now) }
+{
+    // The call's contract tells that the pivots are triangular.
+    let _ = triangle.pairs().len();
+    let height = rows.height();
+    let width = rows.width();
+    let most = height.min(width);
+    let left = left_rank(alloc, triangle)?;
+    let mut rest = Rows::with_room(alloc, rows.modulus(), width, 0, 0)?;
+    rest.append_zeros(height)?;
+    // Less only where the modulus isn't prime.
+    let more = left.min((most - count) as usize);
+    Ok(Counted {
+        count: count + more as u32,
+        rest,
+    })
 }
 
 // The pairs as a list.

@@ -7,5 +7,6 @@ pub mod Joining
 pub mod Numbers
 pub mod Parting
 pub mod Spanning
+pub mod Streaming
 pub mod Unique
 pub mod Whole

@@ -10,6 +10,7 @@ mod round;
 mod row_ranges;
 mod row_reducer;
 mod stacking;
+mod streamed;
 mod workers;
 
 ghost use Rattle.schur_rows.specs.Laws.{ComplementIsOne, RoundJoins, RoundRank, RoundSpans};
@@ -17,6 +18,7 @@ ghost use Rattle.schur_rows.specs.Laws.{ComplementIsOne, RoundJoins, RoundRank, 
 pub use round::{SchurRows, complement, schur};
 pub use row_reducer::RowReducer;
 pub use stacking::append_all;
+pub use streamed::left_rank;
 
 /// A matrix has at most one complement, for a prime modulus.
 pub fn complement_is_one()

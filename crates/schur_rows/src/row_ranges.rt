@@ -67,7 +67,9 @@ pub(crate) fn part_of(
     let mut next = from;
     while let Some(i) = next_below(rows, next, to) {
         append_zeros(&mut part, i - next)?;
-        append_left(alloc, reducer, pivot_rows, kept, i, work, &mut rest, &mut part)?;
+        append_left(
+            alloc, reducer, pivot_rows, kept, i, work, &mut rest, &mut part,
+        )?;
         next = i + 1;
     }
     append_zeros(&mut part, to - next)?;

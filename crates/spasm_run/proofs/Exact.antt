@@ -41,11 +41,11 @@ lacks_of c (x ∷ xs) e (suc i) lt = go (x == c) e (lacks_of c xs)
 
 -- ---- digits are plain values
 
-and_first : (a b : Bool) → (a && b) ≡ true → a ≡ true
+pub and_first : (a b : Bool) → (a && b) ≡ true → a ≡ true
 and_first true b e = refl
 and_first false b e = absurd (let f : false ≡ true = e in cc)
 
-and_second : (a b : Bool) → (a && b) ≡ true → b ≡ true
+pub and_second : (a b : Bool) → (a && b) ≡ true → b ≡ true
 and_second true b e = e
 and_second false b e = absurd (let f : false ≡ true = e in cc)
 
@@ -54,11 +54,11 @@ not_true false e = refl
 not_true true e = absurd (let f : false ≡ true = e in cc)
 
 -- a word that begins with something else than a dash
-abbrev begins_plainly : Text → Bool
+abbrev pub begins_plainly : Text → Bool
 begins_plainly [] = false
 begins_plainly (b ∷ bs) = not (b == 45)
 
-plain_value : (w : Text) → begins_plainly w ≡ true → IsPlainValue w
+pub plain_value : (w : Text) → begins_plainly w ≡ true → IsPlainValue w
 plain_value [] e = absurd (let f : false ≡ true = e in cc)
 plain_value (b ∷ bs) e =
     let other : (b == 45) ≡ false = not_true (b == 45) e in
@@ -72,7 +72,7 @@ digits_begin (b ∷ bs) e =
     ap not other
 
 -- each of the words that an option takes begins so
-abbrev begin_plainly : List Text → Bool
+abbrev pub begin_plainly : List Text → Bool
 begin_plainly [] = true
 begin_plainly (w ∷ ws) = begins_plainly w && begin_plainly ws
 
@@ -88,7 +88,7 @@ place_begins (x ∷ xs) w n e is = go (bytes_eq x w) refl is (λ m. place_begins
     go true f is rest = subst (λ (v : Text). begins_plainly v ≡ true) ((bytes_eq-Decides x w).0 f) (and_first (begins_plainly x) (begin_plainly xs) e)
     go false f is rest = later (place_among xs w) refl is rest
 
-abbrev has_plain_values : OptionValues → Bool
+abbrev pub has_plain_values : OptionValues → Bool
 has_plain_values (InRange low high) = true
 has_plain_values (OneOf words) = begin_plainly words
 
@@ -96,17 +96,17 @@ value_begins : (values : OptionValues) (w : Text) (n : ℕ) → has_plain_values
 value_begins (InRange low high) w n e is = digits_begin w is.0
 value_begins (OneOf words) w n e is = place_begins words w n e is
 
-abbrev have_plain_values : List Setting → Bool
+abbrev pub have_plain_values : List Setting → Bool
 have_plain_values [] = true
 have_plain_values (s ∷ ss) = has_plain_values s.rule.values && have_plain_values ss
 
 -- ---- the names of the options can be told from their values
 
-abbrev is_plain : Text → Bool
+abbrev pub is_plain : Text → Bool
 is_plain [] = false
 is_plain (x ∷ xs) = not (list_any (λ y. y == 61) (x ∷ xs))
 
-abbrev are_plain : List Text → Bool
+abbrev pub are_plain : List Text → Bool
 are_plain [] = true
 are_plain (n ∷ ns) = is_plain n && are_plain ns
 
@@ -114,7 +114,7 @@ plain_name : (name : Text) → is_plain name ≡ true → IsName name
 plain_name [] e = absurd (let f : false ≡ true = e in cc)
 plain_name (x ∷ xs) e = record { lacks = lacks_of 61 (x ∷ xs) (not_true (list_any (λ y. y == 61) (x ∷ xs)) e); first = x; others = xs; nonempty = refl }
 
-each_name : (names : List Text) → are_plain names ≡ true → (name : Text) → Contains names name → IsName name
+pub each_name : (names : List Text) → are_plain names ≡ true → (name : Text) → Contains names name → IsName name
 each_name [] e name (k, lt, h) = absurd (omega arith)
 each_name (n ∷ ns) e name (zero, lt, h) = subst IsName h (plain_name n (and_first (is_plain n) (are_plain ns) e))
 each_name (n ∷ ns) e name (suc k, lt, h) = each_name ns (and_second (is_plain n) (are_plain ns) e) name (k, omega arith, h)
@@ -141,7 +141,7 @@ given_begins : (rows : List Row) (s : Setting) (g : Given) → has_plain_values 
 given_begins rows s g plain h e f =
     value_begins s.rule.values g.value s.number plain (subst (λ (o : Option Text). IsNumber s.rule o s.number) (ap (λ (t : Text). first_of t rows) e ∙ f) h)
 
-all_begin : (ss : List Setting) (rows : List Row) (g : Given) → have_plain_values ss ≡ true → All (RowsSet rows) ss → Contains (names_of ss) g.name → first_of g.name rows ≡ Some g.value → begins_plainly g.value ≡ true
+pub all_begin : (ss : List Setting) (rows : List Row) (g : Given) → have_plain_values ss ≡ true → All (RowsSet rows) ss → Contains (names_of ss) g.name → first_of g.name rows ≡ Some g.value → begins_plainly g.value ≡ true
 all_begin [] rows g plain all (k, lt, e) f = absurd (omega arith)
 all_begin (s ∷ ss) rows g plain all (zero, lt, e) f = given_begins rows s g (and_first (has_plain_values s.rule.values) (have_plain_values ss) plain) (all 0 s (omega arith)) e f
 all_begin (s ∷ ss) rows g plain all (suc k, lt, e) f = all_begin ss rows g (and_second (has_plain_values s.rule.values) (have_plain_values ss) plain) (λ i d less. all (suc i) d (omega arith)) (k, omega arith, e) f
@@ -164,7 +164,7 @@ own_values_plain (Certify k) = refl
 given_plainly : (c : Command) (rows : List Row) (g : Given) → All (RowsSet rows) (settings c) → Contains (names_of (settings c)) g.name → first_of g.name rows ≡ Some g.value → begins_plainly g.value ≡ true
 given_plainly c rows g all k f = all_begin (settings c) rows g (own_values_plain c.task) all k f
 
-all_plain : (options : List Given) → ((g : Given) → Contains options g → IsPlainValue g.value) → ArePlain options
+pub all_plain : (options : List Given) → ((g : Given) → Contains options g → IsPlainValue g.value) → ArePlain options
 all_plain [] h = tt
 all_plain (g ∷ gs) h = (h g (first_of_list g gs), all_plain gs (λ x c. h x (later_in_list x g gs c)))
 
@@ -174,9 +174,10 @@ spelled_dashes : (joined : Bool) (name v : Text) (rest : List Text) → IsName n
 spelled_dashes true name v rest n p r = (joined_dashes name v n, r)
 spelled_dashes false name v rest n p r = (apart_dashes name n, (p.0, r))
 
-options_dashes : (t : Task) (rows : List Row) (options : List Given) → Fits (task_names t) rows options → ArePlain options → NoDashes (flat_map spelling options)
-options_dashes t rows [] f p = tt
-options_dashes t rows (g ∷ gs) f p = spelled_dashes g.joined g.name g.value _ (are_names t g.name f.0) p.0 (options_dashes t (rows ++ row_of_given g ∷ []) gs f.2 p.1)
+pub options_dashes : (names : List Text) → ((name : Text) → Contains names name → IsName name) → (rows : List Row) (options : List Given) → Fits names rows options → ArePlain options →
+    NoDashes (flat_map spelling options)
+options_dashes names are rows [] f p = tt
+options_dashes names are rows (g ∷ gs) f p = spelled_dashes g.joined g.name g.value _ (are g.name f.0) p.0 (options_dashes names are (rows ++ row_of_given g ∷ []) gs f.2 p.1)
 
 task_dashes : (t : Task) → bytes_eq (task_name t) (codes "--") ≡ false
 task_dashes Rank = refl
@@ -193,7 +194,7 @@ task_dashes Grow = refl
 task_dashes (Drill g) = refl
 task_dashes (Certify k) = refl
 
-abbrev has_dashes : List Text → Bool
+abbrev pub has_dashes : List Text → Bool
 has_dashes words = list_any (λ w. bytes_eq w (codes "--")) words
 
 pub dashes_false : (words : List Text) → NoDashes words → has_dashes words ≡ false
@@ -228,7 +229,7 @@ taken_options c options f set =
     record {
       no_fault = fault_at c.task (flat_map spelling options) ∙ level.0;
       says = record { rows = map row_of_given options; entered_as = subcommand_at c.task (flat_map spelling options) ∙ ap (λ (rs : List Row). Some (task_name c.task, rs)) level.1; set = set };
-      dashes = (task_dashes c.task, options_dashes c.task [] options f plain);
+      dashes = (task_dashes c.task, options_dashes names (are_names c.task) [] options f plain);
     }
 
 accepted_fits : (words : List Text) (c : Command) (a : Accepted words c) → Fits (task_names c.task) [] a.options
@@ -388,7 +389,7 @@ one_number : (rule : Rule) (o : Option Text) (m n : ℕ) → IsNumber rule o m �
 one_number rule None m n h k = ap (λ (x : Option ℕ). unwrap_or x m) (sym h ∙ k)
 one_number rule (Some w) m n h k = one_value rule.values w m n h k
 
-one_list : (rows : List Row) (ss ts : List Setting) → map (λ s. s.rule) ss ≡ map (λ s. s.rule) ts → All (RowsSet rows) ss → All (RowsSet rows) ts → map (λ s. s.number) ss ≡ map (λ s. s.number) ts
+pub one_list : (rows : List Row) (ss ts : List Setting) → map (λ s. s.rule) ss ≡ map (λ s. s.rule) ts → All (RowsSet rows) ss → All (RowsSet rows) ts → map (λ s. s.number) ss ≡ map (λ s. s.number) ts
 one_list rows [] [] e h k = refl
 one_list rows [] (t ∷ ts) e h k = absurd cc
 one_list rows (s ∷ ss) [] e h k = absurd cc
@@ -412,10 +413,10 @@ one_command words c d a b = one_said (subcommand_of command_line words) c d (acc
 
 -- ---- the answers of the reading functions
 
-abbrev bytes : List (Bor Text) → List Text
+abbrev pub bytes : List (Bor Text) → List Text
 bytes = map (λ w. w.now)
 
-words_dashes : (words : List (Bor Text)) → list_any (λ w. bytes_eq w.now (codes "--")) words ≡ has_dashes (bytes words)
+pub words_dashes : (words : List (Bor Text)) → list_any (λ w. bytes_eq w.now (codes "--")) words ≡ has_dashes (bytes words)
 words_dashes [] = refl
 words_dashes (w ∷ ws) = ap (λ (b : Bool). bytes_eq w.now (codes "--") || b) (words_dashes ws)
 
@@ -426,15 +427,15 @@ dashed words b e f c a =
     absurd cc
 
 -- words that clap refuses
-pub refused : (words : List Text) (o : Option ArgMatches) → AreTaken words o → o ≡ None → AreRefused words
-refused words o h e c a = subst (AreTaken words) e h (accepted_fault words c a)
+pub refused : (words : List Text) (o : Option ArgMatches) → AreTaken command_line words o → o ≡ None → AreRefused words
+refused words o h e c a = subst (AreTaken command_line words) e h (accepted_fault words c a)
 
 -- words that clap takes, with the command that the matches say, if they say one
 pub answered : (words : List (Bor Text)) (b : Bool) (o : Option ArgMatches) (m : ArgMatches) (result : Option Command) → b ≡ list_any (λ w. bytes_eq w.now (codes "--")) words → b ≡ false
-    → AreTaken (bytes words) o → o ≡ Some m → MatchOption result ((c : Command) → ¬ AsksFor (subcommand_rows_of m) c) (AsksFor (subcommand_rows_of m)) → IsCommandOf (bytes words) result
+    → AreTaken command_line (bytes words) o → o ≡ Some m → MatchOption result ((c : Command) → ¬ AsksFor (subcommand_rows_of m) c) (AsksFor (subcommand_rows_of m)) → IsCommandOf (bytes words) result
 answered words b o m None e f t is h =
-    let k = subst (AreTaken (bytes words)) is t in
-    λ c a. h c (subst (λ (x : Option (Text × List Row)). AsksFor x c) (sym k.1) (accepted_says (bytes words) c a))
+    let k = subst (AreTaken command_line (bytes words)) is t in
+    λ c a. h c (subst (λ (x : Option (Text × List Row)). AsksFor x c) (sym k.2) (accepted_says (bytes words) c a))
 answered words b o m (Some c) e f t is h =
-    let k = subst (AreTaken (bytes words)) is t in
-    says_accepted (bytes words) c (no_dashes (bytes words) (sym (words_dashes words) ∙ sym e ∙ f)) k.0 (subst (λ (x : Option (Text × List Row)). AsksFor x c) k.1 h)
+    let k = subst (AreTaken command_line (bytes words)) is t in
+    says_accepted (bytes words) c (no_dashes (bytes words) (sym (words_dashes words) ∙ sym e ∙ f)) k.0 (subst (λ (x : Option (Text × List Row)). AsksFor x c) k.2 h)

@@ -10,17 +10,17 @@ use Rattle.spasm_run.specs.Computed.{IsOfSizes}
 use Rattle.spasm_run.specs.Words.{Accepted, Given, InRange, IsNumber, IsSetBy, Rule, cols_rule, modulus_rule, own_settings, rows_rule, setting, workers_rule}
 
 -- a number of an option, where the one that stands for nothing lies in the range too
-abbrev ranged : List ℕ → ℕ → ℕ → Option ℕ → Rule
+abbrev pub ranged : List ℕ → ℕ → ℕ → Option ℕ → Rule
 ranged name low high absent = record { name = name; values = InRange low high; absent = absent }
 
-number_in_range : (name : List ℕ) (low high : ℕ) (absent : Option ℕ) (text : Option (List ℕ)) (n : ℕ) → ((m : ℕ) → absent ≡ Some m → (low ≤ m) × (m ≤ high)) → IsNumber (ranged name low high absent) text n → (low ≤ n) × (n ≤ high)
+pub number_in_range : (name : List ℕ) (low high : ℕ) (absent : Option ℕ) (text : Option (List ℕ)) (n : ℕ) → ((m : ℕ) → absent ≡ Some m → (low ≤ m) × (m ≤ high)) → IsNumber (ranged name low high absent) text n → (low ≤ n) × (n ≤ high)
 number_in_range name low high absent None n default is = default n is
 number_in_range name low high absent (Some w) n default is = (is.2, is.3)
 
-by_default : (low high d m : ℕ) → Some d ≡ Some m → low ≤ d → d ≤ high → (low ≤ m) × (m ≤ high)
+pub by_default : (low high d m : ℕ) → Some d ≡ Some m → low ≤ d → d ≤ high → (low ≤ m) × (m ≤ high)
 by_default low high d m e l h = let same : d ≡ m = ap (λ (o : Option ℕ). unwrap_or o 0) e in (omega (arith, same, l), omega (arith, same, h))
 
-no_default : (low high m : ℕ) → None ≡ Some m → (low ≤ m) × (m ≤ high)
+pub no_default : (low high m : ℕ) → None ≡ Some m → (low ≤ m) × (m ≤ high)
 no_default low high m e = absurd cc
 
 pub modulus_in_range : (words : List (List ℕ)) (c : Command) → Accepted words c → (2 ≤ c.modulus) × (c.modulus < MODULUS_BOUND)

@@ -99,7 +99,7 @@ parts_unread p limit due Means reader source new e begins did =
     let P : ReaderState → Type 0 = λ o. PartDid (wants p due) Means (input o source) new (Err e) in failed_parts p limit due Means source new e (subst P begins did)
 
 -- items say these matrices and these lines
-contents_are : (p : ℕ) (items : List Item) (values : List Matrix) (ls : List (List (List ℕ))) → matrices p items ≡ values → outer_lines items ≡ ls → contents p items ≡ record { matrices = values; lines = ls }
+pub contents_are : (p : ℕ) (items : List Item) (values : List Matrix) (ls : List (List (List ℕ))) → matrices p items ≡ values → outer_lines items ≡ ls → contents p items ≡ record { matrices = values; lines = ls }
 contents_are p items values ls m l = ap₂ said m l
   where
     said : List Matrix → List (List (List ℕ)) → Contents

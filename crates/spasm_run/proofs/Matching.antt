@@ -1,11 +1,11 @@
 -- What the matches say of the words.
-use Rattle.std.proofs.Common.{◌≡◌, ◌≢◌, ◌<◌, inl, inr, ◌∙◌, ℕ, suc, true, All, List, [], ◌∷◌, codes, MatchOption, Option, Some, None, refl, sym, ap, subst, arith}
+use Rattle.std.proofs.Common.{◌≡◌, ◌≢◌, ◌<◌, inl, inr, ◌∙◌, ◌&&◌, ℕ, suc, Bool, true, false, All, List, [], ◌∷◌, codes, MatchOption, Option, Some, None, refl, sym, ap, subst, arith}
 use Rattle.std.specs.List.{slice_index_or}
 use Rattle.std.proofs.lemmas.List.Elements.{All-cons, All-nil}
 use Rattle.std.specs.Prelude.{Box, option_map, unwrap_or}
 use Rattle.std.specs.Box.{box_value}
-use Rattle.clap.specs.Words.{App, HasKind, HasMatchesOf, IsAmong, Kinds, Row, Text, app_of, fault_of, first_value, is_simple, is_simple_and_free, kind_of, rows_of, subcommand_of, subcommand_rows, subcommand_rows_of}
-use Rattle.clap.specs.declared.builder.command.Command.{Command as Line}
+use Rattle.clap.specs.Words.{App, HasKind, HasMatchesOf, IsAmong, Kinds, Row, Text, built, fault_of, first_value, found_of, is_simple, is_simple_and_free, kind_of, matches_of, rows_of, subcommand_of, subcommand_rows, subcommand_rows_of}
+use Rattle.clap.specs.Faults.{is_free_app}
 use Rattle.clap.specs.declared.error.Error.{Error}
 use Rattle.clap.specs.declared.error.kind.ErrorKind.{ErrorKind}
 use Rattle.clap.specs.declared.error.kind.ErrorKind.TheVariants.{OutOfMemory}
@@ -14,7 +14,6 @@ use Rattle.clap.specs.declared.parser.matches.ArgMatches.TheViews.{out-SubComman
 use Rattle.clap.specs.declared.parser.matches.Found.{Found}
 use Rattle.clap.specs.declared.parser.matches.SubCommand.{SubCommand}
 use Rattle.clap.proofs.WalkLemmas.{first_value-rows}
-use Rattle.spasm_run.specs.Line.{command_line}
 use Rattle.spasm_run.specs.Options.{AsksFor, IsTaskOf, RowsSet}
 use Rattle.spasm_run.specs.Words.{IsNumber, IsValue, Rule, Setting, cols_rule, modulus_rule, kind_place, kind_rule, own_settings, per_rule, rounds_rule, rows_rule, seed_rule, setting, settings, task_name, workers_rule}
 use Rattle.certificates.specs.declared.certificate.CertKind.{CertKind}
@@ -23,26 +22,26 @@ use Rattle.spasm_run.specs.declared.words.Task.{Task}
 use Rattle.spasm_run.specs.declared.words.Task.TheVariants.{Rank, Rref, Kernel, Solve, LeftKernel, Inverse, Pivots, Check, Trace, Replay, Grow, Drill, Certify}
 use Rattle.spasm_run.specs.declared.words.Command.{Command}
 use Rattle.spasm_run.proofs.Accepting.{differ}
-use Rattle.spasm_run.proofs.Program.{line_is_simple}
 
-line_simple : is_simple command_line ≡ true
-line_simple = refl
+simple_of : (app : App) → is_simple_and_free app ≡ true → is_simple app ≡ true
+simple_of app e = go (is_simple app) e
+  where
+    go : (b : Bool) → (b && is_free_app (built app)) ≡ true → b ≡ true
+    go true f = refl
+    go false f = absurd (let g : false ≡ true = f in cc)
 
-pub taken_as : (line : Line) (words : List Text) (m : ArgMatches) → app_of line ≡ command_line → (is_simple_and_free (app_of line) ≡ true → fault_of (app_of line) words ≡ [])
-    → HasMatchesOf (app_of line) words m → (fault_of command_line words ≡ []) × (subcommand_rows_of m ≡ subcommand_of command_line words)
-taken_as line words m e kinds matches = (
-  ap (λ (a : App). fault_of a words) (sym e) ∙ kinds (ap is_simple_and_free e ∙ line_is_simple),
-  (matches (ap is_simple e ∙ line_simple)).1 ∙ ap (λ (a : App). subcommand_of a words) e,
-)
+pub taken_as : (app : App) (words : List Text) (m : ArgMatches) → is_simple_and_free app ≡ true → (is_simple_and_free app ≡ true → fault_of app words ≡ [])
+    → HasMatchesOf app words m → (fault_of app words ≡ []) × (rows_of (found_of m) ≡ matches_of app words) × (subcommand_rows_of m ≡ subcommand_of app words)
+taken_as app words m simple kinds matches = let both = matches (simple_of app simple) in (kinds simple, both.0, both.1)
 
 among_none : (k : ErrorKind) (kinds : Kinds) → kinds ≡ [] → ¬ IsAmong k kinds
 among_none k kinds e h = subst (IsAmong k) e h
 
-pub refused_as : (line : Line) (words : List Text) (error : Error) → app_of line ≡ command_line → (is_simple_and_free (app_of line) ≡ true → HasKind (fault_of (app_of line) words) error)
-    → kind_of error ≢ OutOfMemory → fault_of command_line words ≢ []
-refused_as line words error e kinds other none = elim (kinds (ap is_simple_and_free e ∙ line_is_simple)) [
+pub refused_as : (app : App) (words : List Text) (error : Error) → is_simple_and_free app ≡ true → (is_simple_and_free app ≡ true → HasKind (fault_of app words) error)
+    → kind_of error ≢ OutOfMemory → fault_of app words ≢ []
+refused_as app words error simple kinds other none = elim (kinds simple) [
   | inl h ↦ other h
-  | inr h ↦ among_none (kind_of error) _ (ap (λ (a : App). fault_of a words) e ∙ none) h
+  | inr h ↦ among_none (kind_of error) _ none h
 ]
 
 -- ---- the subcommand that was entered

@@ -20,7 +20,7 @@ use Rattle.spasm_run.proofs.OneSelection.{selection_one}
 use Rattle.spasm_run.proofs.OneTrace.{trace_one}
 
 -- a system's answer
-one_solution : (p : ℕ) (A : Matrix) (b x y : List ℕ) → 2 ≤ p → SolvesTo p A b x → SolvesTo p A b y → x ≡ y
+pub one_solution : (p : ℕ) (A : Matrix) (b x y : List ℕ) → 2 ≤ p → SolvesTo p A b x → SolvesTo p A b y → x ≡ y
 one_solution p A b x y two (inl s) (inl t) =
     let same : s.0 ≡ t.0 = solution_unique p A b s.0 t.0 two s.1 t.1 in
     s.2 ∙ ap (λ v. codes "solution\n" ++ text_of (column_matrix v)) same ∙ sym t.2

@@ -32,7 +32,7 @@ sized : ℕ → ℕ → List (List ℕ) → Matrix
 sized h w r = record { height = h; width = w; rows = r }
 
 -- a matrix of one column is the column of its entries
-column_whole : {p : ℕ} (X : Matrix) → IsMatrix p X → X.width ≡ 1 → X ≡ column_matrix (column X)
+pub column_whole : {p : ℕ} (X : Matrix) → IsMatrix p X → X.width ≡ 1 → X ≡ column_matrix (column X)
 column_whole {p} X m narrow =
     let x : List ℕ = column X in
     let long : length x ≡ X.height = length_list_of X.height (λ i. entry X i 0) in
@@ -43,7 +43,7 @@ column_whole {p} X m narrow =
     (λ i j a b. let first : j ≡ 0 = omega arith in ap (entry X i) first ∙ sym (at i a) ∙ sym (entry_matrix_of (length x) 1 (λ i j. slice_index x i) i j (omega arith) (omega arith)))
 
 -- a matrix of one row is its row
-row_whole : {p : ℕ} (V : Matrix) → IsMatrix p V → V.height ≡ 1 → V ≡ as_row (row V 0)
+pub row_whole : {p : ℕ} (V : Matrix) → IsMatrix p V → V.height ≡ 1 → V ≡ as_row (row V 0)
 unfolding sized
 row_whole {p} V m low =
     ap (λ h. sized h V.width V.rows) low ∙ ap (λ w. sized 1 w V.rows) (sym (m.each 0 (omega arith)).len) ∙ ap (sized 1 (length (row V 0))) (one_item [] V.rows (m.len ∙ low))

@@ -130,13 +130,13 @@ unfolding nothing
 found_memory words limit source = record { input = nothing; draws = draws_none (AreTooFew words limit) (untouched source); found = tt }
 
 -- an input is read as one thing, and then it has no fault
-one_reading : (r : Request) (input : Input) (said said' : Contents) → HasContents r input said → HasContents r input said' → said ≡ said'
+pub one_reading : (r : Request) (input : Input) (said said' : Contents) → HasContents r input said → HasContents r input said' → said ≡ said'
 one_reading r input said said' a b =
     let both : Got a.items a.rest ≡ Got b.items b.rest = sym a.reads ∙ b.reads in
     let same : a.items ≡ b.items = cc in
     sym a.are ∙ ap (contents r.modulus) same ∙ b.are
 
-no_fault : (r : Request) (input : Input) (said : Contents) (line : ℕ) (k : Kind) → HasContents r input said → FirstFault r input.bytes input.ended line k → ⊥
+pub no_fault : (r : Request) (input : Input) (said : Contents) (line : ℕ) (k : Kind) → HasContents r input said → FirstFault r input.bytes input.ended line k → ⊥
 no_fault r input said line k a fault =
     let both : Got a.items a.rest ≡ Fault line k = sym a.reads ∙ fault in
     cc

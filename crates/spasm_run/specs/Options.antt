@@ -2,21 +2,21 @@
 use Rattle.std.specs.Prelude.{◌≡◌, ◌≢◌, ◌<◌, ℕ, All, List, [], ◌∷◌, Option, Some, MatchOption, codes, length, map, slice_index}
 use Rattle.std.specs.List.{Contains}
 use Rattle.std.specs.Borrow.{Bor}
-use Rattle.clap.specs.Words.{Row, fault_of, first_of, subcommand_of, subcommand_rows_of}
+use Rattle.clap.specs.Words.{App, Row, fault_of, first_of, found_of, matches_of, rows_of, subcommand_of, subcommand_rows_of}
 use Rattle.clap.specs.declared.parser.matches.ArgMatches.{ArgMatches}
 use Rattle.spasm_run.specs.declared.words.Command.{Command}
 use Rattle.spasm_run.specs.declared.words.Task.{Task}
 use Rattle.spasm_run.specs.Words.{Accepted, AreRefused, Given, IsNumber, Rule, Setting, own_settings, settings, task_name}
-use Rattle.spasm_run.specs.Line.{command_line}
 
 -- the bytes of the words
 abbrev pub bytes_of : List (Bor (List ℕ)) → List (List ℕ)
 bytes_of words = map (λ w. w.now) words
 
--- what clap makes of the words, if it takes them
-abbrev pub AreTaken : List (List ℕ) → Option ArgMatches → Type 0
-AreTaken words result = MatchOption result (fault_of command_line words ≢ [])
-    (λ m. (fault_of command_line words ≡ []) × (subcommand_rows_of m ≡ subcommand_of command_line words))
+-- what clap makes of the words for a command line, if it takes them
+abbrev pub AreTaken : App → List (List ℕ) → Option ArgMatches → Type 0
+AreTaken line words result = MatchOption result (fault_of line words ≢ [])
+    (λ m. (fault_of line words ≡ []) × (rows_of (found_of m) ≡ matches_of line words)
+    × (subcommand_rows_of m ≡ subcommand_of line words))
 
 -- the number of an option, if its text sets one
 abbrev pub IsNumberOf : Rule → Option (List ℕ) → Option ℕ → Type 0

@@ -6,8 +6,8 @@ ghost use Rattle.spasm_run.specs.Generator.{numbered_line};
 
 use sms_text::{Sink, WriteFault, write_number, write_text};
 
-// Writes a line of two numbers, each behind a text.
-pub(crate) fn write_two_numbers<K: Sink>(
+/// Writes a line of two numbers, each behind a text.
+pub fn write_two_numbers<K: Sink>(
     out: &mut K,
     first: &str,
     a: u64,
@@ -30,8 +30,8 @@ pub(crate) fn write_line<K: Sink>(out: &mut K, text: &str, n: u64) -> Result<(),
     write_text(out, "\n")
 }
 
-// Writes a text, and a number behind it.
-fn write_with_number<K: Sink>(out: &mut K, text: &str, n: u64) -> Result<(), WriteFault>
+/// Writes a text, and a number behind it.
+pub fn write_with_number<K: Sink>(out: &mut K, text: &str, n: u64) -> Result<(), WriteFault>
     ensures { Writes result (text.now ++ decimal n) (K.state out.old) (K.state out.new) }
 {
     write_text(out, text)?;

@@ -2,7 +2,7 @@
 ghost use Rattle.std.specs.Prelude.{◌≡◌, ℕ, All, true, false, codes, IfOk, MatchOption};
 ghost use Rattle.std.specs.List.{list_any};
 ghost use Rattle.std.specs.Str.{bytes_eq};
-ghost use Rattle.clap.specs.Words.{first_value, found_of, rows_of, subcommand_rows_of};
+ghost use Rattle.clap.specs.Words.{app_of, first_value, found_of, is_simple_and_free, rows_of, subcommand_rows_of};
 ghost use Rattle.spasm_run.specs.Words.{InRange, IsInRange, IsValue, kind_place, kind_rule, own_settings};
 ghost use Rattle.spasm_run.specs.Options.{AcceptedIsPlain, IsCommandOf, IsNumberOf, IsOneCommand, IsTaskOf};
 ghost use Rattle.spasm_run.specs.Options.{AreTaken, AsksFor, RowsSet, bytes_of};
@@ -72,7 +72,8 @@ pub fn read_words<'a>(alloc: Global, words: &'a [&'a str]) -> Result<Option<Comm
     if has_dashes(words) {
         return Ok(None);
     }
-    match matches_of(alloc, words)? {
+    let line = command_line::command(alloc)?;
+    match taken_by(line, words)? {
         Some(matches) => Ok(command_of(&matches)),
         None => Ok(None),
     }
@@ -88,18 +89,21 @@ pub fn accepted_words_are_plain()
     ensures { AcceptedIsPlain }
 {}
 
-// Whether one of the words is `--`.
-fn has_dashes(words: &[&str]) -> bool
+/// Whether one of the words is `--`.
+pub fn has_dashes(words: &[&str]) -> bool
     ensures { result ≡ list_any (λ word. bytes_eq word.now (codes "--")) words.now }
 {
     words.iter().any(|word| *word == "--")
 }
 
-// What `clap` makes of the words, where it takes them.
-fn matches_of<'a>(alloc: Global, words: &'a [&'a str]) -> Result<Option<ArgMatches<'a>>, AllocError>
-    ensures { IfOk result (AreTaken (bytes_of words.now)) }
+/// What `clap` makes of the words for a command line, where it takes them.
+pub fn taken_by<'a>(
+    line: clap::Command<'a>,
+    words: &'a [&'a str],
+) -> Result<Option<ArgMatches<'a>>, AllocError>
+    requires { is_simple_and_free (app_of line) ≡ true }
+    ensures { IfOk result (AreTaken (app_of line.entry) (bytes_of words.now)) }
 {
-    let line = command_line::command(alloc)?;
     match line.try_get_matches_from(words) {
         Ok(matches) => Ok(Some(matches)),
         Err(error) => {
@@ -191,8 +195,8 @@ fn kind_named(word: &str) -> Option<CertKind>
     }
 }
 
-// The number that the option of this name gives, or the one that stands where it is absent.
-fn number_of(
+/// The number from `low` to `high` that the option of this name gives, or the one that stands where it is absent.
+pub fn number_of(
     options: &ArgMatches<'_>,
     name: &str,
     low: u64,

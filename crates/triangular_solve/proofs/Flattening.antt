@@ -64,23 +64,23 @@ module _ (placed : PlacedRows) (flat : FlatRows) {x : List ℕ} {old new : Resid
     came : (f : List ℕ) (j : ℕ) → j < placed.rows.matrix.width → Comes placed.rows.modulus (slice_index x j) (slice_index old.row j) (slice_index coming j) (slice_index new.row j) 0 (slice_index f j)
     came f j l = elim (cases_eq j place) [
       | inl s ↦ subst (λ k. Comes placed.rows.modulus (slice_index x k) (slice_index old.row k) (slice_index coming k) (slice_index new.row k) 0 (slice_index f k)) (sym s) (
-            v,
-            here,
-            (
-                let now : slice_index new.row place ≡ (slice_index old.row place + v) % placed.rows.modulus = ap (λ r. slice_index r place) added ∙ get_or-set_same old.row place _ 0 (omega (arith, i.residues.len)) in
-                let plain : slice_index new.row place + 0 * slice_index f place ≡ slice_index new.row place = omega arith in
-                ap (λ y. y % placed.rows.modulus) plain ∙ ap (λ y. y % placed.rows.modulus) now ∙ mod-mod (slice_index old.row place + v) placed.rows.modulus
+        v,
+        here,
+        (
+            let now : slice_index new.row place ≡ (slice_index old.row place + v) % placed.rows.modulus = ap (λ r. slice_index r place) added ∙ get_or-set_same old.row place _ 0 (omega (arith, i.residues.len)) in
+            let plain : slice_index new.row place + 0 * slice_index f place ≡ slice_index new.row place = omega arith in
+            ap (λ y. y % placed.rows.modulus) plain ∙ ap (λ y. y % placed.rows.modulus) now ∙ mod-mod (slice_index old.row place + v) placed.rows.modulus
             ),
-          )
+      )
       | inr d ↦ (
-            0,
-            there j (omega arith) d,
-            (
-                let now : slice_index new.row j ≡ slice_index old.row j = ap (λ r. slice_index r j) added ∙ get_or-set_other old.row place j _ 0 d in
-                let plain : slice_index new.row j + 0 * slice_index f j ≡ slice_index old.row j + 0 = omega (arith, now) in
-                ap (λ y. y % placed.rows.modulus) plain
+        0,
+        there j (omega arith) d,
+        (
+            let now : slice_index new.row j ≡ slice_index old.row j = ap (λ r. slice_index r j) added ∙ get_or-set_other old.row place j _ 0 d in
+            let plain : slice_index new.row j + 0 * slice_index f j ≡ slice_index old.row j + 0 = omega (arith, now) in
+            ap (λ y. y % placed.rows.modulus) plain
             ),
-          )
+      )
     ]
 
     pub flattened_other : IsFlattened placed coming new.row
@@ -116,27 +116,27 @@ module _ (placed : PlacedRows) (flat : FlatRows) {x : List ℕ} {old new : Resid
         Comes placed.rows.modulus (slice_index x j) (slice_index old.row j) (slice_index coming j) (slice_index new.row j) v (slice_index f j)
     came_low tall j l = elim (cases_eq j place) [
       | inl s ↦ subst (λ k. Comes placed.rows.modulus (slice_index x k) (slice_index old.row k) (slice_index coming k) (slice_index new.row k) v (slice_index (slice_set (row flat.tails.matrix (flat.count - (place + 1))) place 1) k)) (sym s) (
-            v,
-            here,
-            (
-                let one : slice_index (slice_set (row flat.tails.matrix (flat.count - (place + 1))) place 1) place ≡ 1 = get_or-set_same (row flat.tails.matrix (flat.count - (place + 1))) place 1 0 (omega arith) in
-                let was : slice_index old.row place ≡ 0 = i.zero place (omega (arith, F.count)) in
-                let is : slice_index new.row place ≡ 0 = zero_now place (omega (arith, F.count)) inside in
-                let plain : slice_index new.row place + v * 1 ≡ slice_index old.row place + v = omega (arith, was, is) in
-                ap (λ y. (slice_index new.row place + v * y) % placed.rows.modulus) one ∙ ap (λ y. y % placed.rows.modulus) plain
+        v,
+        here,
+        (
+            let one : slice_index (slice_set (row flat.tails.matrix (flat.count - (place + 1))) place 1) place ≡ 1 = get_or-set_same (row flat.tails.matrix (flat.count - (place + 1))) place 1 0 (omega arith) in
+            let was : slice_index old.row place ≡ 0 = i.zero place (omega (arith, F.count)) in
+            let is : slice_index new.row place ≡ 0 = zero_now place (omega (arith, F.count)) inside in
+            let plain : slice_index new.row place + v * 1 ≡ slice_index old.row place + v = omega (arith, was, is) in
+            ap (λ y. (slice_index new.row place + v * y) % placed.rows.modulus) one ∙ ap (λ y. y % placed.rows.modulus) plain
             ),
-          )
+      )
       | inr d ↦ (
-            0,
-            there j (omega arith) d,
-            (
-                let same : slice_index (slice_set (row flat.tails.matrix (flat.count - (place + 1))) place 1) j ≡ entry flat.tails.matrix (flat.count - (place + 1)) j = get_or-set_other (row flat.tails.matrix (flat.count - (place + 1))) place j 1 0 d in
-                let plain : slice_index old.row j ≡ slice_index old.row j + 0 = omega arith in
-                ap₂ (λ y z. (y + v * z) % placed.rows.modulus) (now j (omega arith)) same
-                ∙ back placed.rows.modulus (slice_index old.row j) (entry flat.tails.matrix (flat.count - (place + 1)) j) v ((placed.rows.modulus - v) % placed.rows.modulus) small refl
-                ∙ ap (λ y. y % placed.rows.modulus) plain
+        0,
+        there j (omega arith) d,
+        (
+            let same : slice_index (slice_set (row flat.tails.matrix (flat.count - (place + 1))) place 1) j ≡ entry flat.tails.matrix (flat.count - (place + 1)) j = get_or-set_other (row flat.tails.matrix (flat.count - (place + 1))) place j 1 0 d in
+            let plain : slice_index old.row j ≡ slice_index old.row j + 0 = omega arith in
+            ap₂ (λ y z. (y + v * z) % placed.rows.modulus) (now j (omega arith)) same
+            ∙ back placed.rows.modulus (slice_index old.row j) (entry flat.tails.matrix (flat.count - (place + 1)) j) v ((placed.rows.modulus - v) % placed.rows.modulus) small refl
+            ∙ ap (λ y. y % placed.rows.modulus) plain
             ),
-          )
+      )
     ]
 
     pub flattened_pivot : (tall : length (row flat.tails.matrix (flat.count - (place + 1))) ≡ length placed.columns) (short : placed.rows.matrix.height ≤ length placed.columns) → IsFlattened placed coming new.row
@@ -202,8 +202,8 @@ scaling_more {p} {n} {by} {k} {cs} {vs} {x} pos s d l v e = record {
   vector = set_vector d.vector c _ (mod-lt _ pos);
   at = λ j lj. elim (cases_eq j c) [
     | inl same ↦ subst (λ i. slice_index (slice_set x c ((slice_index x c + v) % p)) i ≡ (by * slice_index (spread n (take (k + 1) cs) (take (k + 1) vs)) i) % p) (sym same) (
-          get_or-set_same x c _ 0 (omega (arith, d.vector.len, s.below k l)) ∙ sum
-          ∙ sym (ap (λ w. (by * slice_index w c) % p) (first_more s k l) ∙ ap (λ y. (by * y) % p) (get_or-set_same (spread n (take k cs) (take k vs)) c (slice_index vs k) 0 (omega (arith, s.below k l, length_spread n (take k cs) (take k vs)))))
+        get_or-set_same x c _ 0 (omega (arith, d.vector.len, s.below k l)) ∙ sum
+        ∙ sym (ap (λ w. (by * slice_index w c) % p) (first_more s k l) ∙ ap (λ y. (by * y) % p) (get_or-set_same (spread n (take k cs) (take k vs)) c (slice_index vs k) 0 (omega (arith, s.below k l, length_spread n (take k cs) (take k vs)))))
         )
     | inr d2 ↦ get_or-set_other x c j _ 0 d2 ∙ d.at j lj ∙ sym (ap (λ w. (by * slice_index w j) % p) (first_more s k l) ∙ ap (λ y. (by * y) % p) (get_or-set_other (spread n (take k cs) (take k vs)) c j (slice_index vs k) 0 d2))
   ];

@@ -63,8 +63,6 @@ impl FlatEstimate {
     // How many entries flat rows may have before they are given up.
     pub(crate) fn most(&self) -> u64 {
         let matrix = self.entries.saturating_add(self.pivots);
-        matrix
-            .saturating_mul(TIMES_THE_MATRIX)
-            .min(self.met / 4)
+        matrix.saturating_mul(TIMES_THE_MATRIX).min(self.met / 4)
     }
 }

@@ -117,7 +117,11 @@ impl FlatRows {
         }
         let modulus = self.tails.modulus();
         let row = self.count - (place + 1);
-        sums.add_multiple(modulus.neg(value), self.tails.cols(row), self.tails.vals(row));
+        sums.add_multiple(
+            modulus.neg(value),
+            self.tails.cols(row),
+            self.tails.vals(row),
+        );
     }
 
     // Makes a zero row what the pivots leave of the row that stands in these columns and values. What is left behind in the room is

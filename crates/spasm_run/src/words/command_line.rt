@@ -69,8 +69,8 @@ fn named_command<'a>(
     with_options(alloc, named, own)
 }
 
-// The command with more options.
-fn with_options<'a>(
+/// The command with more options, of these names, which take one value each and come once at most.
+pub fn with_options<'a>(
     alloc: Global,
     command: clap::Command<'a>,
     names: &'a [&'a str],

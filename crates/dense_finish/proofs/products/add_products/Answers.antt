@@ -1,29 +1,27 @@
-use Rattle.std.proofs.Common.{arith, ◌<◌}
-use Rattle.dense_finish.specs.Block.{block_row}
-use Rattle.dense_finish.proofs.AddingEach.{adds_none, adds_nothing, adds_then, products_small, products_split}
-use Rattle.dense_finish.proofs.ProductSums.{products_none}
+use Rattle.std.proofs.Common.{ℕ, ◌≡◌, ◌+◌, ◌-◌, ◌<◌, ◌≤◌, ◌∙◌, arith, ap, length, sym}
+use Rattle.dense_finish.specs.Block.{block_row, entry_of}
+use Rattle.dense_finish.proofs.AddingEach.{adds_before, adds_none, adds_nothing, adds_vectors, each_equal, products_tile, products_zero}
 use Rattle.dense_finish.proofs.products.add_products.Goals as goal
 
-pub loop-first-init : goal.loop-first-init
-loop-first-init c = record {
-  within = omega arith;
-  added = adds_nothing c.requires.residues (λ t j l less. products_none (block_row c.args.by.now t) c.args.units.now 0 j) (omega arith) (adds_none {end = c.args.columns.end} c.args.rows.now);
-}
+pub loop-end-init : goal.loop-end-init
+loop-end-init c = record { within = omega arith; added = adds_none {end = c.args.columns.end} c.args.rows.now }
 
-pub add_run-requires-clause-small : goal.add_run-requires-clause-small
-add_run-requires-clause-small c =
-    let f = c.args.folding.now in
-    let low : f.p < 2147483648 = omega (arith, f.one.in_range, f.one_modulus) in
+pub add_columns-requires-clause-tile : goal.add_columns-requires-clause-tile
+add_columns-requires-clause-tile c = λ k l lk ll.
+    let start = c.saturating_sub-start.result in
+    omega (arith, c.tile_of-tile.ensures.tile k l lk ll, (c.requires.units k lk).residues (start + l) (omega (arith, c.loop-end.invariant.within, c.requires.wide)))
+
+pub loop-end-preserved : goal.loop-end-preserved
+loop-end-preserved c =
+    let start = c.saturating_sub-start.result in
     record {
-      inside = omega (arith, c.loop-first.invariant.within);
-      wide = λ k l. (c.requires.units k l).len;
-      coefficients = λ t k l. omega (arith, c.requires.coefficients t k l, low);
-      sums = λ t j l lj. products_small f.p f.most (block_row c.args.by.now t) c.args.units.now _ j f.room (omega arith) (λ k. c.requires.coefficients t k l)
-          (λ k lk. (c.requires.units k (omega (arith, c.loop-first.invariant.within, lk))).residues j lj);
+      within = omega (arith, c.loop-end.invariant.within);
+      added = adds_before (omega arith) c.loop-end.invariant.within c.loop-end.invariant.added
+          (each_equal (λ t j from less. products_tile (block_row c.args.by.now t) c.args.units.now c.tile_of-tile.result start (length c.args.units.now) j c.tile_of-tile.ensures.tile (omega arith) from (omega arith)) c.add_columns.ensures);
     }
 
-pub loop-first-preserved : goal.loop-first-preserved
-loop-first-preserved c = record {
-  within = omega (arith, c.loop-first.invariant.within);
-  added = adds_then (λ t j. products_split (block_row c.args.by.now t) c.args.units.now c.loop-first.first c.min-count.result j) c.loop-first.invariant.added c.add_run.ensures;
-}
+pub returns : goal.returns
+returns c =
+    adds_nothing c.requires.residues
+    (λ t j l less. products_zero (block_row c.args.by.now t) c.args.units.now _ j (λ k lk. c.requires.before k j (omega (arith, lk)) (omega (arith, c.loop-end-test.false))))
+    c.loop-end.invariant.within c.loop-end.invariant.added

@@ -2,7 +2,7 @@ use Rattle.std.proofs.Common.{ℕ, [], ◌≡◌, ◌<◌, ◌+◌, ◌-◌, ◌
 use Rattle.std.proofs.lemmas.List.{get_or-set_other, get_or-set_same}
 use Rattle.residue_words.specs.Matrix.{IsVector}
 use Rattle.dense_finish.specs.Block.{block_row}
-use Rattle.dense_finish.specs.Products.{AddsBetween, products_of}
+use Rattle.dense_finish.specs.Products.{AddsBetween, products_of, tile_products}
 use Rattle.dense_finish.proofs.AddingEach.{adds_equal, each_of_four, joined_lanes}
 use Rattle.dense_finish.proofs.BlockRows.{read_row}
 use Rattle.dense_finish.proofs.products.add_tile.Goals as goal
@@ -30,7 +30,12 @@ loop-t-preserved c =
     let p = c.args.folding.now.p in
     let columns = c.args.columns in
     let start = columns.start in
-    let f = products_of c.args.by.now c.args.units.now c.args.run in
+    let at = c.args.at in
+    let f : ℕ → ℕ → ℕ = λ t. products_of c.args.by.now c.args.tile.now c.args.run (at + t) in
+    let g : ℕ → ℕ → ℕ = λ t. tile_products c.args.by.now c.args.tile.now c.args.run start (at + t) in
+    let here_at : at ≡ at + 0 = omega arith in
+    let left_first : (k : ℕ) → k < 4 → slice_index c.sums_at-left.result.first k ≡ f 0 (0 + k) = λ k l. c.sums_at-left.ensures.first k l ∙ ap (λ x. products_of c.args.by.now c.args.tile.now c.args.run x (0 + k)) here_at in
+    let right_first : (k : ℕ) → k < 4 → slice_index c.sums_at-right.result.first k ≡ f 0 (4 + k) = λ k l. c.sums_at-right.ensures.first k l ∙ ap (λ x. products_of c.args.by.now c.args.tile.now c.args.run x (4 + k)) here_at in
     let t = c.loop-t.t in
     let rows = c.loop-t.rows in
     let olds = c.args.rows.now in
@@ -39,20 +44,18 @@ loop-t-preserved c =
     let right = c.sums_at-right in
     let inside : t < length rows = omega (arith, c.loop-t.auto.rows, c.loop-t-test.true) in
     let here = read_row rows t c.index-rows-t.result inside ∙ c.loop-t.invariant.ahead t (omega arith) in
-    let lanes = each_of_four (λ t v. (k : ℕ) → k < 8 → slice_index v k ≡ f t (start + k)) c.joined.result c.joined-2.result c.joined-3.result c.joined-4.result _
-    (joined_lanes start (f 0) left.result.first right.result.first c.joined.result c.joined.ensures.left c.joined.ensures.right left.ensures.first right.ensures.first)
-    (joined_lanes start (f 1) left.result.second right.result.second c.joined-2.result c.joined-2.ensures.left c.joined-2.ensures.right left.ensures.second right.ensures.second)
-    (joined_lanes start (f 2) left.result.third right.result.third c.joined-3.result c.joined-3.ensures.left c.joined-3.ensures.right left.ensures.third right.ensures.third)
-    (joined_lanes start (f 3) left.result.fourth right.result.fourth c.joined-4.result c.joined-4.ensures.left c.joined-4.ensures.right left.ensures.fourth right.ensures.fourth)
+    let lanes = each_of_four (λ t v. (k : ℕ) → k < 8 → slice_index v k ≡ f t k) c.joined.result c.joined-2.result c.joined-3.result c.joined-4.result _
+    (joined_lanes (f 0) left.result.first right.result.first c.joined.result c.joined.ensures.left c.joined.ensures.right left_first right_first)
+    (joined_lanes (f 1) left.result.second right.result.second c.joined-2.result c.joined-2.ensures.left c.joined-2.ensures.right left.ensures.second right.ensures.second)
+    (joined_lanes (f 2) left.result.third right.result.third c.joined-3.result c.joined-3.ensures.left c.joined-3.ensures.right left.ensures.third right.ensures.third)
+    (joined_lanes (f 3) left.result.fourth right.result.fourth c.joined-4.result c.joined-4.ensures.left c.joined-4.ensures.right left.ensures.fourth right.ensures.fourth)
     t (omega (arith, c.requires.few, c.loop-t-test.true)) in
-    let added : AddsBetween p columns (f t) (slice_index_or rows t c.index-rows-t.result) v = adds_equal (λ j from less.
-    let place : start + (j - start) ≡ j = omega arith in
-    lanes (j - start) (omega (arith, c.requires.narrow)) ∙ ap (f t) place) c.add_sums.ensures in
-    let one : AddsBetween p columns (f t) (block_row olds t) v = subst (λ u. AddsBetween p columns (f t) u v) here added in
+    let added : AddsBetween p columns (g t) (slice_index_or rows t c.index-rows-t.result) v = adds_equal (λ j from less. lanes (j - start) (omega (arith, c.requires.narrow))) c.add_sums.ensures in
+    let one : AddsBetween p columns (g t) (block_row olds t) v = subst (λ u. AddsBetween p columns (g t) u v) here added in
     record {
-      done = below_more (λ t. AddsBetween p columns (f t) (block_row olds t) (block_row (set rows c.loop-t.t v) t)) t
-          (λ x l. subst (AddsBetween p columns (f x) (block_row olds x)) (sym (get_or-set_other rows t x v [] (omega arith))) (c.loop-t.invariant.done x l))
-          (subst (AddsBetween p columns (f t) (block_row olds t)) (sym (get_or-set_same rows t v [] inside)) one);
+      done = below_more (λ t. AddsBetween p columns (g t) (block_row olds t) (block_row (set rows c.loop-t.t v) t)) t
+          (λ x l. subst (AddsBetween p columns (g x) (block_row olds x)) (sym (get_or-set_other rows t x v [] (omega arith))) (c.loop-t.invariant.done x l))
+          (subst (AddsBetween p columns (g t) (block_row olds t)) (sym (get_or-set_same rows t v [] inside)) one);
       ahead = λ x l. get_or-set_other rows t x v [] (omega arith) ∙ c.loop-t.invariant.ahead x (omega arith);
     }
 

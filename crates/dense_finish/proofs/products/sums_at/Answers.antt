@@ -8,78 +8,78 @@ use Rattle.dense_finish.proofs.products.sums_at.Goals as goal
 pub loop-i-init : goal.loop-i-init
 loop-i-init c =
     let by = c.args.by.now in
-    let units = c.args.units.now in
+    let tile = c.args.tile.now in
     let s = c.args.run.first in
     record {
-      first = λ k l. get_or-replicate 4 k 0 0 l ∙ sym (products_none (block_row by 0) units s (c.args.at + k));
-      second = λ k l. get_or-replicate 4 k 0 0 l ∙ sym (products_none (block_row by 1) units s (c.args.at + k));
-      third = λ k l. get_or-replicate 4 k 0 0 l ∙ sym (products_none (block_row by 2) units s (c.args.at + k));
-      fourth = λ k l. get_or-replicate 4 k 0 0 l ∙ sym (products_none (block_row by 3) units s (c.args.at + k));
+      first = λ k l. get_or-replicate 4 k 0 0 l ∙ sym (products_none (block_row by c.args.row) tile s (c.args.at + k));
+      second = λ k l. get_or-replicate 4 k 0 0 l ∙ sym (products_none (block_row by (c.args.row + 1)) tile s (c.args.at + k));
+      third = λ k l. get_or-replicate 4 k 0 0 l ∙ sym (products_none (block_row by (c.args.row + 2)) tile s (c.args.at + k));
+      fourth = λ k l. get_or-replicate 4 k 0 0 l ∙ sym (products_none (block_row by (c.args.row + 3)) tile s (c.args.at + k));
     }
 
 pub plus_products-first-requires : goal.plus_products-first-requires
 plus_products-first-requires c = λ k l.
     let at = c.args.at in
     let i = c.loop-i.i in
-    let row = c.args.run.first + i in
-    let inside : row < length c.args.units.now = omega (arith, c.requires.small.inside, c.loop-i-test.true) in
-    let lane : slice_index c.lanes-y.result k ≡ entry_of c.args.units.now row (at + k) =
-    c.lanes-y.ensures k l ∙ ap (λ v. slice_index v (at + k)) (c.index-units-k.is ∙ read_row c.args.units.now row c.index-units-k.result inside) in
-    sum_small c.args.by.now c.args.units.now c.args.run c.args.width c.requires.small i 0 (at + k) (slice_index c.loop-i.first k) (slice_index c.lanes-y.result k) (entry_of c.args.by.now 0 row)
-    c.loop-i-test.true (omega arith) (omega (arith, c.requires.inside)) (c.loop-i.invariant.first k l) lane refl
+    let m = c.args.run.first + i in
+    let inside : m < length c.args.tile.now = omega (arith, c.requires.small.inside, c.requires.small.long, c.loop-i-test.true) in
+    let lane : slice_index c.lanes-y.result k ≡ entry_of c.args.tile.now m (at + k) =
+    c.lanes-y.ensures k l ∙ ap (λ v. slice_index v (at + k)) (read_row c.args.tile.now m _ inside) in
+    sum_small c.args.by.now c.args.tile.now c.args.run c.requires.small i c.args.row (at + k) (slice_index c.loop-i.first k) (slice_index c.lanes-y.result k) (entry_of c.args.by.now c.args.row m)
+    c.loop-i-test.true (omega (arith, c.requires.four)) (omega (arith, c.requires.inside)) (c.loop-i.invariant.first k l) lane refl
 
 pub plus_products-second-requires : goal.plus_products-second-requires
 plus_products-second-requires c = λ k l.
     let at = c.args.at in
     let i = c.loop-i.i in
-    let row = c.args.run.first + i in
-    let inside : row < length c.args.units.now = omega (arith, c.requires.small.inside, c.loop-i-test.true) in
-    let lane : slice_index c.lanes-y.result k ≡ entry_of c.args.units.now row (at + k) =
-    c.lanes-y.ensures k l ∙ ap (λ v. slice_index v (at + k)) (c.index-units-k.is ∙ read_row c.args.units.now row c.index-units-k.result inside) in
-    sum_small c.args.by.now c.args.units.now c.args.run c.args.width c.requires.small i 1 (at + k) (slice_index c.loop-i.second k) (slice_index c.lanes-y.result k) (entry_of c.args.by.now 1 row)
-    c.loop-i-test.true (omega arith) (omega (arith, c.requires.inside)) (c.loop-i.invariant.second k l) lane refl
+    let m = c.args.run.first + i in
+    let inside : m < length c.args.tile.now = omega (arith, c.requires.small.inside, c.requires.small.long, c.loop-i-test.true) in
+    let lane : slice_index c.lanes-y.result k ≡ entry_of c.args.tile.now m (at + k) =
+    c.lanes-y.ensures k l ∙ ap (λ v. slice_index v (at + k)) (read_row c.args.tile.now m _ inside) in
+    sum_small c.args.by.now c.args.tile.now c.args.run c.requires.small i (c.args.row + 1) (at + k) (slice_index c.loop-i.second k) (slice_index c.lanes-y.result k) (entry_of c.args.by.now (c.args.row + 1) m)
+    c.loop-i-test.true (omega (arith, c.requires.four)) (omega (arith, c.requires.inside)) (c.loop-i.invariant.second k l) lane refl
 
 pub plus_products-third-requires : goal.plus_products-third-requires
 plus_products-third-requires c = λ k l.
     let at = c.args.at in
     let i = c.loop-i.i in
-    let row = c.args.run.first + i in
-    let inside : row < length c.args.units.now = omega (arith, c.requires.small.inside, c.loop-i-test.true) in
-    let lane : slice_index c.lanes-y.result k ≡ entry_of c.args.units.now row (at + k) =
-    c.lanes-y.ensures k l ∙ ap (λ v. slice_index v (at + k)) (c.index-units-k.is ∙ read_row c.args.units.now row c.index-units-k.result inside) in
-    sum_small c.args.by.now c.args.units.now c.args.run c.args.width c.requires.small i 2 (at + k) (slice_index c.loop-i.third k) (slice_index c.lanes-y.result k) (entry_of c.args.by.now 2 row)
-    c.loop-i-test.true (omega arith) (omega (arith, c.requires.inside)) (c.loop-i.invariant.third k l) lane refl
+    let m = c.args.run.first + i in
+    let inside : m < length c.args.tile.now = omega (arith, c.requires.small.inside, c.requires.small.long, c.loop-i-test.true) in
+    let lane : slice_index c.lanes-y.result k ≡ entry_of c.args.tile.now m (at + k) =
+    c.lanes-y.ensures k l ∙ ap (λ v. slice_index v (at + k)) (read_row c.args.tile.now m _ inside) in
+    sum_small c.args.by.now c.args.tile.now c.args.run c.requires.small i (c.args.row + 2) (at + k) (slice_index c.loop-i.third k) (slice_index c.lanes-y.result k) (entry_of c.args.by.now (c.args.row + 2) m)
+    c.loop-i-test.true (omega (arith, c.requires.four)) (omega (arith, c.requires.inside)) (c.loop-i.invariant.third k l) lane refl
 
 pub plus_products-fourth-requires : goal.plus_products-fourth-requires
 plus_products-fourth-requires c = λ k l.
     let at = c.args.at in
     let i = c.loop-i.i in
-    let row = c.args.run.first + i in
-    let inside : row < length c.args.units.now = omega (arith, c.requires.small.inside, c.loop-i-test.true) in
-    let lane : slice_index c.lanes-y.result k ≡ entry_of c.args.units.now row (at + k) =
-    c.lanes-y.ensures k l ∙ ap (λ v. slice_index v (at + k)) (c.index-units-k.is ∙ read_row c.args.units.now row c.index-units-k.result inside) in
-    sum_small c.args.by.now c.args.units.now c.args.run c.args.width c.requires.small i 3 (at + k) (slice_index c.loop-i.fourth k) (slice_index c.lanes-y.result k) (entry_of c.args.by.now 3 row)
-    c.loop-i-test.true (omega arith) (omega (arith, c.requires.inside)) (c.loop-i.invariant.fourth k l) lane refl
+    let m = c.args.run.first + i in
+    let inside : m < length c.args.tile.now = omega (arith, c.requires.small.inside, c.requires.small.long, c.loop-i-test.true) in
+    let lane : slice_index c.lanes-y.result k ≡ entry_of c.args.tile.now m (at + k) =
+    c.lanes-y.ensures k l ∙ ap (λ v. slice_index v (at + k)) (read_row c.args.tile.now m _ inside) in
+    sum_small c.args.by.now c.args.tile.now c.args.run c.requires.small i (c.args.row + 3) (at + k) (slice_index c.loop-i.fourth k) (slice_index c.lanes-y.result k) (entry_of c.args.by.now (c.args.row + 3) m)
+    c.loop-i-test.true (omega (arith, c.requires.four)) (omega (arith, c.requires.inside)) (c.loop-i.invariant.fourth k l) lane refl
 
 pub loop-i-preserved : goal.loop-i-preserved
 loop-i-preserved c =
     let at = c.args.at in
     let i = c.loop-i.i in
-    let row = c.args.run.first + i in
-    let inside : row < length c.args.units.now = omega (arith, c.requires.small.inside, c.loop-i-test.true) in
-    let lane : (k : ℕ) → k < 4 → slice_index c.lanes-y.result k ≡ entry_of c.args.units.now row (at + k) =
-    λ k l. c.lanes-y.ensures k l ∙ ap (λ v. slice_index v (at + k)) (c.index-units-k.is ∙ read_row c.args.units.now row c.index-units-k.result inside) in
+    let m = c.args.run.first + i in
+    let inside : m < length c.args.tile.now = omega (arith, c.requires.small.inside, c.requires.small.long, c.loop-i-test.true) in
+    let lane : (k : ℕ) → k < 4 → slice_index c.lanes-y.result k ≡ entry_of c.args.tile.now m (at + k) =
+    λ k l. c.lanes-y.ensures k l ∙ ap (λ v. slice_index v (at + k)) (read_row c.args.tile.now m _ inside) in
     record {
       first = λ k l. c.plus_products-first.ensures k l
-          ∙ sum_then c.args.by.now c.args.units.now c.args.run c.args.width c.requires.small i 0 (at + k) (slice_index c.loop-i.first k) (slice_index c.lanes-y.result k) (entry_of c.args.by.now 0 row)
-          c.loop-i-test.true (omega arith) (omega (arith, c.requires.inside)) (c.loop-i.invariant.first k l) (lane k l) refl;
+          ∙ sum_then c.args.by.now c.args.tile.now c.args.run c.requires.small i c.args.row (at + k) (slice_index c.loop-i.first k) (slice_index c.lanes-y.result k) (entry_of c.args.by.now c.args.row m)
+          c.loop-i-test.true (omega (arith, c.requires.four)) (omega (arith, c.requires.inside)) (c.loop-i.invariant.first k l) (lane k l) refl;
       second = λ k l. c.plus_products-second.ensures k l
-          ∙ sum_then c.args.by.now c.args.units.now c.args.run c.args.width c.requires.small i 1 (at + k) (slice_index c.loop-i.second k) (slice_index c.lanes-y.result k) (entry_of c.args.by.now 1 row)
-          c.loop-i-test.true (omega arith) (omega (arith, c.requires.inside)) (c.loop-i.invariant.second k l) (lane k l) refl;
+          ∙ sum_then c.args.by.now c.args.tile.now c.args.run c.requires.small i (c.args.row + 1) (at + k) (slice_index c.loop-i.second k) (slice_index c.lanes-y.result k) (entry_of c.args.by.now (c.args.row + 1) m)
+          c.loop-i-test.true (omega (arith, c.requires.four)) (omega (arith, c.requires.inside)) (c.loop-i.invariant.second k l) (lane k l) refl;
       third = λ k l. c.plus_products-third.ensures k l
-          ∙ sum_then c.args.by.now c.args.units.now c.args.run c.args.width c.requires.small i 2 (at + k) (slice_index c.loop-i.third k) (slice_index c.lanes-y.result k) (entry_of c.args.by.now 2 row)
-          c.loop-i-test.true (omega arith) (omega (arith, c.requires.inside)) (c.loop-i.invariant.third k l) (lane k l) refl;
+          ∙ sum_then c.args.by.now c.args.tile.now c.args.run c.requires.small i (c.args.row + 2) (at + k) (slice_index c.loop-i.third k) (slice_index c.lanes-y.result k) (entry_of c.args.by.now (c.args.row + 2) m)
+          c.loop-i-test.true (omega (arith, c.requires.four)) (omega (arith, c.requires.inside)) (c.loop-i.invariant.third k l) (lane k l) refl;
       fourth = λ k l. c.plus_products-fourth.ensures k l
-          ∙ sum_then c.args.by.now c.args.units.now c.args.run c.args.width c.requires.small i 3 (at + k) (slice_index c.loop-i.fourth k) (slice_index c.lanes-y.result k) (entry_of c.args.by.now 3 row)
-          c.loop-i-test.true (omega arith) (omega (arith, c.requires.inside)) (c.loop-i.invariant.fourth k l) (lane k l) refl;
+          ∙ sum_then c.args.by.now c.args.tile.now c.args.run c.requires.small i (c.args.row + 3) (at + k) (slice_index c.loop-i.fourth k) (slice_index c.lanes-y.result k) (entry_of c.args.by.now (c.args.row + 3) m)
+          c.loop-i-test.true (omega (arith, c.requires.four)) (omega (arith, c.requires.inside)) (c.loop-i.invariant.fourth k l) (lane k l) refl;
     }

@@ -12,4 +12,4 @@ returns-then-kept-clause-added c = left_kept c.rows-rows.ensures c.modulus.ensur
 pub returns-clause-added : goal.returns-clause-added
 returns-clause-added c = left_rest c.if-kept.false c.rows-rows.ensures c.modulus.ensures.sound (omega (arith, c.modulus.ensures.value, c.modulus.ensures.two_or_more)) c.requires.row c.cols-cols.ensures.support c.vals-vals.ensures.values c.pairs.ensures.pairs
     c.in_default.ensures c.in_ok-rest.ensures.fits c.in_ok-rest.ensures.rest c.requires.part
-    (record { modulus = c.append-3.ensures.modulus; rows = c.in_ok-append-3.ensures.matrix; coefficient_modulus = c.append_zeros.ensures.modulus; coefficients = c.in_ok-append_zeros.ensures.matrix })
+    (record { modulus = c.append-2.ensures.modulus; rows = c.in_ok-append-3.ensures.matrix; coefficient_modulus = c.append_zeros.ensures.modulus; coefficients = c.in_ok-append_zeros.ensures.matrix })

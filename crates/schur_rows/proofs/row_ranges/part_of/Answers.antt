@@ -1,6 +1,17 @@
-use Rattle.std.proofs.Common.{◌∙◌, arith}
+use Rattle.std.proofs.Common.{◌∙◌, length, ap, arith}
+use Rattle.sparse_rows.specs.Rows.{ResidueMatrix}
+use Rattle.sparse_rows.proofs.Loops.{length_zeros}
 use Rattle.schur_rows.proofs.Parting.{part_end, part_step, part_takes}
 use Rattle.schur_rows.proofs.row_ranges.part_of.Goals as goal
+
+pub loop-i-init : goal.loop-i-init
+loop-i-init c = record {
+  low = c.requires.order;
+  work = c.requires.work;
+  rest_modulus = c.new-rest.ensures.modulus ∙ c.modulus-2.ensures.value ∙ ap (λ (r : ResidueMatrix). r.modulus) c.rows-rows.ensures;
+  rest_width = ap length c.new-rest.ensures.row ∙ length_zeros c.width.result ∙ c.width.ensures.value ∙ ap (λ (r : ResidueMatrix). r.matrix.width) c.rows-rows.ensures;
+  part = c.in_ok-part.ensures c.args.from;
+}
 
 pub append_left-requires-clause-part : goal.append_left-requires-clause-part
 append_left-requires-clause-part c = part_takes c.rows-rows.ensures c.height.ensures.value c.height.ensures.bound (omega (arith, c.requires.inside, c.in-Some.ensures.1)) c.loop-i.invariant.part c.in-Some.ensures.0.low c.in_ok-append_zeros.ensures

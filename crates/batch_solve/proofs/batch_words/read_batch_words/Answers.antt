@@ -1,0 +1,22 @@
+-- By the words that are --, and by what clap takes.
+use Rattle.std.proofs.Common.{ap, subst, sym, ◌∙◌}
+use Rattle.clap.specs.Words.{App, is_simple_and_free}
+use Rattle.spasm_run.specs.Options.{AreTaken, bytes_of}
+use Rattle.batch_solve.proofs.BatchOptions.{answered_batch, dashed_batch, line_is_ready, refused_batch}
+use Rattle.batch_solve.proofs.batch_words.read_batch_words.Goals as goal
+
+pub returns-then-has_dashes : goal.returns-then-has_dashes
+returns-then-has_dashes c = dashed_batch c.args.words.now c.has_dashes.result c.has_dashes.ensures c.if-has_dashes.true
+
+pub taken_by-requires : goal.taken_by-requires
+taken_by-requires c = ap is_simple_and_free c.in_ok-line.ensures ∙ line_is_ready
+
+pub returns-in-Some : goal.returns-in-Some
+returns-in-Some c =
+    let taken = subst (λ (app : App). AreTaken app (bytes_of c.args.words.now) c.in_ok-matches.field-0) c.in_ok-line.ensures c.in_ok-matches.ensures in
+    answered_batch c.args.words.now c.has_dashes.result c.in_ok-matches.field-0 c.in-Some.matches c.batch_of.result c.has_dashes.ensures c.if-has_dashes.false taken c.in-Some.is c.batch_of.ensures
+
+pub returns-in-None : goal.returns-in-None
+returns-in-None c =
+    let taken = subst (λ (app : App). AreTaken app (bytes_of c.args.words.now) c.in_ok-matches.field-0) c.in_ok-line.ensures c.in_ok-matches.ensures in
+    refused_batch _ c.in_ok-matches.field-0 taken c.in-None.is

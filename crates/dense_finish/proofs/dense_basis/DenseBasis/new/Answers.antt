@@ -1,0 +1,1 @@
+use Rattle.dense_finish.proofs.dense_basis.DenseBasis.new.Goals as goal

@@ -1,0 +1,26 @@
+use Rattle.std.proofs.Common.{ℕ, [], ◌≡◌, ◌<◌, ◌+◌, ◌∙◌, ap, arith, below_more, length, length-set, refl, set, slice_index}
+use Rattle.std.proofs.lemmas.List.{get_or-set_other, get_or-set_same}
+use Rattle.dense_finish.specs.Block.{block_row, entry_of}
+use Rattle.dense_finish.proofs.BlockRows.{read_row}
+use Rattle.dense_finish.proofs.products.tile_of.Goals as goal
+
+pub loop-k-init : goal.loop-k-init
+loop-k-init c = record { long = refl; filled = λ k j l. absurd (omega arith) }
+
+pub loop-k-preserved : goal.loop-k-preserved
+loop-k-preserved c =
+    let k = c.loop-k.k in
+    let tile = c.loop-k.tile in
+    let units = c.args.units.now in
+    let start = c.args.start in
+    let v = c.eight_at.result in
+    let read = c.index-units-k.is ∙ read_row units k c.index-units-k.result (omega arith) in
+    let here : (j : ℕ) → j < 8 → slice_index v j ≡ entry_of units k (start + j) = λ j l. c.eight_at.ensures j l ∙ ap (λ u. slice_index u (start + j)) read in
+    let low : k < length tile = omega (arith, c.loop-k.invariant.long, c.requires.high) in
+    let all = below_more (λ t. (j : ℕ) → j < 8 → entry_of (set tile k v) t j ≡ entry_of units t (start + j)) k
+    (λ t l j lj. ap (λ u. slice_index u j) (get_or-set_other tile k t v [] (omega arith)) ∙ c.loop-k.invariant.filled t j l lj)
+    (λ j lj. ap (λ u. slice_index u j) (get_or-set_same tile k v [] low) ∙ here j lj) in
+    record { long = length-set tile k v ∙ c.loop-k.invariant.long; filled = λ t j l lj. all t l j lj }
+
+pub returns-clause-tile : goal.returns-clause-tile
+returns-clause-tile c = λ k j l lj. c.loop-k.invariant.filled k j (omega arith) lj

@@ -1,0 +1,16 @@
+-- The words before the next one were lent.
+use Rattle.std.proofs.Common.{ap, subst, sym, ◌≡◌}
+use Rattle.spasm_run.specs.Options.{bytes_of}
+use Rattle.spasm_batch.specs.Ends.{texts_of}
+use Rattle.spasm_batch.proofs.Lending.{lent_all, lent_more}
+use Rattle.spasm_batch.proofs.borrowed.Goals as goal
+
+pub loop-word-init : goal.loop-word-init
+loop-word-init c = ap bytes_of c.in_ok-words.ensures.items
+
+pub loop-word-preserved : goal.loop-word-preserved
+loop-word-preserved c =
+    rw c.in_ok-push.ensures.items (lent_more c.args.owned.now c.loop-word.word-index c.word-item.result c.as_str.result _ c.loop-word-test.true c.word-item.is c.as_str.ensures.value c.loop-word.invariant)
+
+pub returns : goal.returns
+returns c = lent_all c.args.owned.now c.loop-word.word-index _ c.loop-word-test.false c.loop-word.invariant

@@ -1,0 +1,79 @@
+//! The program for many right-hand sides: the words behind its name, the standard streams and an exit status round the top call.
+#![tactic(auto)]
+
+ghost use Rattle.std.specs.Prelude.{◌≡◌, ◌⊎◌, Err, IfOk, OnErr};
+ghost use Rattle.spasm_run.specs.Options.{bytes_of};
+ghost use Rattle.batch_solve.specs.BatchWords.{AskForNoBatch};
+ghost use Rattle.spasm_batch.specs.Ends.{BatchEndsFor, texts_of};
+
+use batch_solve::{Unwatched, run_batch};
+use std::alloc::{AllocError, Global};
+use std::io::{Read, Write};
+use std::process::ExitCode;
+use std::sync::Wait;
+use std::thread::Threads;
+use std_edge::{FromRead, NoWords, ToWrite, words_of};
+
+fn main(rt: HostRuntime) -> ExitCode {
+    let code = match words_of(&rt) {
+        Ok(words) => answer(
+            &rt,
+            rt.alloc(),
+            &words,
+            rt.stdin(),
+            rt.stdout(),
+            rt.stderr(),
+        ),
+        Err(none) => Err(none),
+    };
+    match code {
+        Ok(code) => ExitCode::from(code),
+        Err(none) => {
+            let _ = eprintln!(rt; "{none}");
+            ExitCode::from(none.code())
+        }
+    }
+}
+
+// Runs the batch that the words ask for, and gives its exit status. The error is that memory for the words was refused.
+fn answer<R: Threads + Wait + Sync, I: Read + Drop, O: Write + Drop, E: Write + Drop>(
+    rt: &R,
+    alloc: Global,
+    owned: &[String],
+    input: I,
+    output: O,
+    errors: E,
+) -> Result<u8, NoWords>
+    ensures ran { IfOk result (BatchEndsFor (texts_of owned.now)) }
+    ensures refused { AskForNoBatch (texts_of owned.now) → IfOk result (λ code. (code ≡ 2) ⊎ (code ≡ 8)) }
+    ensures usage { IfOk result (λ code. code ≡ 2 → AskForNoBatch (texts_of owned.now)) }
+    ensures memory { OnErr result (result ≡ Err NoWords.Memory) }
+{
+    let Ok(words) = borrowed(alloc, owned) else {
+        return Err(NoWords::Memory);
+    };
+    let mut source = FromRead::new(input);
+    let mut out = ToWrite::new(output);
+    let mut err = ToWrite::new(errors);
+    let status = run_batch(
+        rt,
+        alloc,
+        &words,
+        &mut source,
+        &mut out,
+        &mut err,
+        &Unwatched,
+    );
+    Ok(status.code())
+}
+
+// The words, lent.
+fn borrowed<'a>(alloc: Global, owned: &'a [String]) -> Result<Vec<&'a str>, AllocError>
+    ensures { IfOk result (λ words. bytes_of words.items ≡ texts_of owned.entry.now) }
+{
+    let mut words = Vec::with_capacity(alloc, owned.len())?;
+    for word in owned {
+        words.push(word.as_str())?;
+    }
+    Ok(words)
+}
