@@ -92,7 +92,7 @@ batch_questions p (A ∷ Bs) d q some texts fits prepared = λ k e less.
 -- the texts behind the first
 pub texts_behind : (texts : List ResidueMatrix) → 1 ≤ length texts → take (length texts - 1) (drop 1 texts) ≡ drop 1 texts
 texts_behind [] some = absurd (omega arith)
-texts_behind (A ∷ Bs) some = let e : suc (length Bs) - 1 ≡ length Bs = omega arith in ap (λ n. take n Bs) e ∙ take_all Bs (length Bs) (omega arith)
+texts_behind (A ∷ Bs) some = let e : suc (length Bs) - 1 ≡ length Bs = omega arith in ap (λ n. take n Bs) e ∙ take_all (length Bs) Bs (omega arith)
 
 -- what is told of replies, if there are some
 pub replies_told : {E : Type 0} (P Q : Vec Reply Global → Type 0) (r : Result (Vec Reply Global) E) → ((x : Vec Reply Global) → P x → Q x) → IfOk r P → IfOk r Q

@@ -89,7 +89,7 @@ abbrev pub IsColumnFor : ℕ → ResidueMatrix → Type 0
 IsColumnFor m b = (b.matrix.height ≡ m) × (b.matrix.width ≡ 1)
 
 columns : (m number : ℕ) (questions : List ResidueMatrix) → first_misshapen m number (matrices_of questions) ≡ None → All (IsColumnFor m) questions
-columns m number [] e = λ k d less. absurd (omega arith)
+columns m number [] e k d less = absurd (omega arith)
 columns m number (b ∷ bs) e k d less = go k less (columns m (number + 1) bs (test b.matrix (matrices_of bs) e).2)
   where
     test : (B : Matrix) (Bs : List Matrix) → first_misshapen m number (B ∷ Bs) ≡ None → (B.height ≡ m) × (B.width ≡ 1) × (first_misshapen m (number + 1) Bs ≡ None)

@@ -100,3 +100,13 @@ begun desk q questions workers all k d l = let w = all k d l in record {
 -- a slice that is put back
 pub all_back : {X : Type 0} (P : X → Type 0) (n m : ℕ) (new old : List X) → All P new → All P old → All P (take n (new ++ drop m old))
 all_back P n m new old a b = All-take P n (new ++ drop m old) (All-append P new (drop m old) a (All-drop P m old b))
+
+-- a slice of all slots, put back
+take_front : {X : Type 0} (xs ys : List X) (n : ℕ) → length xs ≡ n → take n (xs ++ ys) ≡ xs
+take_front [] ys zero e = refl
+take_front [] ys (suc n) e = absurd (omega (arith, e))
+take_front (x ∷ xs) ys zero e = absurd (omega (arith, e))
+take_front (x ∷ xs) ys (suc n) e = ap (λ l. x ∷ l) (take_front xs ys n (omega (arith, e)))
+
+pub slots_back : (q : Preparation) (questions : List ResidueMatrix) (n : ℕ) (slots rest : List (Option Reply)) → length slots ≡ n → AreSlots q questions slots → AreSlots q questions (take n (slots ++ rest))
+slots_back q questions n slots rest e are = subst (AreSlots q questions) (sym (take_front slots rest n e)) are

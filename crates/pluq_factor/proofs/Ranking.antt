@@ -1,17 +1,18 @@
 -- The rank as pivots that are counted, round by round.
 use Rattle.std.proofs.Common.{ℕ, ◌≡◌, ◌+◌, ◌-◌, ◌*◌, ◌%◌, ◌<◌, ◌≤◌, inl, inr, List, [], length, min, slice_index, sym, ap, subst, ◌∙◌, arith, mul-zero}
 use native.Mathlib.Nat.{zero-mod}
-use Rattle.std.proofs.lemmas.List.{get_or-replicate, get_or_past}
+use Rattle.std.proofs.lemmas.List.{get_or-replicate}
 use Rattle.std.proofs.lemmas.Bool.{cases_eq, cases_lt}
 use Rattle.residue_words.specs.declared.plain.Pair.{Pair}
 use Rattle.residue_words.specs.Residues.{IsPrime}
 use Rattle.residue_words.specs.Matrix.{Matrix, IsCombination, IsMatrix, combine, entry, row, zeros}
 use Rattle.residue_words.proofs.Sums.{sum_zero}
-use Rattle.residue_words.proofs.Vectors.{at_combine, at_zeros, length_list_of, row_combination}
+use Rattle.residue_words.proofs.Vectors.{at_combine, row_combination}
 use Rattle.row_space.specs.Echelon.{HasRank, IsIndependent, IsRref}
 use Rattle.row_space.proofs.Counting.{independent_height, pigeonhole}
 use Rattle.row_space.proofs.Spans.{places_independent}
 use Rattle.sparse_rows.specs.Rows.{ResidueMatrix, with_zeros}
+use Rattle.sparse_rows.proofs.Expanding.{zeros_at}
 use Rattle.pivot_table.specs.Order.{Triangular}
 use Rattle.triangular_solve.specs.Reduced.{IsComplement}
 use Rattle.triangular_solve.specs.Triangle.{TriangleState}
@@ -106,10 +107,10 @@ zero_rank {p} {Z} {r} prime none rank =
     ]
 
 -- a round's pivots, and the rank of what they leave, which is not kept
-pub counted_left : {R Z : ResidueMatrix} {t : TriangleState} {n h w most more left total : ℕ} → IsMatrix R.modulus R.matrix → t.rows ≡ R → Triangular t.rows.matrix t.pairs → n ≡ length t.pairs →
+pub counted_left : {R Z : ResidueMatrix} {t : TriangleState} {n h w most more total : ℕ} (left : ℕ) → IsMatrix R.modulus R.matrix → t.rows ≡ R → Triangular t.rows.matrix t.pairs → n ≡ length t.pairs →
     (IsPrime t.rows.modulus → HasRank t.rows.modulus t.rows.matrix (length t.pairs + left)) → most ≡ min h w → more ≡ min left (most - n) → total ≡ n + more →
     Z.modulus ≡ R.modulus → Z.matrix ≡ with_zeros (record { height = 0; width = w; rows = [] }) h → h ≡ R.matrix.height → w ≡ R.matrix.width → LeavesRank R (record { count = total; rest = Z })
-counted_left {R} {Z} {t} {n} {h} {w} {most} {more} {left} {total} sound same tri count rank small few sum modulus zeros_are high wide =
+counted_left {R} {Z} {t} {n} {h} {w} {most} {more} {total} left sound same tri count rank small few sum modulus zeros_are high wide =
     let short = triangular_short tri in
     let narrow = triangular_narrow tri in
     let hs : t.rows.matrix.height ≡ R.matrix.height = ap (λ (R : ResidueMatrix). R.matrix.height) same in
@@ -130,7 +131,4 @@ counted_left {R} {Z} {t} {n} {h} {w} {most} {more} {left} {total} sound same tri
   where
     nothing : (i j : ℕ) → i < h → entry Z.matrix i j ≡ 0
     nothing i j l =
-        ap (λ (M : Matrix). entry M i j) zeros_are ∙ ap (λ v. slice_index v j) (get_or-replicate h i (zeros w) [] l) ∙ zero_anywhere w j
-
-    zero_anywhere : (n j : ℕ) → slice_index (zeros n) j ≡ 0
-    zero_anywhere n j = elim (cases_lt j n) [ inl l ↦ at_zeros n j l | inr le ↦ get_or_past (zeros n) j 0 (omega (arith, length_list_of n (λ j. 0))) ]
+        ap (λ (M : Matrix). entry M i j) zeros_are ∙ ap (λ v. slice_index v j) (get_or-replicate h i (zeros w) [] l) ∙ zeros_at w j

@@ -5,14 +5,14 @@ use Rattle.schur_rows.proofs.Distinct.{triangular_narrow, triangular_short}
 use Rattle.pluq_factor.proofs.Ranking.{counted_left}
 use Rattle.pluq_factor.proofs.taken.count_left.Goals as goal
 
-pub overflow_sub : goal.overflow_sub
-overflow_sub c =
+pub overflow_sub-most : goal.overflow_sub-most
+overflow_sub-most c =
     let high = triangular_short c.pairs.ensures.triangular in
     let wide = triangular_narrow c.pairs.ensures.triangular in
     omega (arith, high, wide, c.requires.count, c.min-most.ensures, c.height-height.ensures.value, c.width-width.ensures.value, ap (λ (R : ResidueMatrix). R.matrix.height) c.requires.triangle, ap (λ (R : ResidueMatrix). R.matrix.width) c.requires.triangle)
 
 pub returns : goal.returns
 returns c =
-    counted_left {t = c.args.triangle.now} c.height-height.ensures.sound c.requires.triangle c.pairs.ensures.triangular c.requires.count c.in_ok-left.ensures c.min-most.ensures c.min-more.ensures refl
+    counted_left {t = c.args.triangle.now} c.in_ok-left.left c.height-height.ensures.sound c.requires.triangle c.pairs.ensures.triangular c.requires.count c.in_ok-left.ensures c.min-most.ensures c.min-more.ensures refl
     (c.append_zeros.ensures.modulus ∙ c.in_ok-rest.ensures.modulus ∙ c.modulus.ensures.value) (c.in_ok-append_zeros.ensures.matrix ∙ ap (λ (M : Matrix). with_zeros M c.height-height.result) c.in_ok-rest.ensures.matrix)
     c.height-height.ensures.value c.width-width.ensures.value
