@@ -1,14 +1,15 @@
 -- From what was found to what a run did.
-use Rattle.std.proofs.Common.{ℕ, Bool, true, false, ◌≡◌, ◌⊎◌, ◌++◌, List, [], None, Some, Result, Ok, Err, refl, sym, ap, ap₂, ◌∙◌, subst, inl, inr}
+use Rattle.std.proofs.Common.{ℕ, Bool, true, false, ◌≡◌, ◌⊎◌, ◌++◌, List, [], ◌∷◌, None, Some, Result, Ok, Err, refl, sym, ap, ap₂, ◌∙◌, subst, inl, inr}
 use Rattle.std.specs.Result.{IsErrAnd}
 use Rattle.std.proofs.lemmas.Result.{err_from_is_err_and}
+use Rattle.residue_words.specs.Matrix.{Matrix}
 use Rattle.sms_text.specs.declared.kind.Kind.{Kind}
 use Rattle.sms_text.specs.declared.kind.TextError.{TextError}
 use Rattle.sms_text.specs.declared.kind.TextError.TheVariants as error
 use Rattle.sms_text.specs.declared.write.WriteFault.{WriteFault}
 use Rattle.sms_text.specs.Reading.{Draws, IsShort, untouched}
 use Rattle.sms_text.specs.Stream.{SinkState, SourceState, Gained, Rose}
-use Rattle.sms_text.specs.Text.{Got, Fault, FirstFault, Reading, Request, reading}
+use Rattle.sms_text.specs.Text.{Got, Fault, FirstFault, Header, Reading, Request, reading}
 use Rattle.sms_text.specs.Writing.{Writes}
 use Rattle.sms_text.proofs.Moving.{draws_none, draws_with}
 use Rattle.spasm_run.specs.declared.answer.Answer.{Answer}
@@ -116,6 +117,43 @@ found_unread words c t p limit old new e result asks modulus is accepted was =
     let fault = err_from_is_err_and result is in
     let found : WasFound words limit (Err fault.0) old new = subst (λ s. WasFound words limit (Err s) old new) (sym fault.2) (unread_for words c limit accepted old new e read) in
     subst (λ r. WasFound words limit r old new) (sym fault.1) found
+
+-- a task that is none of the others reads one matrix and nothing else
+pub reads_one : (t : Task) → ¬ (t ≡ task.Solve) → ¬ (t ≡ task.Check) → ¬ (t ≡ task.Replay) → ¬ (t ≡ task.Grow) → ((g : Generator) → ¬ (t ≡ task.Drill g)) → wanted t ≡ Header ∷ []
+reads_one task.Solve solve check replay grow drill = absurd (solve refl)
+reads_one task.Check solve check replay grow drill = absurd (check refl)
+reads_one task.Replay solve check replay grow drill = absurd (replay refl)
+reads_one task.Grow solve check replay grow drill = absurd (grow refl)
+reads_one (task.Drill g) solve check replay grow drill = absurd (drill g refl)
+reads_one task.Rank solve check replay grow drill = refl
+reads_one task.Rref solve check replay grow drill = refl
+reads_one task.Kernel solve check replay grow drill = refl
+reads_one task.LeftKernel solve check replay grow drill = refl
+reads_one task.Inverse solve check replay grow drill = refl
+reads_one task.Pivots solve check replay grow drill = refl
+reads_one task.Trace solve check replay grow drill = refl
+reads_one (task.Certify k) solve check replay grow drill = refl
+
+-- the request of such a task
+abbrev pub asked_for_one : ℕ → ℕ → Request
+asked_for_one p limit = record { modulus = p; limit = limit; due = Header ∷ [] }
+
+-- its matrix was read, and something came of it
+pub found_of_one : (words : List (List ℕ)) (c : Command) (p q limit : ℕ) (old new : SourceState) (value : Matrix) (result : Result Answer Status) →
+    wanted c.task ≡ Header ∷ [] → p ≡ c.modulus → q ≡ p → Accepted words c → WasRead (asked_for_one p limit) (Ok (matrices_alone (value ∷ []))) old new →
+    ComesOf (asking c.task q c) (value ∷ []) result → WasFound words limit result old new
+found_of_one words c p q limit old new value result one modulus same accepted was comes =
+    let read : WasRead (asked c.task p limit) (Ok (matrices_alone (value ∷ []))) old new =
+    subst (λ d. WasRead (record { modulus = p; limit = limit; due = d }) (Ok (matrices_alone (value ∷ []))) old new) (sym one) was in
+    found_given words c c.task p q limit old new (matrices_alone (value ∷ [])) result refl modulus same accepted read comes
+
+-- it wasn't
+pub unread_of_one : (words : List (List ℕ)) (c : Command) (p limit : ℕ) (old new : SourceState) (e : TextError) (result : Result Answer Status) →
+    wanted c.task ≡ Header ∷ [] → p ≡ c.modulus → IsErrAnd result (λ s. s ≡ status_of e) → Accepted words c → WasRead (asked_for_one p limit) (Err e) old new → WasFound words limit result old new
+unread_of_one words c p limit old new e result one modulus is accepted was =
+    let read : WasRead (asked c.task p limit) (Err e) old new =
+    subst (λ d. WasRead (record { modulus = p; limit = limit; due = d }) (Err e) old new) (sym one) was in
+    found_unread words c c.task p limit old new e result refl modulus is accepted read
 
 -- nothing was asked of the source where no command is accepted, or memory was wanted for the words
 nothing : Input

@@ -4,62 +4,8 @@ use Rattle.certificates.specs.Certificate.{IsFormed}
 use Rattle.spasm_run.specs.declared.words.Task.TheVariants as task
 use Rattle.spasm_run.specs.Contents.{matrices_alone}
 use Rattle.spasm_run.proofs.Scripted.{script_answers}
-use Rattle.spasm_run.proofs.Whole.{found_generated, found_given, found_unread}
+use Rattle.spasm_run.proofs.Whole.{found_generated, found_given, found_of_one, found_unread, reads_one, unread_of_one}
 use Rattle.spasm_run.proofs.running.find_for.Goals as goal
-
-pub returns-in_ok-read_one-in-Rank-clause-found : goal.returns-in_ok-read_one-in-Rank-clause-found
-returns-in_ok-read_one-in-Rank-clause-found g c = λ words accepted.
-    let a = c.in_ok-read_one-in-Rank in
-    found_given words c.args.command task.Rank c.new-p.result a.field-0.modulus c.args.limit _ _ (matrices_alone (a.field-0.matrix ∷ [])) _ c.in-Rank.is c.new-p.ensures a.ensures.matrix.modulus accepted a.ensures.did c.find_rank-in-Rank.ensures
-
-pub returns-in_err-read_one-in-Rank-clause-found : goal.returns-in_err-read_one-in-Rank-clause-found
-returns-in_err-read_one-in-Rank-clause-found g c = λ words accepted.
-    found_unread words c.args.command task.Rank c.new-p.result c.args.limit _ _ c.in_err-read_one-in-Rank.field-0.0 _ c.in-Rank.is c.new-p.ensures c.from_residual.ensures.1 accepted c.in_err-read_one-in-Rank.ensures.did
-
-pub returns-in_ok-read_one-in-Rref-clause-found : goal.returns-in_ok-read_one-in-Rref-clause-found
-returns-in_ok-read_one-in-Rref-clause-found g c = λ words accepted.
-    let a = c.in_ok-read_one-in-Rref in
-    found_given words c.args.command task.Rref c.new-p.result a.field-0.modulus c.args.limit _ _ (matrices_alone (a.field-0.matrix ∷ [])) _ c.in-Rref.is c.new-p.ensures a.ensures.matrix.modulus accepted a.ensures.did c.find_form-in-Rref.ensures
-
-pub returns-in_err-read_one-in-Rref-clause-found : goal.returns-in_err-read_one-in-Rref-clause-found
-returns-in_err-read_one-in-Rref-clause-found g c = λ words accepted.
-    found_unread words c.args.command task.Rref c.new-p.result c.args.limit _ _ c.in_err-read_one-in-Rref.field-0.0 _ c.in-Rref.is c.new-p.ensures c.from_residual-in_err-read_one-in-Rref.ensures.1 accepted c.in_err-read_one-in-Rref.ensures.did
-
-pub returns-in_ok-read_one-in-Kernel-clause-found : goal.returns-in_ok-read_one-in-Kernel-clause-found
-returns-in_ok-read_one-in-Kernel-clause-found g c = λ words accepted.
-    let a = c.in_ok-read_one-in-Kernel in
-    found_given words c.args.command task.Kernel c.new-p.result a.field-0.modulus c.args.limit _ _ (matrices_alone (a.field-0.matrix ∷ [])) _ c.in-Kernel.is c.new-p.ensures a.ensures.matrix.modulus accepted a.ensures.did c.find_kernel-in-Kernel.ensures
-
-pub returns-in_err-read_one-in-Kernel-clause-found : goal.returns-in_err-read_one-in-Kernel-clause-found
-returns-in_err-read_one-in-Kernel-clause-found g c = λ words accepted.
-    found_unread words c.args.command task.Kernel c.new-p.result c.args.limit _ _ c.in_err-read_one-in-Kernel.field-0.0 _ c.in-Kernel.is c.new-p.ensures c.from_residual-in_err-read_one-in-Kernel.ensures.1 accepted c.in_err-read_one-in-Kernel.ensures.did
-
-pub returns-in_ok-read_one-in-LeftKernel-clause-found : goal.returns-in_ok-read_one-in-LeftKernel-clause-found
-returns-in_ok-read_one-in-LeftKernel-clause-found g c = λ words accepted.
-    let a = c.in_ok-read_one-in-LeftKernel in
-    found_given words c.args.command task.LeftKernel c.new-p.result a.field-0.modulus c.args.limit _ _ (matrices_alone (a.field-0.matrix ∷ [])) _ c.in-LeftKernel.is c.new-p.ensures a.ensures.matrix.modulus accepted a.ensures.did c.find_left_kernel-in-LeftKernel.ensures
-
-pub returns-in_err-read_one-in-LeftKernel-clause-found : goal.returns-in_err-read_one-in-LeftKernel-clause-found
-returns-in_err-read_one-in-LeftKernel-clause-found g c = λ words accepted.
-    found_unread words c.args.command task.LeftKernel c.new-p.result c.args.limit _ _ c.in_err-read_one-in-LeftKernel.field-0.0 _ c.in-LeftKernel.is c.new-p.ensures c.from_residual-in_err-read_one-in-LeftKernel.ensures.1 accepted c.in_err-read_one-in-LeftKernel.ensures.did
-
-pub returns-in_ok-read_one-in-Inverse-clause-found : goal.returns-in_ok-read_one-in-Inverse-clause-found
-returns-in_ok-read_one-in-Inverse-clause-found g c = λ words accepted.
-    let a = c.in_ok-read_one-in-Inverse in
-    found_given words c.args.command task.Inverse c.new-p.result a.field-0.modulus c.args.limit _ _ (matrices_alone (a.field-0.matrix ∷ [])) _ c.in-Inverse.is c.new-p.ensures a.ensures.matrix.modulus accepted a.ensures.did c.find_inverse-in-Inverse.ensures
-
-pub returns-in_err-read_one-in-Inverse-clause-found : goal.returns-in_err-read_one-in-Inverse-clause-found
-returns-in_err-read_one-in-Inverse-clause-found g c = λ words accepted.
-    found_unread words c.args.command task.Inverse c.new-p.result c.args.limit _ _ c.in_err-read_one-in-Inverse.field-0.0 _ c.in-Inverse.is c.new-p.ensures c.from_residual-in_err-read_one-in-Inverse.ensures.1 accepted c.in_err-read_one-in-Inverse.ensures.did
-
-pub returns-in_ok-a-in-Pivots-clause-found : goal.returns-in_ok-a-in-Pivots-clause-found
-returns-in_ok-a-in-Pivots-clause-found g c = λ words accepted.
-    let a = c.in_ok-a-in-Pivots in
-    found_given words c.args.command task.Pivots c.new-p.result a.a.modulus c.args.limit _ _ (matrices_alone (a.a.matrix ∷ [])) _ c.in-Pivots.is c.new-p.ensures a.ensures.matrix.modulus accepted a.ensures.did c.find_pivots.ensures
-
-pub returns-in_err-a-in-Pivots-clause-found : goal.returns-in_err-a-in-Pivots-clause-found
-returns-in_err-a-in-Pivots-clause-found g c = λ words accepted.
-    found_unread words c.args.command task.Pivots c.new-p.result c.args.limit _ _ c.in_err-a-in-Pivots.field-0.0 _ c.in-Pivots.is c.new-p.ensures c.from_residual-in_err-a-in-Pivots.ensures.1 accepted c.in_err-a-in-Pivots.ensures.did
 
 pub returns-in_ok-a-in-Solve-clause-found : goal.returns-in_ok-a-in-Solve-clause-found
 returns-in_ok-a-in-Solve-clause-found g c = λ words accepted.
@@ -68,7 +14,7 @@ returns-in_ok-a-in-Solve-clause-found g c = λ words accepted.
 
 pub returns-in_err-a-in-Solve-clause-found : goal.returns-in_err-a-in-Solve-clause-found
 returns-in_err-a-in-Solve-clause-found g c = λ words accepted.
-    found_unread words c.args.command task.Solve c.new-p.result c.args.limit _ _ c.in_err-a-in-Solve.field-0.0 _ c.in-Solve.is c.new-p.ensures c.from_residual-in_err-a-in-Solve.ensures.1 accepted c.in_err-a-in-Solve.ensures.did
+    found_unread words c.args.command task.Solve c.new-p.result c.args.limit _ _ c.in_err-a-in-Solve.field-0.0 _ c.in-Solve.is c.new-p.ensures c.from_residual.ensures.1 accepted c.in_err-a-in-Solve.ensures.did
 
 pub returns-in-Drill-clause-found : goal.returns-in-Drill-clause-found
 returns-in-Drill-clause-found g c = λ words accepted.
@@ -89,24 +35,6 @@ pub returns-in_err-a-in-Check-clause-found : goal.returns-in_err-a-in-Check-clau
 returns-in_err-a-in-Check-clause-found g c = λ words accepted.
     found_unread words c.args.command task.Check c.new-p.result c.args.limit _ _ c.in_err-a-in-Check.field-0.0 _ c.in-Check.is c.new-p.ensures c.from_residual-in_err-a-in-Check.ensures.1 accepted c.in_err-a-in-Check.ensures.did
 
-pub returns-in_ok-a-in-Certify-clause-found : goal.returns-in_ok-a-in-Certify-clause-found
-returns-in_ok-a-in-Certify-clause-found g c = λ words accepted.
-    let a = c.in_ok-a-in-Certify in
-    found_given words c.args.command (task.Certify c.in-Certify.kind) c.new-p.result a.a.modulus c.args.limit _ _ (matrices_alone (a.a.matrix ∷ [])) _ c.in-Certify.is c.new-p.ensures a.ensures.matrix.modulus accepted a.ensures.did c.find_certificate.ensures
-
-pub returns-in_err-a-in-Certify-clause-found : goal.returns-in_err-a-in-Certify-clause-found
-returns-in_err-a-in-Certify-clause-found g c = λ words accepted.
-    found_unread words c.args.command (task.Certify c.in-Certify.kind) c.new-p.result c.args.limit _ _ c.in_err-a-in-Certify.field-0.0 _ c.in-Certify.is c.new-p.ensures c.from_residual-in_err-a-in-Certify.ensures.1 accepted c.in_err-a-in-Certify.ensures.did
-
-pub returns-in_ok-a-in-Trace-clause-found : goal.returns-in_ok-a-in-Trace-clause-found
-returns-in_ok-a-in-Trace-clause-found g c = λ words accepted.
-    let a = c.in_ok-a-in-Trace in
-    found_given words c.args.command task.Trace c.new-p.result a.a.modulus c.args.limit _ _ (matrices_alone (a.a.matrix ∷ [])) _ c.in-Trace.is c.new-p.ensures a.ensures.matrix.modulus accepted a.ensures.did c.find_trace.ensures
-
-pub returns-in_err-a-in-Trace-clause-found : goal.returns-in_err-a-in-Trace-clause-found
-returns-in_err-a-in-Trace-clause-found g c = λ words accepted.
-    found_unread words c.args.command task.Trace c.new-p.result c.args.limit _ _ c.in_err-a-in-Trace.field-0.0 _ c.in-Trace.is c.new-p.ensures c.from_residual-in_err-a-in-Trace.ensures.1 accepted c.in_err-a-in-Trace.ensures.did
-
 pub returns-in_ok-a-in-Replay-clause-found : goal.returns-in_ok-a-in-Replay-clause-found
 returns-in_ok-a-in-Replay-clause-found g c = λ words accepted.
     let both = c.in_ok-a-in-Replay in
@@ -126,3 +54,16 @@ returns-in_ok-answers-in-Grow-clause-found g c = λ words accepted.
 pub returns-in_err-answers-in-Grow-clause-found : goal.returns-in_err-answers-in-Grow-clause-found
 returns-in_err-answers-in-Grow-clause-found g c = λ words accepted.
     found_unread words c.args.command task.Grow c.new-p.result c.args.limit _ _ c.in_err-answers-in-Grow.field-0.0 _ c.in-Grow.is c.new-p.ensures c.from_residual-in_err-answers-in-Grow.ensures.1 accepted c.in_err-answers-in-Grow.ensures.did
+
+pub returns-in_ok-a-in_default-clause-found : goal.returns-in_ok-a-in_default-clause-found
+returns-in_ok-a-in_default-clause-found g c = λ words accepted.
+    let a = c.in_ok-a-in_default in
+    let other = c.in_default in
+    let one = reads_one c.args.command.task other.not-Solve other.not-Check other.not-Replay other.not-Grow other.not-Drill in
+    found_of_one words c.args.command c.new-p.result a.a.modulus c.args.limit _ _ a.a.matrix _ one c.new-p.ensures a.ensures.matrix.modulus accepted a.ensures.did c.find_of_matrix.ensures
+
+pub returns-in_err-a-in_default-clause-found : goal.returns-in_err-a-in_default-clause-found
+returns-in_err-a-in_default-clause-found g c = λ words accepted.
+    let other = c.in_default in
+    let one = reads_one c.args.command.task other.not-Solve other.not-Check other.not-Replay other.not-Grow other.not-Drill in
+    unread_of_one words c.args.command c.new-p.result c.args.limit _ _ c.in_err-a-in_default.field-0.0 _ one c.new-p.ensures c.from_residual-in_err-a-in_default.ensures.1 accepted c.in_err-a-in_default.ensures.did
