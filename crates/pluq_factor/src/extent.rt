@@ -42,9 +42,11 @@ impl Extent {
         let height = filled.saturating_sub(u64::from(pivots));
         let width = occupied.saturating_sub(u64::from(pivots));
         let sides = u64::from(rows.height()).max(u64::from(rows.width()));
-        Ok(width.saturating_mul(TALL) <= height
-            && width.saturating_mul(width) <= LARGEST_BASIS
-            && sides / 4 <= rows.entries())
+        Ok(
+            width.saturating_mul(TALL) <= height
+                && width.saturating_mul(width) <= LARGEST_BASIS
+                && sides / 4 <= rows.entries(),
+        )
     }
 
     // Whether a dense elimination is cheaper, in memory that is at most some constant times that of the entries.

@@ -13,9 +13,7 @@ ghost use Rattle.spasm_run.specs.Words.{Accepted};
 pub(crate) mod tests;
 
 use crate::answer::Answer;
-use crate::commands::{
-    find_lawfulness, find_of_matrix, find_solution, find_summary, find_verdict,
-};
+use crate::commands::{find_lawfulness, find_of_matrix, find_solution, find_summary, find_verdict};
 use crate::read_matrices::{read_and_answer, read_one, read_to_check, read_to_replay, read_two};
 use crate::status::Status;
 use crate::words::{Command, Task, read_words};
