@@ -8,9 +8,9 @@ use Rattle.spasm_batch.proofs.answer.Goals as goal
 pub returns-clause-refused : goal.returns-clause-refused
 returns-clause-refused g c = refused_ends _ _
     (ends_for _ _ _ _ (ap bytes_of c.deref.ensures.value ∙ c.in-Ok.ensures) refl (ap untold_source c.new-source.ensures.faults) (ap untold_sink c.new-out.ensures.faults)
-    c.run_batch.ensures.ran c.code.ensures)
+    c.run_batch-status.ensures.ran c.code.ensures)
 
 pub returns-clause-usage : goal.returns-clause-usage
 returns-clause-usage g c = ends_refused _ _
     (ends_for _ _ _ _ (ap bytes_of c.deref.ensures.value ∙ c.in-Ok.ensures) refl (ap untold_source c.new-source.ensures.faults) (ap untold_sink c.new-out.ensures.faults)
-    c.run_batch.ensures.ran c.code.ensures)
+    c.run_batch-status.ensures.ran c.code.ensures)
