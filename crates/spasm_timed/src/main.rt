@@ -1,27 +1,23 @@
-//! Times what the documents give figures of: multiples of rows added, the factors of a matrix, its structural pivots, certificates, and
-//! texts read and written.
+//! Times what the documents give figures of: multiples of rows added, the factors of a matrix, its structural pivots, and texts read and
+//! written.
 //!
-//! The words say which: `lanes`, `factors WORKERS`, `pivots WORKERS`, `walks`, `board WORKERS`, `rounds WORKERS`, `certified WORKERS`,
-//! `read P` or `write P`, where P is a modulus; all but the first read a matrix from standard input, and `certified` a certificate behind
-//! it. Times are in microseconds. With other words, or with none, one line says these.
+//! The words say which: `lanes`, `factors WORKERS`, `pivots WORKERS`, `walks`, `rounds WORKERS`, `read P` or `write P`, where P is a modulus; all but the first
+//! read a matrix from standard input. Times are in microseconds. With other words, or with none, one line says these.
 #![tactic(auto)]
 
 mod added_rows;
-mod certified;
 mod factored;
 mod rounds;
 mod searched;
 mod task;
 mod texts;
-mod turns;
 
 use added_rows::time_additions;
-use certified::time_certificate;
 use factored::time_factors;
 use pluq_factor::Plan;
 use residue_words::{MODULUS_BOUND, Modulus};
 use rounds::time_rounds;
-use searched::{time_board, time_pivots, time_walks};
+use searched::{time_pivots, time_walks};
 use std::alloc::Global;
 use std::io::{self, Read, Write};
 use std::process::ExitCode;
@@ -68,17 +64,7 @@ fn perform<R: Threads + Sync + Clock + Print + Eprint, I: Read + Drop, O: Write 
             };
             time_rounds(rt, alloc, input, plan)
         }
-        Some(Task::Certified(workers)) if 1 <= workers && workers <= 64 => {
-            let plan = Plan {
-                workers,
-                rounds: ROUNDS,
-            };
-            time_certificate(rt, alloc, input, plan)
-        }
         Some(Task::Walks) => time_walks(rt, alloc, input),
-        Some(Task::Board(workers)) if 1 <= workers && workers <= 64 => {
-            time_board(rt, alloc, input, workers)
-        }
         Some(Task::Read(p)) if 2 <= p && p < MODULUS_BOUND => {
             time_reading(rt, alloc, input, &Modulus::new(p))
         }
@@ -86,7 +72,7 @@ fn perform<R: Threads + Sync + Clock + Print + Eprint, I: Read + Drop, O: Write 
             time_writing(rt, alloc, input, output, &Modulus::new(p))
         }
         _ => println!(rt;
-            "spasm_timed lanes | factors WORKERS | pivots WORKERS | walks | board WORKERS | rounds WORKERS | certified WORKERS | read P | write P"
+            "spasm_timed lanes | factors WORKERS | pivots WORKERS | walks | rounds WORKERS | read P | write P"
         ),
     }
 }

@@ -2,15 +2,14 @@
 ghost use Rattle.std.specs.Prelude.{◌≡◌, ◌<◌, ◌≤◌};
 
 use crate::texts::matrix;
-use crate::turns::Turns;
 use fl_pivots::leftmost;
-use optimistic_search::{Open, Steps, search, search_by_walk, search_counted};
-use pivot_table::Book;
+use optimistic_search::{Gate, Point, Steps, search, search_by_walk};
 use residue_words::Modulus;
 use sparse_rows::Rows;
 use std::alloc::{AllocError, Global};
 use std::io::{self, Read};
 use std::marker::Brand;
+use std::sync::atomic::{AtomicU64, Ordering};
 use std::sync::ledger::{Blank, Ledger};
 use std::thread::Threads;
 use std::time::{Clock, Instant};
@@ -18,6 +17,27 @@ use triangular_solve::Triangle;
 
 // The modulus of the matrices that are searched.
 const PRIME: u64 = 42013;
+
+// A gate that counts the rows that workers have claimed, and how often one of them was overtaken.
+#[derive(Drop)]
+struct Counts {
+    claimed: AtomicU64,
+    overtaken: AtomicU64,
+}
+
+impl Gate for Counts {
+    fn at(&self, _worker: u32, point: Point) {
+        match point {
+            Point::Claimed(_) => {
+                self.claimed.fetch_add(1, Ordering::SeqCst);
+            }
+            Point::Newer(_) => {
+                self.overtaken.fetch_add(1, Ordering::SeqCst);
+            }
+            _ => {}
+        }
+    }
+}
 
 // Microseconds of each phase, and how many pivots there were behind it.
 #[derive(Clone, Copy, Debug)]
@@ -29,8 +49,8 @@ struct Phases {
     order: u128,
 }
 
-// Says how long the leftmost pivots, the search by so many workers and the triangular order take, and how many pivots the first two
-// find.
+// Says how long the leftmost pivots, the search by so many workers and the triangular order take, how many pivots the first two
+// find, how many claims succeeded, and how often a worker was overtaken.
 pub(crate) fn time_pivots<R: Threads + Sync + Clock + Print, I: Read + Drop>(
     rt: &R,
     alloc: Global,
@@ -41,14 +61,20 @@ pub(crate) fn time_pivots<R: Threads + Sync + Clock + Print, I: Read + Drop>(
     requires few { workers ≤ 64 }
 {
     let rows = matrix(alloc, input, &Modulus::new(PRIME))?;
+    let gate = Counts {
+        claimed: AtomicU64::new(0),
+        overtaken: AtomicU64::new(0),
+    };
     let Phases {
         leftmost,
         first,
         search,
         all,
         order,
-    } = find_pivots(rt, alloc, &rows, workers)?;
-    println!(rt; "{leftmost} {first} {search} {all} {order}")
+    } = find_pivots(rt, alloc, &rows, workers, &gate)?;
+    let claimed = gate.claimed.load(Ordering::SeqCst);
+    let overtaken = gate.overtaken.load(Ordering::SeqCst);
+    println!(rt; "{leftmost} {first} {search} {all} {order} {claimed} {overtaken}")
 }
 
 // Finds the pivots and their order.
@@ -57,6 +83,7 @@ fn find_pivots<R: Threads + Sync + Clock>(
     alloc: Global,
     rows: &Rows,
     workers: u32,
+    gate: &Counts,
 ) -> io::Result<Phases>
     requires some { 1 ≤ workers }
     requires few { workers ≤ 64 }
@@ -66,7 +93,7 @@ fn find_pivots<R: Threads + Sync + Clock>(
     let leftmost = start.elapsed(rt)?.as_micros();
     let first = book.pairs().len();
     let start = Instant::now(rt)?;
-    let book = search(rt, alloc, book, workers, &Open)?;
+    let book = search(rt, alloc, book, workers, gate)?;
     let search = start.elapsed(rt)?.as_micros();
     let start = Instant::now(rt)?;
     let triangle = Triangle::of(alloc, &book)?;
@@ -80,29 +107,6 @@ fn find_pivots<R: Threads + Sync + Clock>(
     })
 }
 
-// Says how long the search on a board by so many workers takes, how many pivots there are then, how many steps it takes, how many
-// rows were claimed, and how often a worker was overtaken.
-pub(crate) fn time_board<R: Threads + Sync + Clock + Print, I: Read + Drop>(
-    rt: &R,
-    alloc: Global,
-    input: I,
-    workers: u32,
-) -> io::Result<()>
-    requires some { 1 ≤ workers }
-    requires few { workers ≤ 64 }
-{
-    let rows = matrix(alloc, input, &Modulus::new(PRIME))?;
-    let book = leftmost(alloc, &rows)?;
-    let turns = Turns::none(alloc)?;
-    let start = Instant::now(rt)?;
-    let (found, steps) = search_counted(rt, alloc, book, workers, &turns)?;
-    let time = start.elapsed(rt)?.as_micros();
-    let all = found.pairs().len();
-    let claimed = turns.claimed();
-    let overtaken = turns.overtaken();
-    println!(rt; "{time} {all} {steps} {claimed} {overtaken}")
-}
-
 // Says how long a search takes that walks from each row, how many pivots there are then, and how many steps it takes.
 pub(crate) fn time_walks<R: Clock + Print, I: Read + Drop>(
     rt: &R,
@@ -110,20 +114,19 @@ pub(crate) fn time_walks<R: Clock + Print, I: Read + Drop>(
     input: I,
 ) -> io::Result<()> {
     let rows = matrix(alloc, input, &Modulus::new(PRIME))?;
-    let book = leftmost(alloc, &rows)?;
     let start = Instant::now(rt)?;
-    let (all, steps) = walked::<Brand>(alloc, book, Blank::new(1))?;
+    let (all, steps) = walked::<Brand>(alloc, &rows, Blank::new(1))?;
     let time = start.elapsed(rt)?.as_micros();
     println!(rt; "{time} {all} {steps}")
 }
 
 // How many pivots a search finds that walks from each row, and how many steps it takes.
-fn walked<L: Ledger>(alloc: Global, book: Book, blank: Blank) -> Result<(usize, u64), AllocError>
+fn walked<L: Ledger>(alloc: Global, rows: &Rows, blank: Blank) -> Result<(usize, u64), AllocError>
     requires name { blank.name ≡ L.name }
     requires parts { blank.parts ≡ L.parts }
     requires some { 0 < blank.parts }
 {
     let mut steps = Steps::<L>::new(blank);
-    let found = search_by_walk(alloc, book, &mut steps)?;
-    Ok((found.pairs().len(), steps.count()))
+    let book = search_by_walk(alloc, leftmost(alloc, rows)?, &mut steps)?;
+    Ok((book.pairs().len(), steps.count()))
 }

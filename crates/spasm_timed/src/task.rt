@@ -10,12 +10,8 @@ pub(crate) enum Task {
     Pivots(u32),
     // The same by a walk from each row, in steps.
     Walks,
-    // The same on a board, by so many workers.
-    Board(u32),
     // The rank of the matrix on standard input, and the rounds that lead to it, by so many workers.
     Rounds(u32),
-    // The certificate behind the matrix on standard input, checked and found anew, by so many workers.
-    Certified(u32),
     // The matrix on standard input read, modulo this.
     Read(u64),
     // The same matrix written.
@@ -32,9 +28,7 @@ impl Task {
             ("factors", Some(workers)) => Some(Task::Factors(u32::try_from(workers).ok()?)),
             ("pivots", Some(workers)) => Some(Task::Pivots(u32::try_from(workers).ok()?)),
             ("walks", None) => Some(Task::Walks),
-            ("board", Some(workers)) => Some(Task::Board(u32::try_from(workers).ok()?)),
             ("rounds", Some(workers)) => Some(Task::Rounds(u32::try_from(workers).ok()?)),
-            ("certified", Some(workers)) => Some(Task::Certified(u32::try_from(workers).ok()?)),
             ("read", Some(p)) => Some(Task::Read(p)),
             ("write", Some(p)) => Some(Task::Write(p)),
             _ => None,
