@@ -11,7 +11,7 @@ const BLOCK_SHARE: u64 = 10;
 // A dense basis of more places than this isn't made: 256 MB of them.
 const LARGEST_BASIS: u64 = 1 << 25;
 
-// So many rows for each column make a rest of few pivots, whose rows are counted one by one and not kept.
+// So many rows for each column make a rest of few pivots.
 const TALL: u64 = 3;
 
 // A round is no gain where one place of so many holds an entry.
@@ -35,18 +35,17 @@ impl Extent {
         })
     }
 
-    // Whether behind so many pivots there are several rows for each column, and a dense basis of the columns is small.
+    // Whether behind so many pivots there are several rows for each column and too many for a block, but a dense basis of the columns
+    // is small.
     pub(crate) fn is_tall(alloc: Global, rows: &Rows, pivots: u32) -> Result<bool, AllocError> {
         let filled = rows.filled(alloc)?.len() as u64;
         let occupied = rows.occupied(alloc)?.len() as u64;
         let height = filled.saturating_sub(u64::from(pivots));
         let width = occupied.saturating_sub(u64::from(pivots));
         let sides = u64::from(rows.height()).max(u64::from(rows.width()));
-        Ok(
-            width.saturating_mul(TALL) <= height
-                && width.saturating_mul(width) <= LARGEST_BASIS
-                && sides / 4 <= rows.entries(),
-        )
+        let tall = width.saturating_mul(TALL) <= height
+            && LARGEST_BLOCK < width.saturating_mul(height);
+        Ok(tall && width.saturating_mul(width) <= LARGEST_BASIS && sides / 4 <= rows.entries())
     }
 
     // Whether a dense elimination is cheaper, in memory that is at most some constant times that of the entries.
