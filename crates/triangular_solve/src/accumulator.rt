@@ -20,7 +20,7 @@ const ROOM: u64 = 0x8000_0000_0000_0000;
 /// A row of sums by column, to which multiples of sparse rows are added, and which gives out its entries in order. Contracts
 /// see the row of their residues with the modulus.
 ///
-/// It takes 8 bytes and a bit a column. Each call of `Leads` leaves it zero, so one serves any number of rows.
+/// It takes 8 bytes and a bit a column. Each call of `Leads` leaves it zero, and so does `drain`, so one serves any number of rows.
 ///
 /// Sums are reduced late: modulo p below 2^31 products are added as they are, and a multiple of p near 2^63 is taken away
 /// once a sum reaches it; what is given out is reduced then.
@@ -112,8 +112,8 @@ impl Accumulator {
         }
     }
 
-    // Adds a multiple of the row that stands in these columns and values.
-    pub(crate) fn add_multiple(&mut self, by: u64, cols: &[u32], vals: &[u64])
+    /// Adds a multiple of the row that stands in these columns and values, in time proportional to its entries.
+    pub fn add_multiple(&mut self, by: u64, cols: &[u32], vals: &[u64])
         requires sparse { IsSparse self.old.modulus (length self.old.row) cols.now vals.now }
         requires factor { by < self.old.modulus }
         ensures { AddsMultiple by cols.now vals.now self.old self.new }
@@ -141,8 +141,9 @@ impl Accumulator {
         None
     }
 
-    // Appends its entries to a zero row.
-    pub(crate) fn drain(&mut self, row: &mut Sparse) -> Result<(), AllocError>
+    /// Appends its entries, which are taken from it, to a zero row. The time is that of the columns touched, and a step for each
+    /// 4096 columns. Where memory is wanted, some of them may be gone: `clear` then makes it the zero row.
+    pub fn drain(&mut self, row: &mut Sparse) -> Result<(), AllocError>
         requires vector { IsVector self.old.modulus (length self.old.row) self.old.row }
         requires modulus { row.old.modulus ≡ self.old.modulus }
         requires none { row.old.row ≡ zeros (length self.old.row) }
@@ -167,8 +168,8 @@ impl Accumulator {
         count
     }
 
-    // Makes it the zero row, in time proportional to the columns touched.
-    pub(crate) fn clear(&mut self)
+    /// Makes it the zero row, in time proportional to the columns touched.
+    pub fn clear(&mut self)
         ensures { self.new ≡ record { modulus = self.old.modulus; row = zeros (length self.old.row) } }
     {
         while let Some(column) = self.touched.pop() {
