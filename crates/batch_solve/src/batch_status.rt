@@ -140,7 +140,7 @@ impl Display for BatchStatus {
             } => {
                 write!(
                     f,
-                    "right-hand side {question} is {height} x {width}, which isn't a column as high as the matrix"
+                    "right-hand side {question} is {height} x {width}, and no column as high as the matrix"
                 )
             }
             BatchStatus::ReadFault => f.write_str("the source failed"),

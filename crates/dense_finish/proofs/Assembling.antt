@@ -11,7 +11,7 @@ use Rattle.row_space.proofs.Counting.{pigeonhole}
 use Rattle.sparse_rows.specs.Rows.{ResidueMatrix}
 use Rattle.dense_finish.specs.declared.pivots.Pivots.{Pivots}
 use Rattle.dense_finish.specs.Block.{IsBlock, block_row}
-use Rattle.dense_finish.specs.Factors.{IsFactored, IsLeft}
+use Rattle.dense_finish.specs.Factors.{IsFactored, IsLeftFactor}
 use Rattle.dense_finish.specs.Pivots.{AreEliminated, AreFound, ArePivotPlaces, SplitBy, filled_entry}
 use Rattle.dense_finish.specs.Splitting.{IsTaken, parts}
 use Rattle.dense_finish.proofs.Indexing.{AreIndices, IsEmptyColumn, IsEmptyRow, index_or_not}
@@ -34,7 +34,7 @@ indices_few {n} {Absent} {names} h = pigeonhole (length names) n (slice_index na
 module _ {p : ℕ} {A : Matrix} {row_indices names : List ℕ} {block rows : List (List ℕ)} {f : Pivots} {L : ResidueMatrix} {pivots : List Pair} (sound : IsMatrix p A)
     (filled_rows : AreIndices A.height (IsEmptyRow A) row_indices) (filled_columns : AreIndices A.width (IsEmptyColumn A) names) (is_block : IsBlock p A row_indices names block) (found : AreFound p names A.width (length block) f)
     (eliminated : AreEliminated p (length names) (length block) f rows) (split : IsPrime p → SplitBy p names f block rows)
-    (left_modulus : L.modulus ≡ p) (left_matrix : IsMatrix p L.matrix) (left : IsLeft A.height row_indices f.columns.items rows L.matrix) (places : ArePivotPlaces f.rows.items f.columns.items row_indices names pivots) where
+    (left_modulus : L.modulus ≡ p) (left_matrix : IsMatrix p L.matrix) (left : IsLeftFactor A.height row_indices f.columns.items rows L.matrix) (places : ArePivotPlaces f.rows.items f.columns.items row_indices names pivots) where
   abbrev r : ℕ
   r = length f.columns.items
 

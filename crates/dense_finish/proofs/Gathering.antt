@@ -10,7 +10,7 @@ use Rattle.residue_words.proofs.Vectors.{at_zeros, zeros_vector}
 use Rattle.sparse_rows.specs.Rows.{AreRising, ResidueMatrix, with_zeros}
 use Rattle.sparse_rows.specs.Stored.{with_row}
 use Rattle.dense_finish.specs.Block.{entry_of}
-use Rattle.dense_finish.specs.Factors.{IsLeft}
+use Rattle.dense_finish.specs.Factors.{IsLeftFactor}
 use Rattle.dense_finish.specs.Pivots.{ArePivotPlaces}
 use Rattle.sparse_rows.proofs.Loops.{matrix_more, row_before, row_last}
 
@@ -153,7 +153,7 @@ left_filled {p} {next} {row_indices} {columns} {v} {rows} {L} {M} h rising vecto
 
 -- all rows are there
 pub left_all : {p m next : ℕ} {row_indices columns : List ℕ} {rows : List (List ℕ)} {L : ResidueMatrix} → L.matrix.height ≡ m → length row_indices ≤ next →
-    IsLeftSoFar p row_indices columns rows next L → IsLeft m row_indices columns rows L.matrix
+    IsLeftSoFar p row_indices columns rows next L → IsLeftFactor m row_indices columns rows L.matrix
 left_all end le h = record {
   height = end;
   width = h.width;

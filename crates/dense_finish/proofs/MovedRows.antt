@@ -12,10 +12,11 @@ use Rattle.row_space.specs.Rows.{HasSteps}
 use Rattle.row_space.proofs.Rows.{steps_independent}
 use Rattle.row_space.proofs.Counting.{pigeonhole}
 use Rattle.sparse_rows.specs.Stored.{with_row}
-use Rattle.dense_finish.specs.DenseBasis.{AreBasisParts, ArePlaces, IsSoundBasis, at_places, basis_of, matrix_at}
+use Rattle.dense_finish.specs.DenseBasis.{AreBasisParts, ArePlacesOf, IsSoundBasis, at_places, basis_of, matrix_at}
 use Rattle.dense_finish.specs.Panel.{PanelRows}
-use Rattle.dense_finish.specs.ReducedRows.{AreReducedRows, AreWidened, TakesRow, matrix_of_rows}
-use Rattle.dense_finish.proofs.TakingOff.{beyond, matrix_of_reduced, zeros_everywhere}
+use Rattle.dense_finish.specs.ReducedRows.{AreReducedRows, AreWidened, GainsRow, matrix_of_rows}
+use Rattle.sparse_rows.proofs.Expanding.{zeros_at}
+use Rattle.dense_finish.proofs.TakingOff.{beyond, matrix_of_reduced}
 
 -- the row at i is moved
 row_moved : (places : List ℕ) (A : Matrix) (i : ℕ) → i < length A.rows → row (matrix_at places A) i ≡ at_places places (row A i)
@@ -62,7 +63,7 @@ pub moved_more : (places : List ℕ) (A : Matrix) (v : List ℕ) → matrix_at p
 moved_more places A v = ap (λ rows. record { height = A.height + 1; width = length places; rows = rows }) (map-append (at_places places) A.rows (v ∷ []))
 
 -- moved to columns of their own, independent rows stay so
-pub moved_independent : {p : ℕ} {places columns : List ℕ} {A : Matrix} → 0 < p → ArePlaces places columns → A.width ≤ length columns → IsMatrix p A → IsIndependent p A → IsIndependent p (matrix_at places A)
+pub moved_independent : {p : ℕ} {places columns : List ℕ} {A : Matrix} → 0 < p → ArePlacesOf places columns → A.width ≤ length columns → IsMatrix p A → IsIndependent p A → IsIndependent p (matrix_at places A)
 moved_independent {p} {places} {columns} {A} pos h wide m free y vector none =
     free y vector (vector_equal p A.width (combine p y A) (zeros A.width) (combine_vector p y A pos) (zeros_vector p A.width pos) (λ s l.
     let c : ℕ = slice_index columns s in
@@ -80,7 +81,7 @@ reduced_independent {p} {b} prime m = steps_independent p (matrix_of_rows b) (sl
 })
 
 -- there are no more places than columns
-pub places_few : {places columns : List ℕ} → ArePlaces places columns → length columns ≤ length places
+pub places_few : {places columns : List ℕ} → ArePlacesOf places columns → length columns ≤ length places
 places_few {places} {columns} h = pigeonhole (length columns) (length places) (slice_index columns) h.inside
     (λ s t ls lt e. sym (h.back s ls) ∙ ap (slice_index places) e ∙ h.back t lt)
 

@@ -12,14 +12,15 @@ use Rattle.sparse_rows.proofs.Spread.{entry_cover, entry_here}
 use Rattle.row_space.specs.Echelon.{SameSpan}
 use Rattle.sparse_rows.proofs.Loops.{matrix_more}
 use Rattle.dense_finish.specs.Block.{block_row}
-use Rattle.dense_finish.specs.DenseBasis.{AreBasisParts, AreNoted, ArePlaces, KeepsRows, ReceivesRow, at_places, basis_of, matrix_at}
+use Rattle.dense_finish.specs.DenseBasis.{AreBasisParts, HavePlaces, ArePlacesOf, KeepsRows, ReceivesRow, at_places, basis_of, matrix_at}
 use Rattle.dense_finish.specs.Panel.{PanelRows}
-use Rattle.dense_finish.specs.ReducedRows.{AreReducedRows, AreWidened, TakesRow, matrix_of_rows}
+use Rattle.dense_finish.specs.ReducedRows.{AreReducedRows, AreWidened, GainsRow, matrix_of_rows}
 use Rattle.dense_finish.proofs.MovedRows.{moved_more, moved_span, places_few}
-use Rattle.dense_finish.proofs.TakingOff.{beyond, matrix_of_reduced, zeros_everywhere}
+use Rattle.sparse_rows.proofs.Expanding.{zeros_at}
+use Rattle.dense_finish.proofs.TakingOff.{beyond, matrix_of_reduced}
 use Rattle.dense_finish.proofs.TakingOut.{vector_set}
 
-module _ {places columns : List ℕ} {c : ℕ} (h : ArePlaces places columns) (few : length places ≤ 2147483648) (inside : c < length places) (none : slice_index places c ≡ 4294967295) where
+module _ {places columns : List ℕ} {c : ℕ} (h : ArePlacesOf places columns) (few : length places ≤ 2147483648) (inside : c < length places) (none : slice_index places c ≡ 4294967295) where
   m : ℕ
   m = length columns
 
@@ -47,7 +48,7 @@ module _ {places columns : List ℕ} {c : ℕ} (h : ArePlaces places columns) (f
   old_apart : (s : ℕ) → s < length columns → slice_index columns s ≢ c
   old_apart s l e = omega (arith, ap (slice_index places) e, h.back s l, none, small)
 
-  pub column_noted : ArePlaces (slice_set places c (length columns)) (columns ++ c ∷ [])
+  pub column_noted : ArePlacesOf (slice_set places c (length columns)) (columns ++ c ∷ [])
   column_noted = record {
     inside = λ s l. elim (cases_eq s (length columns)) [
       | inl e ↦ omega (arith, same_long, ap (slice_index (columns ++ c ∷ [])) e, last)
@@ -98,7 +99,7 @@ pub placing_none : {p n : ℕ} (place value : ℕ → ℕ) {v : List ℕ} → Is
 placing_none {p} {n} place value {v} h e = record {
   vector = h;
   put = λ t l. absurd (omega arith);
-  others = λ s none. ap (λ u. slice_index u s) e ∙ zeros_everywhere n s;
+  others = λ s none. ap (λ u. slice_index u s) e ∙ zeros_at n s;
 }
 
 pub placing_more : {p n k : ℕ} (place value : ℕ → ℕ) {v : List ℕ} → place k < n → value k < p → ((t : ℕ) → t < k → place t ≢ place k) → IsPlacing p n k place value v →
@@ -117,14 +118,14 @@ abbrev pub IsPlacingOf : ℕ → List ℕ → List ℕ → List ℕ → List ℕ
 IsPlacingOf p columns places cols vals k v = IsPlacing p (length columns) k (λ t. slice_index places (slice_index cols t)) (slice_index vals) v
 
 -- places are apart
-pub places_apart : {places columns : List ℕ} {i j : ℕ} → ArePlaces places columns → i < length places → j < length places → slice_index places j ≢ 4294967295 → slice_index places i ≡ slice_index places j → i ≡ j
+pub places_apart : {places columns : List ℕ} {i j : ℕ} → ArePlacesOf places columns → i < length places → j < length places → slice_index places j ≢ 4294967295 → slice_index places i ≡ slice_index places j → i ≡ j
 places_apart {places} {columns} {i} {j} h li lj ne e =
     let a = h.placed i li (λ n. ne (sym e ∙ n)) in
     let b = h.placed j lj ne in
     sym a.1 ∙ ap (slice_index columns) e ∙ b.1
 
 -- all of them stand there: moved to the columns, the row is the sparse one
-pub placing_all : {p k : ℕ} {places columns cols vals v : List ℕ} → ArePlaces places columns → length places ≤ 2147483648 → IsSparse p (length places) cols vals → AreNoted cols places →
+pub placing_all : {p k : ℕ} {places columns cols vals v : List ℕ} → ArePlacesOf places columns → length places ≤ 2147483648 → IsSparse p (length places) cols vals → HavePlaces cols places →
     k ≡ length cols → IsPlacing p (length columns) k (λ t. slice_index places (slice_index cols t)) (slice_index vals) v → at_places places v ≡ spread (length places) cols vals
 unfolding spread
 placing_all {p} {k} {places} {columns} {cols} {vals} {v} h few sparse noted all placing =
@@ -153,7 +154,7 @@ maps_equal f g (x ∷ xs) [] e h = absurd (omega arith)
 maps_equal f g (x ∷ xs) (y ∷ ys) e h = ap₂ (λ z zs. z ∷ zs) (h 0 (omega arith)) (maps_equal f g xs ys (omega arith) (λ k l. h (suc k) (omega arith)))
 
 -- more columns have places: the parts fit, and the rows are moved to the same
-pub parts_kept : {p : ℕ} {places columns more behind : List ℕ} {b : PanelRows} → AreBasisParts p places columns b → ArePlaces more behind → length more ≡ length places → length columns ≤ length behind →
+pub parts_kept : {p : ℕ} {places columns more behind : List ℕ} {b : PanelRows} → AreBasisParts p places columns b → ArePlacesOf more behind → length more ≡ length places → length columns ≤ length behind →
     AreBasisParts p more behind b
 parts_kept h placed size long = record {
   two_or_more = h.two_or_more;
@@ -188,7 +189,7 @@ basis_widened p n places {b} {new} h =
     (λ i. record { modulus = p; matrix = record { height = h.count i; width = length places; rows = rows i } })
 
 -- a row was taken in
-pub parts_taken : {p : ℕ} {places columns v : List ℕ} {b new : PanelRows} (rose : Bool) → AreBasisParts p places columns b → TakesRow p b v new rose → AreBasisParts p places columns new
+pub parts_taken : {p : ℕ} {places columns v : List ℕ} {b new : PanelRows} (rose : Bool) → AreBasisParts p places columns b → GainsRow p b v new rose → AreBasisParts p places columns new
 parts_taken rose h t = record {
   two_or_more = h.two_or_more;
   in_range = h.in_range;
@@ -198,7 +199,7 @@ parts_taken rose h t = record {
   reduced = t.reduced;
 }
 
-pub taken_moved : {p : ℕ} {places columns v s : List ℕ} {b new : PanelRows} (rose : Bool) → AreBasisParts p places columns b → IsVector p b.width v → TakesRow p b v new rose → at_places places v ≡ s →
+pub taken_moved : {p : ℕ} {places columns v s : List ℕ} {b new : PanelRows} (rose : Bool) → AreBasisParts p places columns b → IsVector p b.width v → GainsRow p b v new rose → at_places places v ≡ s →
     ReceivesRow (basis_of p places b) s (basis_of p places new) rose
 taken_moved {p} {places} {columns} {v} {s} {b} {new} rose h vector t is =
     let two : 2 ≤ p = h.two_or_more in

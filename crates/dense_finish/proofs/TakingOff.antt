@@ -17,7 +17,7 @@ use Rattle.sparse_rows.specs.Stored.{with_row as with_row_of}
 use Rattle.dense_finish.specs.Block.{AreVectors, block_row, entry_of}
 use Rattle.dense_finish.specs.Multiples.{plus_at, plus_multiple}
 use Rattle.dense_finish.specs.Panel.{PanelRows, no_pivots, with_pivot}
-use Rattle.dense_finish.specs.ReducedRows.{AreClearedAt, AreReducedRows, AreTakenOff, AreWidened, StandAlone, TakesRow, cleared_at, matrix_of_rows}
+use Rattle.dense_finish.specs.ReducedRows.{AreClearedAt, AreReducedRows, AreTakenOff, AreWidened, StandAlone, GainsRow, cleared_at, matrix_of_rows}
 use Rattle.dense_finish.proofs.BlockRows.{appended}
 use Rattle.dense_finish.proofs.TakingOut.{added_back, vector_by}
 
@@ -130,7 +130,7 @@ module _ {p n c : ℕ} {rows new : List (List ℕ)} {u : List ℕ} (two : 2 ≤ 
       (combination_last p n new u two cleared_matrix vu))
 
 -- nothing was left
-pub nothing_taken : {p : ℕ} {b : PanelRows} {v w : List ℕ} → 2 ≤ p → AreReducedRows p b → IsVector p b.width v → AreTakenOff p b v w → ((j : ℕ) → j < b.width → slice_index w j ≡ 0) → TakesRow p b v b false
+pub nothing_taken : {p : ℕ} {b : PanelRows} {v w : List ℕ} → 2 ≤ p → AreReducedRows p b → IsVector p b.width v → AreTakenOff p b v w → ((j : ℕ) → j < b.width → slice_index w j ≡ 0) → GainsRow p b v b false
 nothing_taken {p} {b} {v} {w} two m vector h none =
     let matrix = matrix_of_reduced m in
     record {
@@ -236,7 +236,7 @@ module _ (p c f : ℕ) (b new : PanelRows) (v w u : List ℕ) (rows : List (List
       (same_span_turned p (with_row b.width b.rows v) (with_row b.width b.rows u)
       (span_with_scaled p b.width (slice_index w c) f b.rows b.rows v w u two (inverse prime) matrix matrix vector vu (λ x. ((λ y. y), (λ y. y))) h.differs at_unit)))
 
-  made_taken : TakesRow p b v made true
+  made_taken : GainsRow p b v made true
   made_taken = record {
     reduced = made_reduced;
     width = refl;
@@ -244,8 +244,8 @@ module _ (p c f : ℕ) (b new : PanelRows) (v w u : List ℕ) (rows : List (List
     span = made_span;
   }
 
-  pub row_taken : TakesRow p b v new true
-  row_taken = subst (λ b'. TakesRow p b v b' true) (sym is) made_taken
+  pub row_taken : GainsRow p b v new true
+  row_taken = subst (λ b'. GainsRow p b v b' true) (sym is) made_taken
 
 -- a multiple of a row is as long, and of residues
 pub unit_length : (p f : ℕ) (w : List ℕ) {u : List ℕ} → u ≡ plus_multiple p f (zeros (length w)) w → length u ≡ length w
@@ -255,10 +255,6 @@ pub unit_residues : {p : ℕ} (f : ℕ) (w : List ℕ) {u : List ℕ} → 0 < p 
 unit_residues {p} f w {u} pos e =
     let h : IsVector p (length (zeros (length w))) (plus_multiple p f (zeros (length w)) w) = vector_by (λ j. slice_index (zeros (length w)) j + f * slice_index w j) pos in
     subst (IsVector p (length u)) (sym e) (subst (λ n. IsVector p n (plus_multiple p f (zeros (length w)) w)) (length_list_of (length w) (λ j. 0) ∙ sym (unit_length p f w e)) h)
-
--- there are zeros behind a row of zeros too
-pub zeros_everywhere : (n j : ℕ) → slice_index (zeros n) j ≡ 0
-zeros_everywhere n j = elim (cases_lt j n) [ inl l ↦ at_zeros n j l | inr le ↦ get_or_past (zeros n) j 0 (omega (arith, length_list_of n (λ j. 0))) ]
 
 pub beyond : {p n : ℕ} {v : List ℕ} → IsVector p n v → (j : ℕ) → n ≤ j → slice_index v j ≡ 0
 beyond {p} {n} {v} h j le = get_or_past v j 0 (omega (arith, h.len))

@@ -41,7 +41,7 @@ abbrev pub basis_of : ℕ → List ℕ → PanelRows → ResidueMatrix
 basis_of p places b = record { modulus = p; matrix = matrix_at places (matrix_of_rows b) }
 
 -- the columns that have a place, in the order of their places; the others have a number that is none
-pub record ArePlaces (places columns : List ℕ) : Type 0 where
+pub record ArePlacesOf (places columns : List ℕ) : Type 0 where
   pub inside : (s : ℕ) → s < length columns → slice_index columns s < length places
   pub back : (s : ℕ) → s < length columns → slice_index places (slice_index columns s) ≡ s
   pub placed : (j : ℕ) → j < length places → slice_index places j ≢ 4294967295 →
@@ -52,13 +52,13 @@ pub record AreBasisParts (p : ℕ) (places columns : List ℕ) (rows : PanelRows
   pub two_or_more : 2 ≤ p
   pub in_range : p < MODULUS_BOUND
   pub few : length places ≤ LARGEST_SIZE
-  pub placed : ArePlaces places columns
+  pub placed : ArePlacesOf places columns
   pub width : rows.width ≤ length columns
   pub reduced : AreReducedRows p rows
 
 -- each of these columns has a place
-abbrev pub AreNoted : List ℕ → List ℕ → Type 0
-AreNoted cols places = (k : ℕ) → k < length cols → slice_index places (slice_index cols k) ≢ 4294967295
+abbrev pub HavePlaces : List ℕ → List ℕ → Type 0
+HavePlaces cols places = (k : ℕ) → k < length cols → slice_index places (slice_index cols k) ≢ 4294967295
 
 -- rows of so many entries are moved to the same
 abbrev pub KeepsRows : ℕ → List ℕ → List ℕ → Type 0

@@ -14,7 +14,7 @@ pub record IsFactored (p : ℕ) (A : Matrix) (f : Factors) : Type 0 where
   pub factors : IsPrime p → AreFactors p A f.pivots f.l.matrix f.u.matrix
 
 -- the left factor: at each of these rows the coefficients of a row of the block, and zeros at the others
-pub record IsLeft (m : ℕ) (rows columns : List ℕ) (block : List (List ℕ)) (L : Matrix) : Type 0 where
+pub record IsLeftFactor (m : ℕ) (rows columns : List ℕ) (block : List (List ℕ)) (L : Matrix) : Type 0 where
   pub height : L.height ≡ m
   pub width : L.width ≡ length columns
   pub filled : (t k : ℕ) → t < length rows → k < length columns →

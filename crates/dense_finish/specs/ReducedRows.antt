@@ -33,7 +33,7 @@ pub record AreTakenOff (p : ℕ) (b : PanelRows) (v w : List ℕ) : Type 0 where
   pub clear : IsPrime p → (k : ℕ) → k < length b.columns → slice_index w (slice_index b.columns k) ≡ 0
 
 -- v came to the rows; their number rose or not, and for a prime modulus they span what they did with v
-pub record TakesRow (p : ℕ) (old : PanelRows) (v : List ℕ) (new : PanelRows) (rose : Bool) : Type 0 where
+pub record GainsRow (p : ℕ) (old : PanelRows) (v : List ℕ) (new : PanelRows) (rose : Bool) : Type 0 where
   pub reduced : AreReducedRows p new
   pub width : new.width ≡ old.width
   pub count : length new.rows ≡ length old.rows + (if rose then 1 else 0)

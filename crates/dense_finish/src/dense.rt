@@ -335,7 +335,8 @@ impl Dense<u32> {
         requires order { columns.start ≤ columns.end }
         requires narrow { columns.end ≤ columns.start + 8 }
         requires inside { columns.start + 8 ≤ length self.old }
-        ensures { AddsBetween folding.now.p columns (λ j. slice_index sums (j - columns.start)) self.old self.new }
+        ensures { AddsBetween folding.now.p columns (λ j. slice_index sums (j - columns.start))
+            self.old self.new }
     {
         if columns.end - columns.start == 8 {
             add_lanes(&mut self.places, columns.start, sums, folding);
@@ -351,7 +352,8 @@ impl Dense<u32> {
         requires order { columns.start ≤ columns.end }
         requires narrow { columns.end ≤ columns.start + 8 }
         requires inside { columns.start + 8 ≤ length self.old }
-        ensures { AddsBetween p.now columns (λ j. slice_index sums.now (j - columns.start)) self.old self.new }
+        ensures { AddsBetween p.now columns (λ j. slice_index sums.now (j - columns.start))
+            self.old self.new }
     {
         for j in columns.start..columns.end {
             self.set(j, p.add(self.get(j), sums[j - columns.start] % p.p()), p);

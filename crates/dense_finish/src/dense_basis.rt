@@ -4,7 +4,7 @@ ghost use Rattle.residue_words.specs.Matrix.{IsVector};
 ghost use Rattle.sparse_rows.specs.Rows.{AreBelow};
 ghost use Rattle.sparse_rows.specs.Stored.{IsSparse, spread};
 ghost use Rattle.sparse_rows.specs.declared.rows.TheConstants.{LARGEST_SIZE};
-ghost use Rattle.dense_finish.specs.DenseBasis.{AreBasisParts, AreNoted, ArePlaces, IsSoundBasis, KeepsRows, ReceivesRow, at_places, basis_of, no_basis};
+ghost use Rattle.dense_finish.specs.DenseBasis.{AreBasisParts, HavePlaces, ArePlacesOf, IsSoundBasis, KeepsRows, ReceivesRow, at_places, basis_of, no_basis};
 
 use crate::dense::Dense;
 use crate::reduced_rows::ReducedRows;
@@ -76,7 +76,8 @@ impl DenseBasis {
         requires { IsSparse self.old.modulus self.old.matrix.width cols.now vals.now }
         ensures modulus { self.new.modulus ≡ self.old.modulus }
         ensures width { self.new.matrix.width ≡ self.old.matrix.width }
-        ensures taken { IfOk result (ReceivesRow self.old (spread self.old.matrix.width cols.now vals.now) self.new) }
+        ensures taken { IfOk result
+            (ReceivesRow self.old (spread self.old.matrix.width cols.now vals.now) self.new) }
         ensures err { OnErr result (self.new ≡ self.old) }
     {
         let p = self.modulus;
@@ -115,7 +116,7 @@ fn make_room(
     ensures parts { AreBasisParts p.now places.new.items columns.new.items rows.new }
     ensures size { length places.new.items ≡ length places.old.items }
     ensures same { basis_of p.now places.new.items rows.new ≡ basis_of p.now places.old.items rows.old }
-    ensures noted { OnOk result (AreNoted cols.now places.new.items) }
+    ensures noted { OnOk result (HavePlaces cols.now places.new.items) }
     ensures width { OnOk result (rows.new.width ≡ length columns.new.items) }
 {
     note_columns(places, columns, cols)?;
@@ -135,7 +136,7 @@ fn take_in(
 ) -> Result<bool, AllocError>
     requires parts { AreBasisParts p.now places.now columns.now rows.old }
     requires sparse { IsSparse p.now (length places.now) cols.now vals.now }
-    requires noted { AreNoted cols.now places.now }
+    requires noted { HavePlaces cols.now places.now }
     requires width { rows.old.width ≡ length columns.now }
     ensures parts { AreBasisParts p.now places.now columns.now rows.new }
     ensures taken { IfOk result (ReceivesRow (basis_of p.now places.now rows.old)
@@ -150,13 +151,13 @@ fn take_in(
 
 // Gives each of these columns a place, if it has none.
 fn note_columns(places: &mut [u32], columns: &mut Vec<u32>, cols: &[u32]) -> Result<(), AllocError>
-    requires places { ArePlaces places.old columns.old.items }
+    requires places { ArePlacesOf places.old columns.old.items }
     requires few { length places.old ≤ LARGEST_SIZE }
     requires inside { AreBelow (length places.old) cols.now }
-    ensures places { ArePlaces places.new columns.new.items }
+    ensures places { ArePlacesOf places.new columns.new.items }
     ensures long { length columns.old.items ≤ length columns.new.items }
     ensures same { KeepsRows (length columns.old.items) places.old places.new }
-    ensures noted { OnOk result (AreNoted cols.now places.new) }
+    ensures noted { OnOk result (HavePlaces cols.now places.new) }
 {
     for k in 0..cols.len() {
         note_column(places, columns, cols[k])?;
@@ -166,10 +167,10 @@ fn note_columns(places: &mut [u32], columns: &mut Vec<u32>, cols: &[u32]) -> Res
 
 // Gives a column a place, if it has none.
 fn note_column(places: &mut [u32], columns: &mut Vec<u32>, c: u32) -> Result<(), AllocError>
-    requires places { ArePlaces places.old columns.old.items }
+    requires places { ArePlacesOf places.old columns.old.items }
     requires few { length places.old ≤ LARGEST_SIZE }
     requires inside { c < length places.old }
-    ensures places { ArePlaces places.new columns.new.items }
+    ensures places { ArePlacesOf places.new columns.new.items }
     ensures long { length columns.old.items ≤ length columns.new.items }
     ensures same { KeepsRows (length columns.old.items) places.old places.new }
     ensures kept { (j : ℕ) → slice_index places.old j ≢ NONE → slice_index places.new j ≢ NONE }
@@ -194,9 +195,9 @@ fn placed(
     p: &Modulus,
 ) -> Result<Dense<u64>, AllocError>
     requires sparse { IsSparse p.now (length places.now) cols.now vals.now }
-    requires places { ArePlaces places.now columns.now }
+    requires places { ArePlacesOf places.now columns.now }
     requires few { length places.now ≤ LARGEST_SIZE }
-    requires noted { AreNoted cols.now places.now }
+    requires noted { HavePlaces cols.now places.now }
     ensures vector { IfOk result (IsVector p.now (length columns.now)) }
     ensures row { IfOk result (λ v. at_places places.now v ≡ spread (length places.now) cols.now vals.now) }
 {

@@ -5,7 +5,7 @@ ghost use Rattle.sparse_rows.specs.Rows.{AreRising, with_zeros};
 ghost use Rattle.sparse_rows.specs.declared.rows.TheConstants.{LARGEST_SIZE};
 ghost use Rattle.dense_finish.specs.Block.{AreVectors};
 ghost use Rattle.sparse_rows.specs.Rows.{AreBelow};
-ghost use Rattle.dense_finish.specs.Factors.{IsLeft};
+ghost use Rattle.dense_finish.specs.Factors.{IsLeftFactor};
 
 use crate::dense::Dense;
 use crate::residue::Residue;
@@ -46,7 +46,7 @@ pub(crate) fn left_factor<W: Residue>(
     requires inside { AreBelow n columns.now }
     ensures modulus { IfOk result (λ left. left.modulus ≡ p.now) }
     ensures residues { IfOk result (λ left. IsMatrix p.now left.matrix) }
-    ensures left { IfOk result (λ left. IsLeft m filled_rows.now columns.now block.now left.matrix) }
+    ensures left { IfOk result (λ left. IsLeftFactor m filled_rows.now columns.now block.now left.matrix) }
 {
     // The call's contract tells the range of the modulus.
     let _ = p.p();

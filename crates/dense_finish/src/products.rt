@@ -114,7 +114,8 @@ impl Folding {
 pub(crate) fn add_lanes(row: &mut [u32], at: usize, sums: u64x8, folding: &Folding)
     requires room { at + 8 ≤ length row.old }
     requires residues { (k : ℕ) → k < length row.old → slice_index row.old k < folding.now.p }
-    ensures { AddsBetween folding.now.p (columns_of at (at + 8)) (λ j. slice_index sums (j - at)) row.old row.new }
+    ensures { AddsBetween folding.now.p (columns_of at (at + 8)) (λ j. slice_index sums (j - at))
+        row.old row.new }
 {
     let x = u32x8::from_slice(&row[at..]);
     folding.plus(x, sums).copy_to_slice(&mut row[at..]);

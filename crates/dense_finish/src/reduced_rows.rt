@@ -3,7 +3,7 @@ ghost use Rattle.std.specs.Prelude.{◌≡◌, ◌<◌, ◌≤◌, length, IfOk,
 ghost use Rattle.dense_finish.specs.Block.{AreVectors};
 ghost use Rattle.residue_words.specs.Matrix.{IsVector};
 ghost use Rattle.dense_finish.specs.Panel.{no_pivots};
-ghost use Rattle.dense_finish.specs.ReducedRows.{AreClearedAt, AreReducedRows, AreTakenOff, AreWidened, TakesRow};
+ghost use Rattle.dense_finish.specs.ReducedRows.{AreClearedAt, AreReducedRows, AreTakenOff, AreWidened, GainsRow};
 ghost use Rattle.sparse_rows.specs.declared.rows.TheConstants.{LARGEST_SIZE};
 
 use crate::dense::Dense;
@@ -94,7 +94,7 @@ impl ReducedRows {
         requires reduced { AreReducedRows p.now self.old }
         requires residues { IsVector p.now self.old.width row }
         requires narrow { self.old.width ≤ LARGEST_SIZE }
-        ensures taken { IfOk result (TakesRow p.now self.old row self.new) }
+        ensures taken { IfOk result (GainsRow p.now self.old row self.new) }
         ensures err { OnErr result (self.new ≡ self.old) }
     {
         // The call's contract tells the range of the modulus.

@@ -18,8 +18,8 @@ use Rattle.echelon_form.specs.Form.{Form, IsFormOf}
 use Rattle.schur_rows.specs.Round.{above, pivot_rows}
 use Rattle.schur_rows.proofs.Spanning.{round_spanned}
 use Rattle.pluq_factor.specs.Basis.{IsBasis}
-use Rattle.pluq_factor.specs.Taken.{IsLeftBy}
-use Rattle.pluq_factor.specs.declared.taken.Left.{Left}
+use Rattle.pluq_factor.specs.RoundPivots.{IsLeftBy}
+use Rattle.pluq_factor.specs.declared.round_pivots.Left.{Left}
 
 module _ {p : ℕ} {A : Matrix} {ps : List Pair} {L U : Matrix} (prime : IsPrime p) (m : IsMatrix p A) (f : AreFactors p A ps L U) where
   pub factor_rows_independent : IsIndependent p U

@@ -21,8 +21,8 @@ use Rattle.schur_rows.proofs.Joining.{joined}
 use Rattle.schur_rows.proofs.Above.{above_matrix, beside_matrix, col_first, col_second, each_of, pivot_height, pivots_matrix, row_first, row_second}
 use Rattle.pluq_factor.specs.Rounds.{AreFactorsOf, AreWithoutPivots, HaveSizes}
 use Rattle.pluq_factor.specs.Staged.{Staged}
-use Rattle.pluq_factor.specs.Taken.{IsRoundTaken, triangle_on}
-use Rattle.pluq_factor.specs.declared.taken.Taken.{Taken}
+use Rattle.pluq_factor.specs.RoundPivots.{IsRoundTaken, triangle_on}
+use Rattle.pluq_factor.specs.declared.round_pivots.RoundPivots.{RoundPivots}
 
 -- places below n that differ are no more than n
 few_places : (m n : ℕ) (place : ℕ → ℕ) → ((k : ℕ) → k < m → place k < n) → ((k t : ℕ) → k < t → t < m → place k ≢ place t) → m ≤ n
@@ -106,7 +106,7 @@ pub record IsMet (t : TriangleState) (s : SchurRows) (workers r : ℕ) (below : 
   pub sound : AreFactorsOf t.rows.modulus s.rows.matrix below
   pub staged : IsPrime t.rows.modulus → Staged t.rows.modulus s.rows.matrix workers r below.pivots
 
-pub met : {R : ResidueMatrix} {workers r : ℕ} {taken : Taken} {below : Factors} → IsRoundTaken R workers taken → AreFactorsOf taken.left.rows.modulus taken.left.rows.matrix below →
+pub met : {R : ResidueMatrix} {workers r : ℕ} {taken : RoundPivots} {below : Factors} → IsRoundTaken R workers taken → AreFactorsOf taken.left.rows.modulus taken.left.rows.matrix below →
     (IsPrime taken.left.rows.modulus → Staged taken.left.rows.modulus taken.left.rows.matrix workers r below.pivots) → IsMet (triangle_on R taken.pivots) taken.left workers r below
 met {R} {workers} {r} {taken} {below} h factored staged = record {
   matrix = h.sound;

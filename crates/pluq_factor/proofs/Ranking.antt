@@ -20,7 +20,7 @@ use Rattle.schur_rows.specs.Laws.{RoundRank}
 use Rattle.schur_rows.specs.Round.{FitsComplement}
 use Rattle.schur_rows.proofs.Distinct.{triangular_narrow, triangular_short}
 use Rattle.pluq_factor.specs.Counted.{LeavesRank}
-use Rattle.pluq_factor.specs.declared.taken.Counted.{Counted}
+use Rattle.pluq_factor.specs.declared.round_pivots.Counted.{Counted}
 
 -- a rank is at most the height and the width
 pub rank_least : {p : ℕ} {A : Matrix} {r : ℕ} → IsPrime p → HasRank p A r → (r ≤ A.height) × (r ≤ A.width)

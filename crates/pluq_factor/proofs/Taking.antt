@@ -13,7 +13,7 @@ use Rattle.triangular_solve.specs.Triangle.{TriangleState}
 use Rattle.schur_rows.specs.Round.{FitsRound, IsRound}
 use Rattle.schur_rows.specs.declared.round.SchurRows.{SchurRows}
 use Rattle.schur_rows.proofs.Distinct.{triangular_short}
-use Rattle.pluq_factor.specs.Taken.{IsRoundTaken, triangle_on}
+use Rattle.pluq_factor.specs.RoundPivots.{IsRoundTaken, triangle_on}
 
 -- the rows of the pairs lie in the matrix
 pub rows_inside : (R : ResidueMatrix) {qs ps : List Pair} {xs ys : List ℕ} → Triangular R.matrix qs → ps ≡ qs → xs ≡ ys → ys ≡ map (λ (q : Pair). q.row) ps → (k d : ℕ) → k < length xs → slice_index_or xs k d < R.matrix.height

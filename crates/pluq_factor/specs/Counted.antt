@@ -3,7 +3,7 @@ use Rattle.std.specs.Prelude.{◌≡◌, ◌≤◌, ◌+◌, ℕ}
 use Rattle.residue_words.specs.Residues.{IsPrime}
 use Rattle.row_space.specs.Echelon.{HasRank}
 use Rattle.sparse_rows.specs.Rows.{ResidueMatrix}
-use Rattle.pluq_factor.specs.declared.taken.Counted.{Counted}
+use Rattle.pluq_factor.specs.declared.round_pivots.Counted.{Counted}
 
 -- a matrix of these sizes is left, whose rank with the count is that of the matrix
 pub record LeavesRank (R : ResidueMatrix) (c : Counted) : Type 0 where

@@ -3,5 +3,5 @@ pub mod Counted
 pub mod Laws
 pub mod Rounds
 pub mod Staged
-pub mod Taken
+pub mod RoundPivots
 pub mod Turned

@@ -4,7 +4,7 @@ ghost use Rattle.pluq_factor.specs.Basis.{IsBasis};
 
 use crate::extent::Extent;
 use crate::plan::Plan;
-use crate::taken::{Left, take_left};
+use crate::round_pivots::{Left, take_left};
 use dense_finish::{Factors, finish};
 use echelon_form::Echelon;
 use optimistic_search::Gate;

@@ -8,7 +8,7 @@ ghost use Rattle.pluq_factor.specs.Rounds.{AreFactorsOf, AreWithoutPivots};
 ghost use Rattle.pluq_factor.specs.Staged.{Staged};
 
 use crate::plan::Plan;
-use crate::taken::{Taken, listed, take_round};
+use crate::round_pivots::{RoundPivots, listed, take_round};
 use dense_finish::{Factors, finish};
 use optimistic_search::Gate;
 use pivot_table::Pair;
@@ -68,7 +68,7 @@ fn factor_from<R: Threads + Sync, G: Gate>(
         return Ok(factors);
     };
     drop(rows);
-    let Taken { pivots, top, left } = round;
+    let RoundPivots { pivots, top, left } = round;
     let SchurRows {
         rows: rest,
         coefficients,

@@ -11,7 +11,7 @@ mod extent;
 mod form_by_rounds;
 mod plan;
 mod rank_by_rounds;
-mod taken;
+mod round_pivots;
 #[cfg(test)]
 mod tests;
 

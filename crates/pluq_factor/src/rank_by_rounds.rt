@@ -6,7 +6,7 @@ ghost use Rattle.pluq_factor.specs.Counted.{LeavesRank};
 
 use crate::extent::Extent;
 use crate::plan::Plan;
-use crate::taken::{Counted, count_round};
+use crate::round_pivots::{Counted, count_round};
 use dense_finish::finish;
 use optimistic_search::Gate;
 use sparse_rows::Rows;

@@ -139,7 +139,8 @@ impl FlatRows {
         requires row { IsSparse pivots.now.rows.modulus (length passed.old.row) cols.now vals.now }
         requires room { IsRoomFor pivots.now sums.old passed.old }
         requires below { AreBelow (length passed.old.row) pivots.now.columns }
-        requires rest { rest.old ≡ record { modulus = passed.old.modulus; row = zeros (length passed.old.row) } }
+        requires rest { rest.old
+            ≡ record { modulus = passed.old.modulus; row = zeros (length passed.old.row) } }
         ensures sums { IsAlike sums.old sums.new }
         ensures passed { IsAlike passed.old passed.new }
         ensures rest { IsAlike rest.old rest.new }

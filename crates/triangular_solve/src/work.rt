@@ -144,7 +144,8 @@ impl Work {
         requires rest { rest.old ≡ record { modulus = self.old.modulus; row = zeros self.old.width } }
         ensures work { self.new ≡ self.old }
         ensures rest { IsAlike rest.old rest.new }
-        ensures left { OnOk result (IsLeft pivots.now (spread self.old.width cols.now vals.now) rest.new.row) }
+        ensures left { OnOk result
+            (IsLeft pivots.now (spread self.old.width cols.now vals.now) rest.new.row) }
     {
         fit(alloc, pivots, &mut self.sums)?;
         let done = flat.rest_by(pivots, cols, vals, &mut self.sums, &mut self.passed, rest);

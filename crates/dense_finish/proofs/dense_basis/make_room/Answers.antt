@@ -1,5 +1,5 @@
 use Rattle.std.proofs.Common.{◌≡◌, ◌∙◌, ap, arith, length, subst, sym}
-use Rattle.dense_finish.specs.DenseBasis.{AreBasisParts, ArePlaces, KeepsRows, basis_of}
+use Rattle.dense_finish.specs.DenseBasis.{AreBasisParts, ArePlacesOf, KeepsRows, basis_of}
 use Rattle.dense_finish.proofs.Noting.{basis_kept, basis_widened, parts_kept, parts_widened}
 use Rattle.dense_finish.proofs.Parts.{refilled}
 use Rattle.dense_finish.proofs.dense_basis.make_room.Goals as goal

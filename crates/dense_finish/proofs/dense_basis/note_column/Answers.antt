@@ -1,5 +1,5 @@
 use Rattle.std.proofs.Common.{[], ◌∷◌, ◌++◌, ◌≡◌, ◌∙◌, ap, ap₂, arith, length, length-append, set, slice_index, subst, sym}
-use Rattle.dense_finish.specs.DenseBasis.{ArePlaces, KeepsRows}
+use Rattle.dense_finish.specs.DenseBasis.{ArePlacesOf, KeepsRows}
 use Rattle.dense_finish.proofs.MovedRows.{places_few}
 use Rattle.dense_finish.proofs.Noting.{column_noted, now_noted, others_noted, rows_kept}
 use Rattle.dense_finish.proofs.dense_basis.note_column.Goals as goal

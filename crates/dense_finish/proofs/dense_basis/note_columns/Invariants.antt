@@ -1,10 +1,10 @@
 use Rattle.std.proofs.Common.{ℕ, ◌≡◌, ◌≢◌, ◌<◌, ◌≤◌, length, slice_index}
-use Rattle.dense_finish.specs.DenseBasis.{ArePlaces, KeepsRows}
+use Rattle.dense_finish.specs.DenseBasis.{ArePlacesOf, KeepsRows}
 use Rattle.dense_finish.proofs.dense_basis.note_columns.Given as goal
 
 abbrev pub invariant-loop-k : goal.invariant-loop-k
 invariant-loop-k l = record {
-  placed : ArePlaces l.places l.columns.items;
+  placed : ArePlacesOf l.places l.columns.items;
   size : length l.places ≡ length l.fn.places;
   long : length l.fn.columns.items ≤ length l.columns.items;
   same : KeepsRows (length l.fn.columns.items) l.fn.places l.places;

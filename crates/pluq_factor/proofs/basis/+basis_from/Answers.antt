@@ -1,8 +1,8 @@
 use Rattle.std.proofs.Common.{ℕ, Option, ◌≡◌, ◌≤◌, ◌+◌, ◌-◌, ap, arith, subst}
 use Rattle.std.specs.Option.{IfSome}
 use Rattle.residue_words.specs.Matrix.{Matrix}
-use Rattle.pluq_factor.specs.Taken.{IsLeftBy}
-use Rattle.pluq_factor.specs.declared.taken.Left.{Left}
+use Rattle.pluq_factor.specs.RoundPivots.{IsLeftBy}
+use Rattle.pluq_factor.specs.declared.round_pivots.Left.{Left}
 use Rattle.pluq_factor.proofs.Bases.{basis_few, basis_joined, basis_top}
 use Rattle.pluq_factor.proofs.basis.+basis_from.Goals as goal
 

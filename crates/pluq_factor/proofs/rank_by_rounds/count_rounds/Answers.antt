@@ -1,7 +1,7 @@
 use Rattle.std.proofs.Common.{Option, arith, subst}
 use Rattle.std.specs.Option.{IfSome}
 use Rattle.pluq_factor.specs.Counted.{LeavesRank}
-use Rattle.pluq_factor.specs.declared.taken.Counted.{Counted}
+use Rattle.pluq_factor.specs.declared.round_pivots.Counted.{Counted}
 use Rattle.pluq_factor.proofs.Ranking.{counted_more, rank_least}
 use Rattle.pluq_factor.proofs.rank_by_rounds.count_rounds.Goals as goal
 

@@ -1,7 +1,7 @@
 use Rattle.std.proofs.Common.{ℕ, ◌≡◌, ◌<◌, ◌∙◌, ap, arith, length, slice_index, subst, sym}
 use Rattle.sparse_rows.specs.Rows.{AreBelow, ResidueMatrix}
 use Rattle.sparse_rows.specs.Stored.{IsSparse, spread}
-use Rattle.dense_finish.specs.DenseBasis.{AreBasisParts, AreNoted, ReceivesRow, basis_of}
+use Rattle.dense_finish.specs.DenseBasis.{AreBasisParts, HavePlaces, ReceivesRow, basis_of}
 use Rattle.dense_finish.proofs.Noting.{any_err}
 use Rattle.dense_finish.proofs.dense_basis.DenseBasis.insert.Goals as goal
 

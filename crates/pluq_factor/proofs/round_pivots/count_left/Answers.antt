@@ -3,7 +3,7 @@ use Rattle.residue_words.specs.Matrix.{Matrix}
 use Rattle.sparse_rows.specs.Rows.{ResidueMatrix, with_zeros}
 use Rattle.schur_rows.proofs.Distinct.{triangular_narrow, triangular_short}
 use Rattle.pluq_factor.proofs.Ranking.{counted_left}
-use Rattle.pluq_factor.proofs.taken.count_left.Goals as goal
+use Rattle.pluq_factor.proofs.round_pivots.count_left.Goals as goal
 
 pub overflow_sub-most : goal.overflow_sub-most
 overflow_sub-most c =

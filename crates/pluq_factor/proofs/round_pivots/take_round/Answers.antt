@@ -1,5 +1,5 @@
 use Rattle.pluq_factor.proofs.Taking.{rows_few, rows_inside, taken_of}
-use Rattle.pluq_factor.proofs.taken.take_round.Goals as goal
+use Rattle.pluq_factor.proofs.round_pivots.take_round.Goals as goal
 
 pub select-requires-clause-many : goal.select-requires-clause-many
 select-requires-clause-many g c = rows_few c.args.rows.now c.in_ok-triangle.ensures.selected.triangular c.pairs-pairs.ensures.pairs c.deref.ensures.value c.in_ok-rows_of.ensures c.height.ensures.value c.height.ensures.bound

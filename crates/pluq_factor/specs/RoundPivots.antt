@@ -9,15 +9,15 @@ use Rattle.pivot_table.specs.Selected.{Selected}
 use Rattle.triangular_solve.specs.Reduced.{IsComplement}
 use Rattle.triangular_solve.specs.Triangle.{TriangleState}
 use Rattle.schur_rows.specs.Round.{FitsComplement, FitsRound, IsRound, pivot_rows}
-use Rattle.pluq_factor.specs.declared.taken.Left.{Left}
-use Rattle.pluq_factor.specs.declared.taken.Taken.{Taken}
+use Rattle.pluq_factor.specs.declared.round_pivots.Left.{Left}
+use Rattle.pluq_factor.specs.declared.round_pivots.RoundPivots.{RoundPivots}
 
 -- the matrix with these pairs
 abbrev pub triangle_on : ResidueMatrix → List Pair → TriangleState
 triangle_on R qs = record { rows = R; pairs = qs }
 
 -- the pivots that so many workers selected, their rows, and what they leave
-pub record IsRoundTaken (R : ResidueMatrix) (workers : ℕ) (r : Taken) : Type 0 where
+pub record IsRoundTaken (R : ResidueMatrix) (workers : ℕ) (r : RoundPivots) : Type 0 where
   pub sound : IsMatrix R.modulus R.matrix
   pub selected : Selected R.matrix workers r.pivots
   pub modulus : r.top.modulus ≡ R.modulus

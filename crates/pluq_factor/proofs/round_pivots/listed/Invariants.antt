@@ -1,5 +1,5 @@
 use Rattle.std.proofs.Common.{◌≡◌, take}
-use Rattle.pluq_factor.proofs.taken.listed.Given as goal
+use Rattle.pluq_factor.proofs.round_pivots.listed.Given as goal
 
 abbrev pub invariant-loop-pair : goal.invariant-loop-pair
 invariant-loop-pair l = l.list ≡ take l.pair-index l.pairs

@@ -3,7 +3,7 @@ ghost use Rattle.std.specs.Prelude.{◌≡◌, ◌≤◌, [], length, IfOk, IfSo
 ghost use Rattle.std.specs.Option.{MatchOption};
 ghost use Rattle.pivot_table.specs.Selected.{Selected};
 ghost use Rattle.pluq_factor.specs.Counted.{LeavesRank};
-ghost use Rattle.pluq_factor.specs.Taken.{IsLeftBy, IsRoundTaken};
+ghost use Rattle.pluq_factor.specs.RoundPivots.{IsLeftBy, IsRoundTaken};
 
 use crate::extent::Extent;
 use crate::plan::{rows_of, select_pivots};
@@ -17,7 +17,7 @@ use triangular_solve::Triangle;
 
 // The pivots of a round, their rows, and what they leave, with the coefficients.
 #[derive(Debug, Drop)]
-pub(crate) struct Taken {
+pub(crate) struct RoundPivots {
     pub(crate) pivots: List<Pair>,
     pub(crate) top: Rows,
     pub(crate) left: SchurRows,
@@ -44,7 +44,7 @@ pub(crate) fn take_round<R: Threads + Sync, G: Gate>(
     rows: &Rows,
     workers: u32,
     gate: &G,
-) -> Result<Option<Taken>, AllocError>
+) -> Result<Option<RoundPivots>, AllocError>
     requires some { 1 ≤ workers }
     requires few { workers ≤ 64 }
     ensures { IfOk result (λ r. MatchOption r (Selected rows.now.matrix workers [])
@@ -60,7 +60,7 @@ pub(crate) fn take_round<R: Threads + Sync, G: Gate>(
     let left = schur(rt, alloc, &triangle, workers)?;
     let top = rows.select(alloc, &rows_of(alloc, pairs)?)?;
     let pivots = listed(alloc, pairs)?;
-    Ok(Some(Taken { pivots, top, left }))
+    Ok(Some(RoundPivots { pivots, top, left }))
 }
 
 // One round without the coefficients; None where there is no pivot.
