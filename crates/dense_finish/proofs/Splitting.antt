@@ -1,5 +1,5 @@
 -- Rows that split into the rows of pivots and what is left.
-use Rattle.std.proofs.Common.{ℕ, ◌≡◌, ◌≢◌, ◌+◌, ◌*◌, ◌%◌, ◌<◌, ◌≤◌, inl, inr, List, length, slice_index, take, sym, refl, ap, ap₂, subst, ◌∙◌, arith, add-zero, mul-one, mul-zero, mod-eq_of_lt}
+use Rattle.std.proofs.Common.{ℕ, ◌≡◌, ◌≢◌, ◌+◌, ◌*◌, ◌%◌, ◌<◌, ◌≤◌, inl, inr, List, length, slice_index, take, sym, refl, ap, ap₂, subst, ◌∙◌, arith, mul-one, mul-zero, mod-eq_of_lt}
 use native.Mathlib.Nat.{mod-mod}
 use Rattle.std.proofs.lemmas.Bool.{cases_eq}
 use Rattle.std.proofs.lemmas.List.{get_or-take, length-take}
@@ -104,12 +104,16 @@ split_taken_out {p} {n} {r} {c} {q} {P} {b} {v} {w} long at row steps out h = sp
     ap (λ x. x % p) (out.sum j (omega arith) (λ same. other (same ∙ at))) ∙ mod-mod (slice_index w j + slice_index v c * slice_index q j) p
     ∙ ap₂ (λ x y. (slice_index w j + x * y) % p) (ap (slice_index v) at) (sym (row j l))) h
 
+-- a panel without a pivot leaves all
+pub reduces_empty : {p : ℕ} (panel : PanelRows) {v : List ℕ} → length panel.columns ≡ 0 → IsVector p panel.width v → PanelReduces p panel v v
+reduces_empty {p} panel {v} none vector = record {
+  vector = vector;
+  split = λ P r b continues steps h. let all : r ≡ r + length panel.columns = omega (arith, none) in subst (λ t. IsSplit P t b v) all h;
+}
+
 -- none of the pivots is taken out yet
 pub reduces_none : {p : ℕ} (panel : PanelRows) {v : List ℕ} → IsVector p panel.width v → PanelReduces p (first_pivots 0 panel) v v
-reduces_none {p} panel {v} vector = record {
-  vector = vector;
-  split = λ P r b continues steps h. subst (λ t. IsSplit P t b v) (sym (add-zero r)) h;
-}
+reduces_none panel vector = reduces_empty (first_pivots 0 panel) refl vector
 
 -- one more is
 pub reduces_more : {p : ℕ} (panel : PanelRows) {v w x : List ℕ} (k : ℕ) → k < length panel.columns → PanelReduces p (first_pivots k panel) v w →

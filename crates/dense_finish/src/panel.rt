@@ -101,7 +101,7 @@ impl<W: Residue> Panel<W> {
 }
 
 impl<W: Reducing> Panel<W> {
-    // Takes the pivots out of the rows from `from` on, in as many pieces as workers.
+    // Takes the pivots, if any, out of the rows from `from` on, in as many pieces as workers.
     pub(crate) fn reduce_behind<R: Threads + Sync>(
         &self,
         rt: &R,
@@ -121,15 +121,13 @@ impl<W: Reducing> Panel<W> {
         ensures behind { OnOk result ((t : ℕ) → from ≤ t → t < length rows.old
             → PanelReduces p.now self.now (block_row rows.old t) (block_row rows.new t)) }
     {
+        if self.columns.is_empty() {
+            return Ok(());
+        }
         let mut units = self.unit_rows(alloc, p)?;
         self.reduce_shared(rt, &mut units, p, workers);
         let first = zeros_before(&units, self.width);
-        let later = &mut rows[from..];
-        if workers == 1 || self.columns.is_empty() {
-            W::take_out(self, &units, first, later, p);
-        } else {
-            self.share(rt, &units, first, later, p, workers);
-        }
+        self.share(rt, &units, first, &mut rows[from..], p, workers);
         Ok(())
     }
 
@@ -164,7 +162,7 @@ impl<W: Reducing> Panel<W> {
         );
     }
 
-    // Takes the pivots out of each row by the units, by several workers.
+    // Takes the pivots out of each row by the units, by so many workers.
     fn share<R: Threads + Sync>(
         &self,
         rt: &R,
@@ -181,7 +179,8 @@ impl<W: Reducing> Panel<W> {
         requires units { AreUnits p.now self.now first units.now }
         ensures { PanelReducesEach p.now self.now rows.old rows.new }
     {
-        if rows.is_empty() {
+        if workers == 1 || rows.is_empty() {
+            W::take_out(self, units, first, rows, p);
             return;
         }
         let size = rows.len().div_ceil(workers);

@@ -1,12 +1,17 @@
-use Rattle.dense_finish.specs.Panel.{PanelReduces}
+use Rattle.std.proofs.Common.{◌≡◌, ap, arith, length}
+use Rattle.std.proofs.lemmas.Bool.Decides.{nat_tests}
+use Rattle.dense_finish.specs.Panel.{PanelReduces, PanelRows}
 use Rattle.dense_finish.proofs.BlockRows.{put_each}
+use Rattle.dense_finish.proofs.Splitting.{reduces_empty}
 use Rattle.dense_finish.proofs.panel.Panel.reduce_behind.Goals as goal
-use Rattle.dense_finish.proofs.panel.Panel.reduce_behind.Goals.{then-is_empty, else-is_empty}
+
+pub returns-then-is_empty-clause-behind : goal.returns-then-is_empty-clause-behind
+returns-then-is_empty-clause-behind g c = λ t le l.
+    let panel = c.args.self.now in
+    let same = ap length (ap (λ (m : PanelRows). m.columns) c.self.view_is) in
+    let none : length panel.columns ≡ 0 = grind (arith, nat_tests) in
+    reduces_empty panel none (c.requires.residues t l)
 
 pub returns-clause-behind : goal.returns-clause-behind
 returns-clause-behind g c = λ t le l.
-    let P = PanelReduces c.args.p.now c.args.self.now in
-    elim c.if-is_empty.branch [
-      | then-is_empty w ↦ rw w.rows-is (put_each P c.args.from c.args.rows.now w.take_out.new.rows c.requires.inside w.take_out.auto.rows w.take_out.ensures t le l)
-      | else-is_empty w ↦ rw w.rows-is (put_each P c.args.from c.args.rows.now w.share.new.rows c.requires.inside w.share.auto.rows w.share.ensures t le l)
-    ]
+    put_each (PanelReduces c.args.p.now c.args.self.now) c.args.from c.args.rows.now c.share.new.rows c.requires.inside c.share.auto.rows c.share.ensures t le l
