@@ -1,8 +1,9 @@
 #!/usr/bin/env bash
 # Times the dense elimination: multiples of rows added by lanes against the plain loop, modulo 2147483647; and the factors, whose pivots
-# `spasm rank --rounds 0` counts, of a dense random 2000 x 2000 matrix modulo 42013 with 1 and with 4 workers, against FLINT's
-# `nmod_mat_rank` and fflas-ffpack's `Rank` where these libraries are installed (Debian: libflint-dev; fflas-ffpack and
-# libopenblas-dev). The elimination alone, best of three; then the whole command, without rounds and as it is called by default.
+# `spasm rank --rounds 0` counts, of a dense random 2000 x 2000 matrix modulo 42013 and modulo 2147483647 with 1 and with 4 workers,
+# against FLINT's `nmod_mat_rank` and fflas-ffpack's `Rank` where these libraries are installed (Debian: libflint-dev; fflas-ffpack and
+# libopenblas-dev) and take the modulus. The elimination alone, best of three; then the whole command modulo 42013, without rounds and as
+# it is called by default.
 set -eu
 cd "$(dirname "$0")/.."
 . bench/common.sh
@@ -14,16 +15,19 @@ lanes=$(best 1 /dev/null "$program" lanes)
 plain=$(best 2 /dev/null "$program" lanes)
 awk -v l="$lanes" -v p="$plain" \
     'BEGIN { printf "rows of 2000: by lanes %.2f ns an entry, plainly %.2f ns; %.1f times as fast\n", l / 40000, p / 40000, p / l }'
-one=$(best 1 "$text" "$program" factors 1)
-four=$(best 1 "$text" "$program" factors 4)
-awk -v o="$one" -v f="$four" -v n="$size" \
-    'BEGIN { printf "factors of a dense %d x %d matrix: %.2f s with 1 worker, %.2f s with 4; %.1f times as fast\n", n, n, o / 1e6, f / 1e6, o / f }'
-flint=$(flint rank "$text")
-test -z "$flint" || awk -v f="$flint" -v o="$one" \
-    'BEGIN { printf "FLINT nmod_mat_rank: %.2f s; the factors take %.2f times as long\n", f, o / 1e6 / f }'
-ffpack=$(ffpack "$text" 42013)
-test -z "$ffpack" || awk -v f="$ffpack" -v o="$one" \
-    'BEGIN { printf "fflas-ffpack Rank: %.2f s; the factors take %.2f times as long\n", f, o / 1e6 / f }'
+for p in 42013 2147483647; do
+    one=$(best 1 "$text" "$program" factors "$p" 1)
+    four=$(best 1 "$text" "$program" factors "$p" 4)
+    awk -v o="$one" -v f="$four" -v n="$size" -v p="$p" 'BEGIN {
+        printf "factors of a dense %d x %d matrix modulo %s: %.2f s with 1 worker, %.2f s with 4; %.1f times as fast\n", n, n, p, o / 1e6, f / 1e6, o / f
+    }'
+    flint=$(flint rank "$text" "$p")
+    test -z "$flint" || awk -v f="$flint" -v o="$one" \
+        'BEGIN { printf "  FLINT nmod_mat_rank: %.2f s; the factors take %.2f times as long\n", f, o / 1e6 / f }'
+    ffpack=$(ffpack "$text" "$p")
+    test -z "$ffpack" || awk -v f="$ffpack" -v o="$one" \
+        'BEGIN { printf "  fflas-ffpack Rank: %.2f s; the factors take %.2f times as long\n", f, o / 1e6 / f }'
+done
 ./spasm rank < examples/x.sms > /dev/null
 for rounds in "--rounds 0" ""; do
     for workers in 1 4; do

@@ -9,20 +9,18 @@ use std::io::{self, Read};
 use std::thread::Threads;
 use std::time::{Clock, Instant};
 
-// The modulus of the matrices that are factored.
-const PRIME: u64 = 42013;
-
-// Says how long the factors take by so many workers, and the rank.
+// Says how long the factors modulo this take by so many workers, and the rank.
 pub(crate) fn time_factors<R: Threads + Sync + Clock + Print, I: Read + Drop>(
     rt: &R,
     alloc: Global,
     input: I,
+    p: &Modulus,
     workers: u32,
 ) -> io::Result<()>
     requires some { 1 ≤ workers }
     requires few { workers ≤ 64 }
 {
-    let rows = matrix(alloc, input, &Modulus::new(PRIME))?;
+    let rows = matrix(alloc, input, p)?;
     let start = Instant::now(rt)?;
     let factors = finish(rt, alloc, &rows, workers)?;
     let time = start.elapsed(rt)?.as_micros();

@@ -1,11 +1,15 @@
-//! Times what the documents give figures of: multiples of rows added, the factors of a matrix, its structural pivots, and texts read and
-//! written.
+//! Times what the documents give figures of: multiples of rows added, the factors of a matrix, its structural pivots, a certificate of
+//! its rank, and texts read and written.
 //!
-//! The words say which: `lanes`, `factors WORKERS`, `pivots WORKERS`, `walks`, `rounds WORKERS`, `read P` or `write P`, where P is a modulus; all but the first
-//! read a matrix from standard input. Times are in microseconds. With other words, or with none, one line says these.
+//! The words say which: `lanes`, `factors P WORKERS`, `pivots WORKERS`, `walks`, `board WORKERS`, `rounds WORKERS`, `certified`, `read P`
+//! or `write P`, where P is a modulus; all but the first read a matrix from standard input. Times are in microseconds. With other words,
+//! or with none, one line says these.
 #![tactic(auto)]
 
 mod added_rows;
+mod board;
+mod certified;
+mod counts;
 mod factored;
 mod rounds;
 mod searched;
@@ -13,6 +17,8 @@ mod task;
 mod texts;
 
 use added_rows::time_additions;
+use board::time_board;
+use certified::time_certificate;
 use factored::time_factors;
 use pluq_factor::Plan;
 use residue_words::{MODULUS_BOUND, Modulus};
@@ -51,8 +57,9 @@ fn perform<R: Threads + Sync + Clock + Print + Eprint, I: Read + Drop, O: Write 
 ) -> io::Result<()> {
     match task {
         Some(Task::Lanes) => time_additions(rt),
-        Some(Task::Factors(workers)) if 1 <= workers && workers <= 64 => {
-            time_factors(rt, alloc, input, workers)
+        Some(Task::Factors(p, workers))
+            if 2 <= p && p < MODULUS_BOUND && 1 <= workers && workers <= 64 => {
+            time_factors(rt, alloc, input, &Modulus::new(p), workers)
         }
         Some(Task::Pivots(workers)) if 1 <= workers && workers <= 64 => {
             time_pivots(rt, alloc, input, workers)
@@ -65,6 +72,10 @@ fn perform<R: Threads + Sync + Clock + Print + Eprint, I: Read + Drop, O: Write 
             time_rounds(rt, alloc, input, plan)
         }
         Some(Task::Walks) => time_walks(rt, alloc, input),
+        Some(Task::Board(workers)) if 1 <= workers && workers <= 64 => {
+            time_board(rt, alloc, input, workers)
+        }
+        Some(Task::Certified) => time_certificate(rt, alloc, input, ROUNDS),
         Some(Task::Read(p)) if 2 <= p && p < MODULUS_BOUND => {
             time_reading(rt, alloc, input, &Modulus::new(p))
         }
@@ -72,7 +83,7 @@ fn perform<R: Threads + Sync + Clock + Print + Eprint, I: Read + Drop, O: Write 
             time_writing(rt, alloc, input, output, &Modulus::new(p))
         }
         _ => println!(rt;
-            "spasm_timed lanes | factors WORKERS | pivots WORKERS | walks | rounds WORKERS | read P | write P"
+            "spasm_timed lanes | factors P WORKERS | pivots WORKERS | walks | board WORKERS | rounds WORKERS | certified | read P | write P"
         ),
     }
 }

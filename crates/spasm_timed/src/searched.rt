@@ -1,15 +1,15 @@
 // The search for structural pivots, by phases and by steps.
 ghost use Rattle.std.specs.Prelude.{◌≡◌, ◌<◌, ◌≤◌};
 
+use crate::counts::Counts;
 use crate::texts::matrix;
 use fl_pivots::leftmost;
-use optimistic_search::{Gate, Point, Steps, search, search_by_walk};
+use optimistic_search::{Steps, search, search_by_walk};
 use residue_words::Modulus;
 use sparse_rows::Rows;
 use std::alloc::{AllocError, Global};
 use std::io::{self, Read};
 use std::marker::Brand;
-use std::sync::atomic::{AtomicU64, Ordering};
 use std::sync::ledger::{Blank, Ledger};
 use std::thread::Threads;
 use std::time::{Clock, Instant};
@@ -17,27 +17,6 @@ use triangular_solve::Triangle;
 
 // The modulus of the matrices that are searched.
 const PRIME: u64 = 42013;
-
-// A gate that counts the rows that workers have claimed, and how often one of them was overtaken.
-#[derive(Drop)]
-struct Counts {
-    claimed: AtomicU64,
-    overtaken: AtomicU64,
-}
-
-impl Gate for Counts {
-    fn at(&self, _worker: u32, point: Point) {
-        match point {
-            Point::Claimed(_) => {
-                self.claimed.fetch_add(1, Ordering::SeqCst);
-            }
-            Point::Newer(_) => {
-                self.overtaken.fetch_add(1, Ordering::SeqCst);
-            }
-            _ => {}
-        }
-    }
-}
 
 // Microseconds of each phase, and how many pivots there were behind it.
 #[derive(Clone, Copy, Debug)]
@@ -61,19 +40,16 @@ pub(crate) fn time_pivots<R: Threads + Sync + Clock + Print, I: Read + Drop>(
     requires few { workers ≤ 64 }
 {
     let rows = matrix(alloc, input, &Modulus::new(PRIME))?;
-    let gate = Counts {
-        claimed: AtomicU64::new(0),
-        overtaken: AtomicU64::new(0),
-    };
+    let counts = Counts::zero();
     let Phases {
         leftmost,
         first,
         search,
         all,
         order,
-    } = find_pivots(rt, alloc, &rows, workers, &gate)?;
-    let claimed = gate.claimed.load(Ordering::SeqCst);
-    let overtaken = gate.overtaken.load(Ordering::SeqCst);
+    } = find_pivots(rt, alloc, &rows, workers, &counts)?;
+    let claimed = counts.claimed();
+    let overtaken = counts.overtaken();
     println!(rt; "{leftmost} {first} {search} {all} {order} {claimed} {overtaken}")
 }
 
@@ -83,7 +59,7 @@ fn find_pivots<R: Threads + Sync + Clock>(
     alloc: Global,
     rows: &Rows,
     workers: u32,
-    gate: &Counts,
+    counts: &Counts,
 ) -> io::Result<Phases>
     requires some { 1 ≤ workers }
     requires few { workers ≤ 64 }
@@ -93,7 +69,7 @@ fn find_pivots<R: Threads + Sync + Clock>(
     let leftmost = start.elapsed(rt)?.as_micros();
     let first = book.pairs().len();
     let start = Instant::now(rt)?;
-    let book = search(rt, alloc, book, workers, gate)?;
+    let book = search(rt, alloc, book, workers, counts)?;
     let search = start.elapsed(rt)?.as_micros();
     let start = Instant::now(rt)?;
     let triangle = Triangle::of(alloc, &book)?;
