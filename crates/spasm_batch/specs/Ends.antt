@@ -1,16 +1,11 @@
 -- How the program for many right-hand sides ends.
-use Rattle.std.specs.Prelude.{◌≡◌, ℕ, List, String, map, string_bytes}
-use Rattle.std.specs.declared.alloc.Global.{Global}
+use Rattle.std.specs.Prelude.{◌≡◌, ℕ, List}
 use Rattle.sms_text.specs.declared.reader.TheConstants.{LARGEST_INPUT}
 use Rattle.spasm_run.specs.Ran.{Run}
 use Rattle.batch_solve.specs.declared.batch_status.BatchStatus.{BatchStatus}
 use Rattle.batch_solve.specs.BatchRan.{BatchRan}
 use Rattle.batch_solve.specs.BatchStatus.{batch_code}
 use Rattle.std_edge.specs.Edge.{untold_sink, untold_source}
-
--- the bytes of each word
-abbrev pub texts_of : List (String Global) → List (List ℕ)
-texts_of words = map string_bytes words
 
 -- it ends with the code of the status of a batch of these words, on streams that tell nothing and had not failed before
 pub record BatchEndsFor (words : List (List ℕ)) (code : ℕ) : Type 0 where

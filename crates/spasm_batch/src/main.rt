@@ -2,17 +2,17 @@
 #![tactic(auto)]
 
 ghost use Rattle.std.specs.Prelude.{◌≡◌, ◌⊎◌, Err, IfOk, OnErr};
-ghost use Rattle.spasm_run.specs.Options.{bytes_of};
 ghost use Rattle.batch_solve.specs.BatchWords.{AskForNoBatch};
-ghost use Rattle.spasm_batch.specs.Ends.{BatchEndsFor, texts_of};
+ghost use Rattle.std_edge.specs.Edge.{texts_of};
+ghost use Rattle.spasm_batch.specs.Ends.{BatchEndsFor};
 
 use batch_solve::{Unwatched, run_batch};
-use std::alloc::{AllocError, Global};
+use std::alloc::Global;
 use std::io::{Read, Write};
 use std::process::ExitCode;
 use std::sync::Wait;
 use std::thread::Threads;
-use std_edge::{FromRead, NoWords, ToWrite, words_of};
+use std_edge::{FromRead, NoWords, ToWrite, borrowed, words_of};
 
 fn main(rt: HostRuntime) -> ExitCode {
     let code = match words_of(&rt) {
@@ -65,15 +65,4 @@ fn answer<R: Threads + Wait + Sync, I: Read + Drop, O: Write + Drop, E: Write + 
         &Unwatched,
     );
     Ok(status.code())
-}
-
-// The words, lent.
-fn borrowed<'a>(alloc: Global, owned: &'a [String]) -> Result<Vec<&'a str>, AllocError>
-    ensures { IfOk result (λ words. bytes_of words.items ≡ texts_of owned.entry.now) }
-{
-    let mut words = Vec::with_capacity(alloc, owned.len())?;
-    for word in owned {
-        words.push(word.as_str())?;
-    }
-    Ok(words)
 }

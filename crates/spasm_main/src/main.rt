@@ -2,16 +2,16 @@
 #![tactic(auto)]
 
 ghost use Rattle.std.specs.Prelude.{◌≡◌, ◌⊎◌, Err, IfOk, OnErr};
-ghost use Rattle.spasm_run.specs.Options.{bytes_of};
 ghost use Rattle.spasm_run.specs.Words.{AreRefused};
-ghost use Rattle.spasm_main.specs.Ends.{EndsFor, texts_of};
+ghost use Rattle.std_edge.specs.Edge.{texts_of};
+ghost use Rattle.spasm_main.specs.Ends.{EndsFor};
 
 use spasm_run::{Open, run};
-use std::alloc::{AllocError, Global};
+use std::alloc::Global;
 use std::io::{Read, Write};
 use std::process::ExitCode;
 use std::thread::Threads;
-use std_edge::{FromRead, NoWords, ToWrite, words_of};
+use std_edge::{FromRead, NoWords, ToWrite, borrowed, words_of};
 
 fn main(rt: HostRuntime) -> ExitCode {
     let code = match words_of(&rt) {
@@ -56,15 +56,4 @@ fn answer<R: Threads + Sync, I: Read + Drop, O: Write + Drop, E: Write + Drop>(
     let mut err = ToWrite::new(errors);
     let status = run(rt, alloc, &words, &mut source, &mut out, &mut err, &Open);
     Ok(status.code())
-}
-
-// The words, lent.
-fn borrowed<'a>(alloc: Global, owned: &'a [String]) -> Result<Vec<&'a str>, AllocError>
-    ensures { IfOk result (λ words. bytes_of words.items ≡ texts_of owned.entry.now) }
-{
-    let mut words = Vec::with_capacity(alloc, owned.len())?;
-    for word in owned {
-        words.push(word.as_str())?;
-    }
-    Ok(words)
 }

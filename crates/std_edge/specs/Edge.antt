@@ -1,5 +1,6 @@
--- What a pull and a put do to a reader and a writer of std, where these tell what they have left or hold.
-use Rattle.std.specs.Prelude.{◌≤◌, ℕ, List, Option, None, length, take}
+-- What a pull and a put do to a reader and a writer of std, where these tell what they have left or hold; and the words of a command line.
+use Rattle.std.specs.Prelude.{◌≤◌, ℕ, List, Option, None, String, length, map, string_bytes, take}
+use Rattle.std.specs.declared.alloc.Global.{Global}
 use Rattle.std.specs.Io.KnownBytes.{Keeps, Appends, Consumes, IsAtEnd}
 use Rattle.sms_text.specs.declared.stream.Pulled.{Pulled}
 use Rattle.sms_text.specs.declared.stream.Pulled.TheVariants as pulled
@@ -26,6 +27,10 @@ ReaderDid pulled.Failed old new buffer = Keeps old new
 abbrev pub WriterDid : Put → Option (List ℕ) → Option (List ℕ) → List ℕ → Type 0
 WriterDid (put.Took n) old new piece = Appends old new (take n piece)
 WriterDid put.Failed old new piece = (n : ℕ) × (n ≤ length piece) × Appends old new (take n piece)
+
+-- the bytes of each word
+abbrev pub texts_of : List (String Global) → List (List ℕ)
+texts_of words = map string_bytes words
 
 -- the exit status where there are no words to run on
 abbrev pub status_without : NoWords → ℕ

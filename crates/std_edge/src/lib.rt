@@ -9,4 +9,4 @@ mod words;
 
 pub use from_read::FromRead;
 pub use to_write::ToWrite;
-pub use words::{NoWords, words_of};
+pub use words::{NoWords, borrowed, words_of};

@@ -1,8 +1,8 @@
 // The words of a command line.
-ghost use Rattle.std.specs.Prelude.{◌≡◌};
-ghost use Rattle.std_edge.specs.Edge.{status_without};
+ghost use Rattle.std.specs.Prelude.{◌≡◌, IfOk, map};
+ghost use Rattle.std_edge.specs.Edge.{status_without, texts_of};
 
-use std::alloc::Global;
+use std::alloc::{AllocError, Global};
 use std::env::{self, Env};
 use std::error::Error;
 use std::fmt::{self, Display, Formatter};
@@ -53,6 +53,17 @@ pub fn words_of<R: Env + Alloc<A = Global>>(rt: &R) -> Result<Vec<String>, NoWor
         }
         Err(error) if error.kind() == ErrorKind::OutOfMemory => return Err(NoWords::Memory),
         Err(_) => return Err(NoWords::NotText),
+    }
+    Ok(words)
+}
+
+/// The words, lent: a list of them, in their order, as calls take it. It takes 16 bytes a word.
+pub fn borrowed<'a>(alloc: Global, owned: &'a [String]) -> Result<Vec<&'a str>, AllocError>
+    ensures { IfOk result (λ words. map (λ w. w.now) words.items ≡ texts_of owned.entry.now) }
+{
+    let mut words = Vec::with_capacity(alloc, owned.len())?;
+    for word in owned {
+        words.push(word.as_str())?;
     }
     Ok(words)
 }

@@ -1,12 +1,10 @@
 -- The words before the next one were lent.
-use Rattle.std.proofs.Common.{ap, subst, sym, ◌≡◌}
-use Rattle.spasm_run.specs.Options.{bytes_of}
-use Rattle.spasm_batch.specs.Ends.{texts_of}
-use Rattle.spasm_batch.proofs.Lending.{lent_all, lent_more}
-use Rattle.spasm_batch.proofs.borrowed.Goals as goal
+use Rattle.std.proofs.Common.{ap}
+use Rattle.std_edge.proofs.Lending.{lent_all, lent_more, lent_texts}
+use Rattle.std_edge.proofs.words.borrowed.Goals as goal
 
 pub loop-word-init : goal.loop-word-init
-loop-word-init c = ap bytes_of c.in_ok-words.ensures.items
+loop-word-init c = ap lent_texts c.in_ok-words.ensures.items
 
 pub loop-word-preserved : goal.loop-word-preserved
 loop-word-preserved c =

@@ -1,7 +1,0 @@
-use Rattle.std.proofs.Common.{◌≡◌, take}
-use Rattle.spasm_run.specs.Options.{bytes_of}
-use Rattle.spasm_main.specs.Ends.{texts_of}
-use Rattle.spasm_main.proofs.borrowed.Given as goal
-
-abbrev pub invariant-loop-word : goal.invariant-loop-word
-invariant-loop-word l = bytes_of l.words.items ≡ texts_of (take l.word-index l.owned)
