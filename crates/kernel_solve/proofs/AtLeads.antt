@@ -6,12 +6,13 @@ use native.Mathlib.Nat.{zero-mod}
 use Rattle.residue_words.specs.Matrix.{Matrix, IsMatrix, IsVector, entry}
 use Rattle.residue_words.proofs.Residues.{multiple_zero}
 use Rattle.residue_words.proofs.Vectors.{at_list_of, entry_matrix_of, is_matrix_of, length_list_of}
-use Rattle.sparse_rows.specs.Rows.{Triple, built, nonzeros, sum_at, support}
+use Rattle.sparse_rows.specs.Rows.{AreBelow, AreRising, Triple, built, nonzeros, sum_at, support}
 use Rattle.sparse_rows.specs.Stored.{IsSparse, entry_at, spread}
 use Rattle.sparse_rows.proofs.Loops.{IsCopiedSoFar}
-use Rattle.sparse_rows.proofs.Spread.{at_spread, entry_beyond, entry_cover, entry_here, entry_push_other, entry_push_same, entry_support, spread_support, spread_vector, support_sparse}
+use Rattle.sparse_rows.proofs.Spread.{at_spread, entry_beyond, entry_cover, entry_here, entry_push_other, entry_push_same, entry_support, spread_support, spread_vector}
 use Rattle.kernel_solve.specs.Column.{column}
 use Rattle.kernel_solve.specs.ReadOff.{IsAtLeads, IsBasisRow}
+use Rattle.kernel_solve.specs.Refuted.{AreZeroBehind, IsLastEntry}
 
 -- an entry of the values' images is the entry's image
 pub entry_map : (f : ℕ → ℕ) → f 0 ≡ 0 → (cs vs : List ℕ) (j : ℕ) → entry_at cs (map f vs) j ≡ f (entry_at cs vs j)
@@ -199,7 +200,7 @@ entry_absent v j none = elim (entry_cover (support v) (nonzeros v) j) [
 ]
 
 -- the column of n entries that is built of what was pushed at the leads
-module _ (p n : ℕ) (leads side : List ℕ) (ts : List Triple) (pos : 0 < p) (vector : IsVector p (length leads) side)
+module _ (p n : ℕ) (leads side : List ℕ) (ts : List Triple) (pos : 0 < p) (vector : IsVector p (length side) side) (few : length leads ≤ length side) (below : AreBelow (length leads) (support side))
     (rising : (s t : ℕ) → s < t → t < length leads → slice_index leads s < slice_index leads t) (inside : (k : ℕ) → k < length leads → slice_index leads k < n)
     (pushed : (j : ℕ) → sum_at j 0 ts ≡ entry_at (map (slice_index leads) (support side)) (nonzeros side) j) where
   at_built : (j : ℕ) → j < n → slice_index (column (built p n 1 ts)) j ≡ sum_at j 0 ts % p
@@ -207,13 +208,55 @@ module _ (p n : ℕ) (leads side : List ℕ) (ts : List Triple) (pos : 0 < p) (v
 
   pub built_at_leads : IsAtLeads leads side (column (built p n 1 ts))
   built_at_leads =
-      let below = (support_sparse vector).below in
       record {
         at_lead = λ k l.
             at_built (slice_index leads k) (inside k l)
             ∙ ap (λ x. x % p) (pushed (slice_index leads k) ∙ at_lead leads (support side) rising below (nonzeros side) k l ∙ entry_support side k)
-            ∙ mod-eq_of_lt (vector.residues k l);
+            ∙ mod-eq_of_lt (vector.residues k (omega (arith, few)));
         elsewhere = λ j l none.
             at_built j (omega (arith, length_list_of n (λ i. entry (built p n 1 ts) i 0)))
             ∙ ap (λ x. x % p) (pushed j ∙ no_lead leads (support side) rising below (nonzeros side) j none) ∙ zero-mod p;
       }
+
+-- a row by its stored columns and values
+module _ (v cs vs : List ℕ) (columns : cs ≡ support v) (values : vs ≡ nonzeros v) (long : length cs ≡ length vs) (rising : AreRising cs) (positive : (k : ℕ) → k < length vs → 0 < slice_index vs k) where
+  stored : (k : ℕ) → k < length cs → slice_index vs k ≡ slice_index v (slice_index cs k)
+  stored k l = entry_found v cs vs (slice_index cs k) k columns values long rising l refl
+
+  -- where it is 0 from n on, its columns are below n
+  pub stored_below : (n : ℕ) → AreBelow (length v) cs → AreZeroBehind v n → AreBelow n cs
+  stored_below n inside none k l = elim (cases_lt (slice_index cs k) n) [
+    | inl low ↦ low
+    | inr high ↦ absurd (omega (arith, positive k (omega (arith, long)), stored k l, none (slice_index cs k) high (inside k l)))
+  ]
+
+  -- behind its last column it is 0
+  pub stored_last : (t : ℕ) → ((k : ℕ) → k < length cs → slice_index cs k < t) → slice_index v t ≡ 0
+  stored_last t before = sym (entry_absent v t (λ k l e. let low : slice_index cs k < t = before k (omega (arith, ap length columns)) in omega (arith, low, ap (λ xs. slice_index xs k) columns, e)))
+
+  -- the last one from n on
+  pub last_stored : (n : ℕ) → AreBelow (length v) cs → 0 < length cs → n ≤ slice_index cs (length cs - 1) → IsLastEntry v n (slice_index cs (length cs - 1), slice_index vs (length cs - 1))
+  last_stored n inside some high =
+      let k : ℕ = length cs - 1 in
+      let l : k < length cs = omega (arith, some) in (
+        record {
+          high = high;
+          inside = inside k l;
+          nonzero = λ z. omega (arith, positive k (omega (arith, long, l)), stored k l, z);
+          behind = λ t a b. stored_last t (λ s ls. elim (cases_eq s k) [
+            | inl e ↦ omega (arith, a, ap (slice_index cs) e)
+            | inr d ↦ omega (arith, a, rising s k (omega (arith, ls, d)) l)
+          ]);
+        },
+        stored k l,
+      )
+
+  -- there is none where the last column is before n
+  pub none_stored : (n : ℕ) → (0 < length cs → slice_index cs (length cs - 1) < n) → AreZeroBehind v n
+  none_stored n low t a b = stored_last t (λ s ls.
+      let k : ℕ = length cs - 1 in
+      let below : slice_index cs k < n = low (omega (arith, ls)) in
+      elim (cases_eq s k) [
+        | inl e ↦ omega (arith, a, below, ap (slice_index cs) e)
+        | inr d ↦ omega (arith, a, below, rising s k (omega (arith, ls, d)) (omega (arith, ls)))
+      ])

@@ -1,5 +1,5 @@
 -- The exchange matrix, row by row.
-use Rattle.std.proofs.Common.{ℕ, ◌≡◌, ◌≢◌, ◌+◌, ◌-◌, ◌<◌, ◌≤◌, inl, inr, Bool, true, false, List, length, cond, eqb, slice_set, sym, ap, ◌∙◌, arith}
+use Rattle.std.proofs.Common.{ℕ, ◌≡◌, ◌≢◌, ◌+◌, ◌-◌, ◌<◌, ◌≤◌, inl, inr, Bool, true, false, length, cond, eqb, slice_set, sym, ◌∙◌, arith}
 use Rattle.std.proofs.lemmas.Bool.{cases_eq, cond-true, cond-false, eq-eqb, ne_eqb}
 use Rattle.residue_words.specs.Matrix.{IsMatrix, entry, list_of, zeros}
 use Rattle.residue_words.proofs.Vectors.{entry_matrix_of, is_matrix_of, list_of_equal}

@@ -1,18 +1,11 @@
 -- What is kept of a matrix answers each right-hand side.
-use Rattle.std.proofs.Common.{ℕ, ◌≡◌, ◌≢◌, ◌+◌, ◌*◌, ◌%◌, ◌<◌, ◌≤◌, inl, inr, List, [], ◌∷◌, ◌++◌, length, slice_index, slice_index_or, slice_set, sym, refl, ap, ap₂, subst, ◌∙◌, arith, mul-zero, zero-mul, mul-one, zero-add, mod-eq_of_lt}
-use Rattle.std.specs.List.{range_with_len}
-use Rattle.std.proofs.lemmas.List.{get_or-map, get_or-set_other, get_or-set_same, length-set, map-id}
-use Rattle.std.proofs.lemmas.List.FromFn.{get_or-map-range_with_len, get_or-range_with_len, length-map-range_with_len, map-range_with_len_more}
+use Rattle.std.proofs.Common.{ℕ, ◌≡◌, ◌≢◌, ◌+◌, ◌*◌, ◌%◌, ◌<◌, ◌≤◌, inl, inr, List, [], ◌∷◌, length, slice_index, slice_set, sym, refl, ap, subst, ◌∙◌, arith, mul-zero, zero-mul, mul-one, mod-eq_of_lt}
+use Rattle.std.proofs.lemmas.List.{get_or-set_other, get_or-set_same, length-set}
 use Rattle.std.proofs.lemmas.Bool.{cases_eq, cases_lt}
 use Rattle.residue_words.specs.Residues.{sum_below}
-use Rattle.residue_words.specs.Matrix.{Matrix, IsMatrix, IsVector, apply, dot, entry, list_of, row, zeros}
+use Rattle.residue_words.specs.Matrix.{Matrix, IsMatrix, IsVector, apply, dot, entry, row, zeros}
 use Rattle.residue_words.proofs.Sums.{sum_single}
-use Rattle.residue_words.proofs.Vectors.{at_apply, at_list_of, at_zeros, dot_combine, entry_matrix_of, entry_residue, length_list_of, list_equal, list_of_equal, row_combination}
-use Rattle.sparse_rows.specs.ColumnSet.{AllZero}
-use Rattle.sparse_rows.specs.Rows.{matrix_by, nonzeros, selected, support, transposed}
-use Rattle.sparse_rows.specs.Stored.{entry_at}
-use Rattle.sparse_rows.proofs.Spread.{entry_support}
-use Rattle.sparse_rows.proofs.Spread.{map_range_equal}
+use Rattle.residue_words.proofs.Vectors.{at_apply, at_list_of, at_zeros, dot_combine, entry_residue, length_list_of, list_equal, list_of_equal, row_combination}
 use Rattle.row_space.specs.Kernel.{EndsAt, IsNull}
 use Rattle.row_space.specs.Solution.{IsReducedSolution, IsSolution}
 use Rattle.row_space.proofs.KernelLaws.{null_orthogonal}

@@ -1,11 +1,11 @@
 -- The transformation and the relations are read off the form of [A | J], J the exchange matrix.
 use native.Mathlib.Nat.{mod-mod}
-use Rattle.std.proofs.Common.{ℕ, ◌≡◌, ◌≢◌, ◌+◌, ◌-◌, ◌*◌, ◌%◌, ◌<◌, ◌≤◌, inl, inr, List, length, slice_index, sym, refl, subst, ap, ap₂, ◌∙◌, arith, mul-zero, zero-mul, mul-one, mod-eq_of_lt}
+use Rattle.std.proofs.Common.{ℕ, ◌≡◌, ◌+◌, ◌-◌, ◌*◌, ◌%◌, ◌<◌, ◌≤◌, inl, inr, List, length, slice_index, sym, refl, subst, ap, ap₂, ◌∙◌, arith, mul-zero, zero-mul, mul-one, mod-eq_of_lt}
 use Rattle.std.proofs.lemmas.Bool.{cases_lt}
 use Rattle.residue_words.specs.Residues.{sum_below}
-use Rattle.residue_words.specs.Matrix.{Matrix, IsCombination, IsMatrix, IsVector, apply, combine, entry, list_of, row, zeros}
+use Rattle.residue_words.specs.Matrix.{Matrix, IsCombination, IsMatrix, IsVector, combine, entry, list_of, row}
 use Rattle.residue_words.proofs.Sums.{sum_equal, sum_single, sum_support}
-use Rattle.residue_words.proofs.Vectors.{at_apply, at_combine, at_list_of, at_zeros, combination_of, entry_matrix_of, entry_residue, is_matrix_of, length_list_of, list_equal, row_combination, row_matrix_of, vector_of}
+use Rattle.residue_words.proofs.Vectors.{at_apply, at_combine, at_list_of, at_zeros, combination_of, entry_matrix_of, entry_residue, is_matrix_of, length_list_of, list_equal, row_combination, row_matrix_of}
 use Rattle.sparse_rows.specs.Rows.{beside, matrix_by, transposed}
 use Rattle.row_space.specs.Echelon.{HasLeads, IsRref}
 use Rattle.row_space.specs.Kernel.{HasEnds, IsKernel, IsNull}

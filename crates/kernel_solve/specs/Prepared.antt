@@ -70,6 +70,11 @@ pub record IsSplitAt (numbers : List ℕ) (n r : ℕ) : Type 0 where
   pub below : (k : ℕ) → k < r → slice_index numbers k < n
   pub behind : (k : ℕ) → r ≤ k → k < length numbers → n ≤ slice_index numbers k
 
+-- the lists are of one length, and the same from `from` on
+pub record AgreeFrom (from : ℕ) (xs ys : List ℕ) : Type 0 where
+  pub long : length ys ≡ length xs
+  pub same : (j : ℕ) → from ≤ j → j < length xs → slice_index ys j ≡ slice_index xs j
+
 -- the reduced solution of A x = b as a column, or the refuting combination as a row
 abbrev pub RepliesTo : ℕ → Matrix → List ℕ → Reply → Type 0
 RepliesTo p A b (Solution x) = (x.matrix.height ≡ A.width) × IsReducedSolution p A b (column x.matrix)

@@ -21,6 +21,10 @@ pub record IsLastNonzero (xs : List ℕ) (from k : ℕ) : Type 0 where
   pub nonzero : slice_index xs k ≢ 0
   pub behind : (t : ℕ) → k < t → t < length xs → slice_index xs t ≡ 0
 
+-- where it stands, and what it is
+abbrev pub IsLastEntry : List ℕ → ℕ → ℕ × ℕ → Type 0
+IsLastEntry xs from found = IsLastNonzero xs from found.0 × (found.1 ≡ slice_index xs found.0)
+
 -- row k of K is the first whose product with b isn't 0
 pub record IsFirstHit (p : ℕ) (K : Matrix) (b : List ℕ) (k : ℕ) : Type 0 where
   pub below : k < K.height

@@ -1,16 +1,16 @@
 // Many right-hand sides for one matrix.
-ghost use Rattle.std.specs.Prelude.{◌≡◌, ◌≢◌, ◌<◌, ◌≤◌, ◌+◌, ◌*◌, ◌%◌, ℕ, List, length, slice_index, IfOk, OnOk};
+ghost use Rattle.std.specs.Prelude.{◌≡◌, ◌≢◌, ◌<◌, ◌≤◌, ◌+◌, ℕ, length, IfOk, OnOk};
 ghost use Rattle.std.specs.Option.{MatchOption};
 ghost use Rattle.residue_words.specs.Residues.{inverse};
-ghost use Rattle.residue_words.specs.Matrix.{Matrix, IsMatrix, IsVector, combine, row, zeros};
+ghost use Rattle.residue_words.specs.Matrix.{Matrix, IsMatrix, IsVector, combine, row};
 ghost use Rattle.sparse_rows.specs.declared.rows.TheConstants.{LARGEST_SIZE};
 ghost use Rattle.sparse_rows.specs.Rows.{AreRising, beside};
-ghost use Rattle.sparse_rows.specs.Stored.{IsSparse, entry_at};
 ghost use Rattle.echelon_form.specs.Form.{IsFormOf};
 ghost use Rattle.kernel_solve.specs.Column.{column, column_at};
-ghost use Rattle.kernel_solve.specs.Prepared.{IsPreparedFor, IsReply, IsSplitAt, exchange, turned_from};
+ghost use Rattle.kernel_solve.specs.Prepared.{AgreeFrom, IsPreparedFor, IsReply, IsSplitAt, exchange, turned_from};
 ghost use Rattle.kernel_solve.specs.ReadOff.{PushesRow};
-ghost use Rattle.kernel_solve.specs.Refuted.{AreZeroBehind, IsLastNonzero, multiple};
+ghost use Rattle.kernel_solve.specs.Refuted.{AreZeroBehind, IsLastEntry, multiple};
+ghost use Rattle.triangular_solve.specs.Accumulator.{IsClear};
 
 use crate::columns::entry_of;
 use crate::inverses::one_row;
@@ -21,6 +21,7 @@ use sparse_rows::{LARGEST_SIZE, Rows, RowsBuilder, Sparse};
 use std::alloc::{AllocError, Global};
 use std::marker::Model;
 use std::thread::Threads;
+use triangular_solve::Accumulator;
 
 /// What there is to say of A x = b.
 #[derive(Debug, Drop)]
@@ -87,10 +88,10 @@ impl Prepared {
         ensures { IfOk result (λ q. (p : ℕ) (A : Matrix) → IsMatrix p A → A.width ≡ n
             → IsFormOf p (beside A (exchange A.height)) form.now → IsPreparedFor p A q) }
     {
-        // The proof wants to know how wide and how high the form is.
-        let _ = (form.rows().width(), form.rows().height());
+        // The proof wants to know how wide the form is.
+        let _ = form.rows().width();
         let rank = count_below(form.leads(), n);
-        let leads = Vec::from_slice(alloc, &form.leads()[..rank as usize])?;
+        let leads = Vec::from_slice(alloc, &form.leads()[..rank])?;
         let columns = columns_from(alloc, form.rows(), n)?;
         Ok(Prepared {
             width: n,
@@ -100,8 +101,8 @@ impl Prepared {
     }
 
     /// The reduced solution of A x = b for a column b, exactly where there is one, else the refuting combination. It takes time
-    /// by the entries of T and the relations in the columns where b isn't 0, by the height, and by what is told; where there
-    /// is no solution also that of a search in each column.
+    /// by the entries of the relations in the columns where b isn't 0, by the height, by a search in each column, and by what is
+    /// told; where there is a solution also by the entries of T in those columns. It takes 8 bytes and a bit a row of both.
     pub fn answer(&self, alloc: Global, b: &Rows) -> Result<Reply, AllocError>
         requires modulus { b.now.modulus ≡ self.now.transformation.modulus }
         requires height { b.now.matrix.height ≡ self.now.transformation.matrix.width }
@@ -112,14 +113,15 @@ impl Prepared {
         let _ = (b.modulus(), self.columns.modulus());
         let _ = (self.columns.height(), self.columns.width());
         let side = first_column(alloc, b)?;
-        let products = combined(alloc, &self.columns, &side)?;
+        // The relations alone tell whether there is a solution, so T is read only where there is one.
         let rank = self.leads.len();
-        if let Some(k) = last_nonzero(&products, rank) {
-            let y = refuting(alloc, &self.columns, k as u32, products[k])?;
+        let related = combined_from(alloc, &self.columns, &side, rank as u32)?;
+        if let Some((k, product)) = last_from(&related, rank) {
+            let y = refuting(alloc, &self.columns, k, product)?;
             return Ok(Reply::Refuted(y));
         }
-        let values = sparse(alloc, &products[..rank], &self.columns.modulus())?;
-        let x = at_leads(alloc, &values, &self.leads, self.width)?;
+        let products = combined_from(alloc, &self.columns, &side, 0)?;
+        let x = at_leads(alloc, &products, &self.leads, self.width)?;
         Ok(Reply::Solution(x))
     }
 }
@@ -153,17 +155,14 @@ fn exchange(alloc: Global, n: u32, modulus: Modulus) -> Result<Rows, AllocError>
 }
 
 // How many of these rising numbers are below n.
-fn count_below(numbers: &[u32], n: u32) -> u32
-    requires many { length numbers.now ≤ LARGEST_SIZE }
-    requires rising { AreRising numbers.now }
+fn count_below(numbers: &[u32], n: u32) -> usize
+    requires { AreRising numbers.now }
     ensures { IsSplitAt numbers.now n result }
 {
-    for k in 0..numbers.len() {
-        if numbers[k] >= n {
-            return k as u32;
-        }
+    match numbers.binary_search(&n) {
+        Ok(k) => k,
+        Err(k) => k,
     }
-    numbers.len() as u32
 }
 
 // The columns from n on as rows, the last column first.
@@ -212,60 +211,60 @@ fn first_column(alloc: Global, b: &Rows) -> Result<Vec<u64>, AllocError>
     Ok(side)
 }
 
-// The combination of the rows with these coefficients.
-fn combined(alloc: Global, rows: &Rows, coefficients: &[u64]) -> Result<Vec<u64>, AllocError>
+// What from column `from` on is the combination of the rows with these coefficients.
+fn combined_from(
+    alloc: Global,
+    rows: &Rows,
+    coefficients: &[u64],
+    from: u32,
+) -> Result<Sparse, AllocError>
     requires { IsVector rows.now.modulus rows.now.matrix.height coefficients.now }
-    ensures { IfOk result (λ sums. sums.items ≡ combine rows.now.modulus coefficients.now rows.now.matrix) }
-{
-    let mut sums = vec![in alloc; 0; rows.width() as usize]?;
-    add_rows(rows, coefficients, &mut sums);
-    Ok(sums)
-}
-
-// Makes zero sums the combination of the rows with these coefficients, by those that aren't 0.
-fn add_rows(rows: &Rows, coefficients: &[u64], sums: &mut [u64])
-    requires coefficients { IsVector rows.now.modulus rows.now.matrix.height coefficients.now }
-    requires zero { sums.old ≡ zeros rows.now.matrix.width }
-    ensures { sums.new ≡ combine rows.now.modulus coefficients.now rows.now.matrix }
+    ensures modulus { IfOk result (λ made. made.modulus ≡ rows.now.modulus) }
+    ensures row { IfOk result (λ made.
+        AgreeFrom from (combine rows.now.modulus coefficients.now rows.now.matrix) made.row) }
 {
     let modulus = rows.modulus();
+    let mut sums = Accumulator::new(alloc, rows.width(), &modulus)?;
+    add_rows(rows, coefficients, from, &mut sums);
+    let mut made = Sparse::new(alloc, rows.width(), modulus);
+    sums.drain(&mut made)?;
+    Ok(made)
+}
+
+// Makes zero sums the combination of the rows with these coefficients from column `from` on, by those that aren't 0.
+fn add_rows(rows: &Rows, coefficients: &[u64], from: u32, sums: &mut Accumulator)
+    requires coefficients { IsVector rows.now.modulus rows.now.matrix.height coefficients.now }
+    requires clear { IsClear rows.now.modulus rows.now.matrix.width sums.old }
+    ensures modulus { sums.new.modulus ≡ rows.now.modulus }
+    ensures vector { IsVector rows.now.modulus rows.now.matrix.width sums.new.row }
+    ensures row { AgreeFrom from (combine rows.now.modulus coefficients.now rows.now.matrix) sums.new.row }
+{
+    // The proof wants that a modulus is above 0.
+    let _ = rows.modulus();
     for i in 0..rows.height() {
         let by = coefficients[i as usize];
         if by != 0 {
-            add_multiple(&modulus, sums, by, rows.cols(i), rows.vals(i));
+            let cols = rows.cols(i);
+            let start = count_below(cols, from);
+            sums.add_multiple(by, &cols[start..], &rows.vals(i)[start..]);
         }
     }
 }
 
-// Adds a multiple of the row that stands in these columns and values.
-fn add_multiple(p: &Modulus, sums: &mut [u64], by: u64, cols: &[u32], vals: &[u64])
-    requires sparse { IsSparse p.now (length sums.old) cols.now vals.now }
-    requires residues { IsVector p.now (length sums.old) sums.old }
-    requires factor { by < p.now }
-    ensures residues { IsVector p.now (length sums.old) sums.new }
-    ensures sums { (j : ℕ) → j < length sums.old →
-        slice_index sums.new j ≡ (slice_index sums.old j + by * entry_at cols.now vals.now j) % p.now }
+// The last entry from column `from` on that isn't 0, with its column.
+fn last_from(row: &Sparse, from: usize) -> Option<(u32, u64)>
+    ensures { MatchOption result (AreZeroBehind row.now.row from) (IsLastEntry row.now.row from) }
 {
-    for k in 0..cols.len() {
-        let j = cols[k] as usize;
-        let product = p.mul(by, vals[k]);
-        sums[j] = p.add(sums[j], product);
+    let cols = row.cols();
+    let vals = row.vals();
+    if cols.is_empty() {
+        return None;
     }
-}
-
-// The last from `from` on that isn't 0.
-fn last_nonzero(values: &[u64], from: usize) -> Option<usize>
-    requires { from ≤ length values.now }
-    ensures { MatchOption result (AreZeroBehind values.now from) (IsLastNonzero values.now from) }
-{
-    let behind = values.len() - from;
-    for back in 0..behind {
-        let k = values.len() - 1 - back;
-        if values[k] != 0 {
-            return Some(k);
-        }
+    let last = cols.len() - 1;
+    if (cols[last] as usize) < from {
+        return None;
     }
-    None
+    Some((cols[last], vals[last]))
 }
 
 // Column k divided by a number, as a row.
@@ -302,22 +301,6 @@ fn multiple_of(alloc: Global, rows: &Rows, k: u32, factor: u64) -> Result<Sparse
         let product = modulus.mul(factor, entry_of(rows, i, k));
         if product != 0 {
             made.push(i, product)?;
-        }
-    }
-    Ok(made)
-}
-
-// The row with these entries.
-fn sparse(alloc: Global, values: &[u64], p: &Modulus) -> Result<Sparse, AllocError>
-    requires few { length values.now ≤ LARGEST_SIZE }
-    requires residues { IsVector p.now (length values.now) values.now }
-    ensures modulus { IfOk result (λ made. made.modulus ≡ p.now) }
-    ensures row { IfOk result (λ made. made.row ≡ values.now) }
-{
-    let mut made = Sparse::new(alloc, values.len() as u32, *p);
-    for k in 0..values.len() {
-        if values[k] != 0 {
-            made.push(k as u32, values[k])?;
         }
     }
     Ok(made)

@@ -9,6 +9,7 @@ ghost use Rattle.echelon_form.specs.Form.{IsFormOf};
 ghost use Rattle.kernel_solve.specs.Column.{column, column_matrix};
 ghost use Rattle.kernel_solve.specs.Found.{Answers, HasShape};
 ghost use Rattle.kernel_solve.specs.ReadOff.{IsAtLeads};
+ghost use Rattle.kernel_solve.specs.Refuted.{AreZeroBehind};
 
 use crate::columns::column_at;
 use echelon_form::Echelon;
@@ -43,7 +44,8 @@ pub fn solution(alloc: Global, form: &Echelon) -> Result<Found, AllocError>
     Ok(Found::Solution(x))
 }
 
-// The column of n entries that are those of `side` at the leads, and 0 elsewhere.
+// The column of n entries that are those of `side` at the leads, and 0 elsewhere. Behind as many entries as there are leads
+// `side` is 0.
 pub(crate) fn at_leads(
     alloc: Global,
     side: &Sparse,
@@ -51,7 +53,8 @@ pub(crate) fn at_leads(
     n: u32,
 ) -> Result<Rows, AllocError>
     requires small { n ≤ LARGEST_SIZE }
-    requires long { length side.now.row ≡ length leads.now }
+    requires few { length leads.now ≤ length side.now.row }
+    requires behind { AreZeroBehind side.now.row (length leads.now) }
     requires inside { (k : ℕ) → k < length leads.now → slice_index leads.now k < n }
     requires rising { (k t : ℕ) → k < t → t < length leads.now
         → slice_index leads.now k < slice_index leads.now t }

@@ -1,4 +1,4 @@
-use Rattle.std.proofs.Common.{ap, arith, ◌∙◌}
+use Rattle.std.proofs.Common.{arith}
 use Rattle.kernel_solve.proofs.Turning.{turned_all, turned_more, turned_none}
 use Rattle.kernel_solve.proofs.prepared.columns_from.Goals as goal
 

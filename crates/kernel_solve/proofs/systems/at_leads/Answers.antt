@@ -1,11 +1,25 @@
-use Rattle.std.proofs.Common.{ℕ, ◌≡◌, ◌<◌, ◌∙◌, List, [], ◌∷◌, ◌++◌, ap, arith, length, map, slice_index, subst, sym, ap₂, take}
+use Rattle.std.proofs.Common.{ℕ, ◌≡◌, ◌<◌, ◌∙◌, List, [], ◌∷◌, ◌++◌, ap, arith, length, map, refl, slice_index, subst, sym, ap₂, take}
 use Rattle.std.proofs.lemmas.List.{length-map, take_all}
-use Rattle.sparse_rows.specs.Rows.{built, nonzeros, sum_at, support}
+use Rattle.sparse_rows.specs.Rows.{AreBelow, built, nonzeros, sum_at, support}
 use Rattle.sparse_rows.specs.Stored.{IsSparse, entry_at}
 use Rattle.kernel_solve.specs.Column.{column}
 use Rattle.kernel_solve.specs.ReadOff.{IsAtLeads}
-use Rattle.kernel_solve.proofs.AtLeads.{built_at_leads, built_matrix, built_same, moved_at, moved_rising, row_vector, sums_more}
+use Rattle.kernel_solve.proofs.AtLeads.{built_at_leads, built_matrix, built_same, moved_at, moved_rising, row_vector, stored_below, sums_more}
 use Rattle.kernel_solve.proofs.systems.at_leads.Goals as goal
+
+pub bounds-leads-rows : goal.bounds-leads-rows
+bounds-leads-rows c =
+    stored_below c.args.side.now.row c.cols-rows.result.now c.vals-values.result.now c.cols-rows.ensures.support c.vals-values.ensures.values (c.cols-rows.ensures.same_length ∙ ap length (sym c.vals-values.ensures.values))
+    c.cols-rows.ensures.ascending c.vals-values.ensures.positive (length c.args.leads.now) c.cols-rows.ensures.below_width c.requires.behind c.loop-k.k c.loop-k-test.true
+
+pub push-requires-clause-row : goal.push-requires-clause-row
+push-requires-clause-row c = omega (
+  arith,
+  c.requires.inside (slice_index c.cols-rows.result.now c.loop-k.k)
+      (stored_below c.args.side.now.row c.cols-rows.result.now c.vals-values.result.now c.cols-rows.ensures.support c.vals-values.ensures.values (c.cols-rows.ensures.same_length ∙ ap length (sym c.vals-values.ensures.values))
+      c.cols-rows.ensures.ascending c.vals-values.ensures.positive (length c.args.leads.now) c.cols-rows.ensures.below_width c.requires.behind c.loop-k.k c.loop-k-test.true),
+  c.loop-k.invariant.height,
+)
 
 pub loop-k-preserved : goal.loop-k-preserved
 loop-k-preserved c =
@@ -14,7 +28,8 @@ loop-k-preserved c =
     let rs : List ℕ = c.cols-rows.result.now in
     let vs : List ℕ = c.vals-values.result.now in
     let made = c.in_ok-push.ensures.ok in
-    let inside : (t : ℕ) → t < length rs → slice_index rs t < length leads = λ t l. omega (arith, c.cols-rows.ensures.below_width t l, c.requires.long) in
+    let inside : AreBelow (length leads) rs = stored_below c.args.side.now.row rs vs c.cols-rows.ensures.support c.vals-values.ensures.values (c.cols-rows.ensures.same_length ∙ ap length (sym c.vals-values.ensures.values)) c.cols-rows.ensures.ascending
+    c.vals-values.ensures.positive (length leads) c.cols-rows.ensures.below_width c.requires.behind in
     let long : length (map (slice_index leads) rs) ≡ length vs = length-map rs (slice_index leads) ∙ c.cols-rows.ensures.same_length ∙ ap length (sym c.vals-values.ensures.values) in
     record {
       modulus = ap (λ b. b.modulus) made ∙ c.loop-k.invariant.modulus;
@@ -49,16 +64,18 @@ returns-clause-entries c =
     let made : c.in_ok-x.x.matrix ≡ built p c.args.n 1 b.pushed =
     built_same p b.modulus b.height b.width c.args.n b.pushed c.in_ok-x.x.matrix c.loop-k.invariant.modulus c.loop-k.invariant.height c.loop-k.invariant.width c.in_ok-x.ensures.matrix in
     let long : length rs ≡ length vs = c.cols-rows.ensures.same_length ∙ ap length (sym c.vals-values.ensures.values) in
-    let sparse : IsSparse p (length leads) rs vs = record {
+    let sparse : IsSparse p (length side) rs vs = record {
       long = long;
       rising = c.cols-rows.ensures.ascending;
-      below = λ t l. omega (arith, c.cols-rows.ensures.below_width t l, c.requires.long);
+      below = c.cols-rows.ensures.below_width;
       positive = c.vals-values.ensures.positive;
       residues = c.vals-values.ensures.residues;
     } in
+    let inside : AreBelow (length leads) (support side) = subst (AreBelow (length leads)) c.cols-rows.ensures.support
+    (stored_below side rs vs c.cols-rows.ensures.support c.vals-values.ensures.values long c.cols-rows.ensures.ascending c.vals-values.ensures.positive (length leads) c.cols-rows.ensures.below_width c.requires.behind) in
     let all_columns : take c.loop-k.k (map (slice_index leads) rs) ≡ map (slice_index leads) (support side) =
     take_all c.loop-k.k (map (slice_index leads) rs) (omega (arith, length-map rs (slice_index leads), c.loop-k-test.false)) ∙ ap (map (slice_index leads)) c.cols-rows.ensures.support in
     let all_values : take c.loop-k.k vs ≡ nonzeros side = take_all c.loop-k.k vs (omega (arith, long, c.loop-k-test.false)) ∙ c.vals-values.ensures.values in
     subst (λ X. IsAtLeads leads side (column X)) (sym made)
-    (built_at_leads p c.args.n leads side b.pushed pos (row_vector side pos c.requires.long c.cols-rows.ensures.support c.vals-values.ensures.values sparse) c.requires.rising c.requires.inside
+    (built_at_leads p c.args.n leads side b.pushed pos (row_vector side pos refl c.cols-rows.ensures.support c.vals-values.ensures.values sparse) c.requires.few inside c.requires.rising c.requires.inside
     (λ j. c.loop-k.invariant.sums j ∙ ap₂ (λ cs ws. entry_at cs ws j) all_columns all_values))

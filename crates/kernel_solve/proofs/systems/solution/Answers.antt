@@ -32,10 +32,26 @@ leads_below form sound last width told same b test never =
     below_last last form.matrix.width form.leads width (λ k l. sound.leads.1.inside k (omega (arith, sound.rank))) (λ s t a b. sound.leads.1.rising s t a (omega (arith, sound.rank)))
     (λ h. let ends : b ≡ true = test.1 (omega (arith, h.0, ap length same), ap (λ ls. slice_index ls (length ls - 1)) same ∙ h.1) in cc)
 
-pub at_leads-requires-clause-long : goal.at_leads-requires-clause-long
-at_leads-requires-clause-long c =
-    ap length c.in_ok-side.ensures.row ∙ length_list_of c.rows-2.result.now.matrix.height _ ∙ ap (λ m. m.height) c.rows-2.ensures.matrix
-    ∙ sym (ap length c.leads-leads.ensures.value ∙ c.leads-leads.ensures.sound.rank)
+-- the side is as long as there are leads
+side_long : (E : Matrix) (form : Form) (leads side : List ℕ) (last : ℕ) → IsEchelon form → E ≡ form.matrix → leads ≡ form.leads → side ≡ column_at E last → length side ≡ length leads
+side_long E form leads side last sound e told is =
+    ap length is ∙ length_list_of E.height _ ∙ ap (λ (m : Matrix). m.height) e ∙ sym (ap length told ∙ sound.rank)
+
+pub at_leads-requires-clause-few : goal.at_leads-requires-clause-few
+at_leads-requires-clause-few c = omega (
+  arith,
+  side_long c.rows-2.result.now.matrix c.args.form.now c.leads-leads.result.now c.in_ok-side.side.row (c.width-last.result - 1) c.leads-leads.ensures.sound c.rows-2.ensures.matrix
+      c.leads-leads.ensures.value c.in_ok-side.ensures.row,
+)
+
+pub at_leads-requires-clause-behind : goal.at_leads-requires-clause-behind
+at_leads-requires-clause-behind c = λ t a b. absurd (omega (
+  arith,
+  a,
+  b,
+  side_long c.rows-2.result.now.matrix c.args.form.now c.leads-leads.result.now c.in_ok-side.side.row (c.width-last.result - 1) c.leads-leads.ensures.sound c.rows-2.ensures.matrix
+      c.leads-leads.ensures.value c.in_ok-side.ensures.row,
+))
 
 pub at_leads-requires-clause-inside : goal.at_leads-requires-clause-inside
 at_leads-requires-clause-inside c = rw c.leads-leads.ensures.value (leads_below c.args.form.now c.leads-leads.ensures.sound (c.width-last.result - 1)

@@ -1,19 +1,18 @@
-use Rattle.std.proofs.Common.{ℕ, ◌≡◌, ◌<◌, ◌≤◌, ◌∙◌, List, ap, arith, length, slice_index, sym, subst, take}
-use Rattle.std.proofs.lemmas.List.{get_or_default, length-take-le}
+use Rattle.std.proofs.Common.{ℕ, ◌≡◌, ◌<◌, ◌∙◌, List, ap, arith, length, slice_index, sym, subst}
 use Rattle.residue_words.specs.Matrix.{Matrix, IsMatrix, IsVector, combine}
 use Rattle.residue_words.specs.Residues.{inverse}
 use Rattle.residue_words.proofs.Vectors.{combine_vector}
 use Rattle.sparse_rows.specs.Rows.{ResidueMatrix}
 use Rattle.kernel_solve.specs.Column.{column, column_at}
-use Rattle.kernel_solve.specs.Prepared.{IsReply, Preparation}
+use Rattle.kernel_solve.specs.Prepared.{AgreeFrom, IsReply, Preparation}
 use Rattle.kernel_solve.specs.ReadOff.{IsAtLeads}
 use Rattle.kernel_solve.specs.Refuted.{AreZeroBehind, IsLastNonzero, multiple}
 use Rattle.kernel_solve.specs.declared.prepared.Reply.TheVariants.{Solution, Refuted}
-use Rattle.kernel_solve.proofs.Products.{combine_long, kept_vector, refuted_is, solved_is, take_vector}
+use Rattle.kernel_solve.proofs.Products.{agree_all, agree_last, agree_none, combine_long, kept_vector, refuted_is, solved_is}
 use Rattle.kernel_solve.proofs.prepared.Prepared.answer.Goals as goal
 
-pub combined-requires : goal.combined-requires
-combined-requires c =
+pub combined_from-requires : goal.combined_from-requires
+combined_from-requires c =
     let C : ResidueMatrix = c.self.inside.columns in
     let B : Matrix = c.args.b.now.matrix in
     let sound : IsMatrix C.modulus B = subst (λ m. IsMatrix m B) (c.requires.modulus ∙ sym (ap (λ (q : Preparation). q.transformation.modulus) c.self.view_is)) c.modulus.ensures.sound in
@@ -21,52 +20,54 @@ combined-requires c =
     subst (IsVector C.modulus C.matrix.height) (sym (c.deref.ensures.value ∙ c.in_ok-side.ensures))
     (kept_vector c.self.inside.width c.self.inside.leads.items C B c.self.invariant.few sound c.requires.column high)
 
-pub last_nonzero-requires : goal.last_nonzero-requires
-last_nonzero-requires c =
+pub combined_from-requires-2 : goal.combined_from-requires-2
+combined_from-requires-2 c =
     let C : ResidueMatrix = c.self.inside.columns in
-    omega (arith, c.len-rank.ensures ∙ c.self.inside.leads.ok.0, ap length (c.deref-2.ensures.value ∙ c.in_ok-products.ensures), combine_long C.modulus c.deref.result.now C.matrix, c.self.invariant.few)
-
-pub overflow_cast-k : goal.overflow_cast-k
-overflow_cast-k c =
-    let C : ResidueMatrix = c.self.inside.columns in
-    record { fits = omega (arith, c.in-Some.ensures.inside, ap length (c.deref-2.ensures.value ∙ c.in_ok-products.ensures), combine_long C.modulus c.deref.result.now C.matrix, c.width.ensures.value, c.width.ensures.bound) }
+    let B : Matrix = c.args.b.now.matrix in
+    let sound : IsMatrix C.modulus B = subst (λ m. IsMatrix m B) (c.requires.modulus ∙ sym (ap (λ (q : Preparation). q.transformation.modulus) c.self.view_is)) c.modulus.ensures.sound in
+    let high : B.height ≡ C.matrix.height = c.requires.height ∙ sym (ap (λ (q : Preparation). q.transformation.matrix.width) c.self.view_is) in
+    subst (IsVector C.modulus C.matrix.height) (sym (c.deref-2.ensures.value ∙ c.in_ok-side.ensures))
+    (kept_vector c.self.inside.width c.self.inside.leads.items C B c.self.invariant.few sound c.requires.column high)
 
 pub refuting-requires-clause-column : goal.refuting-requires-clause-column
 refuting-requires-clause-column c =
     let C : ResidueMatrix = c.self.inside.columns in
-    omega (arith, c.in-Some.ensures.inside, ap length (c.deref-2.ensures.value ∙ c.in_ok-products.ensures), combine_long C.modulus c.deref.result.now C.matrix)
+    let P : List ℕ = combine C.modulus c.deref.result.now C.matrix in
+    let last = agree_last P c.in_ok-related.related.row c.len-rank.result (c.in-Some.k, c.in-Some.product) c.in_ok-related.ensures.row c.in-Some.ensures in
+    omega (arith, last.0.inside, combine_long C.modulus c.deref.result.now C.matrix)
+
+pub refuting-requires-clause-nonzero : goal.refuting-requires-clause-nonzero
+refuting-requires-clause-nonzero c =
+    let C : ResidueMatrix = c.self.inside.columns in
+    let P : List ℕ = combine C.modulus c.deref.result.now C.matrix in
+    let last = agree_last P c.in_ok-related.related.row c.len-rank.result (c.in-Some.k, c.in-Some.product) c.in_ok-related.ensures.row c.in-Some.ensures in
+    λ z. last.0.nonzero (sym last.1 ∙ z)
 
 pub refuting-requires-clause-residue : goal.refuting-requires-clause-residue
 refuting-requires-clause-residue c =
     let C : ResidueMatrix = c.self.inside.columns in
-    let k : ℕ = c.in-Some.k in
-    let inside : k < C.matrix.width = omega (arith, c.in-Some.ensures.inside, ap length (c.deref-2.ensures.value ∙ c.in_ok-products.ensures), combine_long C.modulus c.deref.result.now C.matrix) in
-    let value : c.index.result.now ≡ slice_index (combine C.modulus c.deref.result.now C.matrix) k =
-    c.index.ensures ∙ get_or_default c.in_ok-products.products.items k c.index.result.now 0 (omega (arith, inside, ap length c.in_ok-products.ensures, combine_long C.modulus c.deref.result.now C.matrix)) ∙ ap (λ xs. slice_index xs k) c.in_ok-products.ensures in
-    omega (arith, value, (combine_vector C.modulus c.deref.result.now C.matrix (omega (arith, c.modulus-2.ensures.two_or_more, c.modulus-2.ensures.value))).residues k inside)
+    let P : List ℕ = combine C.modulus c.deref.result.now C.matrix in
+    let last = agree_last P c.in_ok-related.related.row c.len-rank.result (c.in-Some.k, c.in-Some.product) c.in_ok-related.ensures.row c.in-Some.ensures in
+    let inside : c.in-Some.k < C.matrix.width = omega (arith, last.0.inside, combine_long C.modulus c.deref.result.now C.matrix) in
+    omega (arith, last.1, (combine_vector C.modulus c.deref.result.now C.matrix (omega (arith, c.modulus-2.ensures.two_or_more, c.modulus-2.ensures.value))).residues c.in-Some.k inside)
 
-pub slice_bounds-sparse-end : goal.slice_bounds-sparse-end
-slice_bounds-sparse-end c =
+pub at_leads-requires-clause-few : goal.at_leads-requires-clause-few
+at_leads-requires-clause-few c =
     let C : ResidueMatrix = c.self.inside.columns in
-    sym (length-take-le c.len-rank.result c.deref-3.result.now
-    (omega (arith, c.len-rank.ensures ∙ c.self.inside.leads.ok.0, ap length (c.deref-3.ensures.value ∙ c.in_ok-products.ensures), combine_long C.modulus c.deref.result.now C.matrix, c.self.invariant.few)))
+    omega (arith, ap length c.deref-3.ensures.value, c.self.invariant.few, c.in_ok-products.ensures.row.long, combine_long C.modulus c.deref-2.result.now C.matrix)
 
-pub sparse-requires-clause-residues : goal.sparse-requires-clause-residues
-sparse-requires-clause-residues c =
+pub at_leads-requires-clause-behind : goal.at_leads-requires-clause-behind
+at_leads-requires-clause-behind c =
     let C : ResidueMatrix = c.self.inside.columns in
-    let pos : 0 < C.modulus = omega (arith, c.modulus-2.ensures.two_or_more, c.modulus-2.ensures.value) in
-    let vector : IsVector C.modulus C.matrix.width c.deref-3.result.now =
-    subst (IsVector C.modulus C.matrix.width) (sym (c.deref-3.ensures.value ∙ c.in_ok-products.ensures)) (combine_vector C.modulus c.deref.result.now C.matrix pos) in
-    subst (λ q. IsVector q (length (take c.len-rank.result c.deref-3.result.now)) (take c.len-rank.result c.deref-3.result.now)) (sym c.modulus-3.ensures.value)
-    (take_vector C.modulus C.matrix.width c.len-rank.result c.deref-3.result.now vector (omega (arith, c.len-rank.ensures ∙ c.self.inside.leads.ok.0, c.self.invariant.few)))
-
-pub at_leads-requires-clause-long : goal.at_leads-requires-clause-long
-at_leads-requires-clause-long c =
-    let C : ResidueMatrix = c.self.inside.columns in
-    ap length c.in_ok-values.ensures.row
-    ∙ length-take-le c.len-rank.result c.deref-3.result.now
-    (omega (arith, c.len-rank.ensures ∙ c.self.inside.leads.ok.0, ap length (c.deref-3.ensures.value ∙ c.in_ok-products.ensures), combine_long C.modulus c.deref.result.now C.matrix, c.self.invariant.few))
-    ∙ (c.len-rank.ensures ∙ c.self.inside.leads.ok.0) ∙ sym (ap length c.deref-4.ensures.value)
+    let B : Matrix = c.args.b.now.matrix in
+    let P : List ℕ = combine C.modulus (column B) C.matrix in
+    let related : List ℕ = c.in_ok-related.related.row in
+    let products : List ℕ = c.in_ok-products.products.row in
+    let few : c.len-rank.result ≡ length c.deref-3.result.now = c.len-rank.ensures ∙ c.self.inside.leads.ok.0 ∙ sym (ap length c.deref-3.ensures.value) in
+    let agree : AgreeFrom c.len-rank.result P related = subst (λ s. AgreeFrom c.len-rank.result (combine C.modulus s C.matrix) related) (c.deref.ensures.value ∙ c.in_ok-side.ensures) c.in_ok-related.ensures.row in
+    let all : products ≡ P = agree_all P products (subst (λ s. AgreeFrom 0 (combine C.modulus s C.matrix) products) (c.deref-2.ensures.value ∙ c.in_ok-side.ensures) c.in_ok-products.ensures.row) in
+    let none : AreZeroBehind P c.len-rank.result = agree_none P related c.len-rank.result agree c.in_default.ensures in
+    subst (λ xs. AreZeroBehind xs (length c.deref-3.result.now)) (sym all) (subst (AreZeroBehind P) few none)
 
 pub returns-in-Some : goal.returns-in-Some
 returns-in-Some c =
@@ -77,14 +78,13 @@ returns-in-Some c =
     let sound : IsMatrix C.modulus B = subst (λ m. IsMatrix m B) (c.requires.modulus ∙ sym (ap (λ (q : Preparation). q.transformation.modulus) c.self.view_is)) c.modulus.ensures.sound in
     let high : B.height ≡ C.matrix.height = c.requires.height ∙ sym (ap (λ (q : Preparation). q.transformation.matrix.width) c.self.view_is) in
     let P : List ℕ = combine C.modulus (column B) C.matrix in
-    let told : c.in_ok-products.products.items ≡ P = c.in_ok-products.ensures ∙ ap (λ s. combine C.modulus s C.matrix) (c.deref.ensures.value ∙ c.in_ok-side.ensures) in
-    let last : IsLastNonzero P (length leads) k =
-    subst (λ n. IsLastNonzero P n k) (c.len-rank.ensures ∙ c.self.inside.leads.ok.0) (subst (λ xs. IsLastNonzero xs c.len-rank.result k) (c.deref-2.ensures.value ∙ told) c.in-Some.ensures) in
-    let inside : k < length c.in_ok-products.products.items = omega (arith, last.inside, ap length told) in
-    let value : c.index.result.now ≡ slice_index P k = c.index.ensures ∙ get_or_default c.in_ok-products.products.items k c.index.result.now 0 inside ∙ ap (λ xs. slice_index xs k) told in
+    let related : List ℕ = c.in_ok-related.related.row in
+    let agree : AgreeFrom c.len-rank.result P related = subst (λ s. AgreeFrom c.len-rank.result (combine C.modulus s C.matrix) related) (c.deref.ensures.value ∙ c.in_ok-side.ensures) c.in_ok-related.ensures.row in
+    let found : IsLastNonzero P c.len-rank.result k × (c.in-Some.product ≡ slice_index P k) = agree_last P related c.len-rank.result (k, c.in-Some.product) agree c.in-Some.ensures in
+    let last : IsLastNonzero P (length leads) k = subst (λ n. IsLastNonzero P n k) (c.len-rank.ensures ∙ c.self.inside.leads.ok.0) found.0 in
     subst (λ q. IsReply q B (Refuted c.in_ok-y.y)) c.self.view_is
     (refuted_is c.self.inside.width leads C B c.self.invariant.few sound c.requires.column high k c.in_ok-y.y last c.in_ok-y.ensures.modulus c.in_ok-y.ensures.sound c.in_ok-y.ensures.height c.in_ok-y.ensures.width
-    (c.in_ok-y.ensures.row ∙ ap (λ v. multiple C.modulus (inverse C.modulus v) (column_at C.matrix k)) value))
+    (c.in_ok-y.ensures.row ∙ ap (λ v. multiple C.modulus (inverse C.modulus v) (column_at C.matrix k)) found.1))
 
 pub returns : goal.returns
 returns c =
@@ -94,13 +94,13 @@ returns c =
     let sound : IsMatrix C.modulus B = subst (λ m. IsMatrix m B) (c.requires.modulus ∙ sym (ap (λ (q : Preparation). q.transformation.modulus) c.self.view_is)) c.modulus.ensures.sound in
     let high : B.height ≡ C.matrix.height = c.requires.height ∙ sym (ap (λ (q : Preparation). q.transformation.matrix.width) c.self.view_is) in
     let P : List ℕ = combine C.modulus (column B) C.matrix in
-    let told : c.in_ok-products.products.items ≡ P = c.in_ok-products.ensures ∙ ap (λ s. combine C.modulus s C.matrix) (c.deref.ensures.value ∙ c.in_ok-side.ensures) in
-    let none : AreZeroBehind P (length leads) =
-    subst (λ n. AreZeroBehind P n) (c.len-rank.ensures ∙ c.self.inside.leads.ok.0) (subst (λ xs. AreZeroBehind xs c.len-rank.result) (c.deref-2.ensures.value ∙ told) c.in_default.ensures) in
-    let first : c.in_ok-values.values.row ≡ take (length leads) P =
-    c.in_ok-values.ensures.row ∙ ap (take c.len-rank.result) (c.deref-3.ensures.value ∙ told) ∙ ap (λ n. take n P) (c.len-rank.ensures ∙ c.self.inside.leads.ok.0) in
-    let at : IsAtLeads leads (take (length leads) P) (column c.in_ok-x.x.matrix) =
-    subst (λ u. IsAtLeads leads u (column c.in_ok-x.x.matrix)) first (subst (λ ls. IsAtLeads ls c.in_ok-values.values.row (column c.in_ok-x.x.matrix)) c.deref-4.ensures.value c.in_ok-x.ensures.entries) in
+    let related : List ℕ = c.in_ok-related.related.row in
+    let products : List ℕ = c.in_ok-products.products.row in
+    let agree : AgreeFrom c.len-rank.result P related = subst (λ s. AgreeFrom c.len-rank.result (combine C.modulus s C.matrix) related) (c.deref.ensures.value ∙ c.in_ok-side.ensures) c.in_ok-related.ensures.row in
+    let all : products ≡ P = agree_all P products (subst (λ s. AgreeFrom 0 (combine C.modulus s C.matrix) products) (c.deref-2.ensures.value ∙ c.in_ok-side.ensures) c.in_ok-products.ensures.row) in
+    let none : AreZeroBehind P (length leads) = subst (AreZeroBehind P) (c.len-rank.ensures ∙ c.self.inside.leads.ok.0) (agree_none P related c.len-rank.result agree c.in_default.ensures) in
+    let at : IsAtLeads leads P (column c.in_ok-x.x.matrix) =
+    subst (λ u. IsAtLeads leads u (column c.in_ok-x.x.matrix)) all (subst (λ ls. IsAtLeads ls products (column c.in_ok-x.x.matrix)) c.deref-3.ensures.value c.in_ok-x.ensures.entries) in
     subst (λ q. IsReply q B (Solution c.in_ok-x.x)) c.self.view_is
-    (solved_is c.self.inside.width leads C B c.self.invariant.few sound c.requires.column high c.in_ok-x.x none (c.in_ok-x.ensures.modulus ∙ c.in_ok-values.ensures.modulus ∙ c.modulus-3.ensures.value) c.in_ok-x.ensures.sound
-    c.in_ok-x.ensures.height c.in_ok-x.ensures.width at)
+    (solved_is c.self.inside.width leads C B c.self.invariant.few sound c.requires.column high c.in_ok-x.x none (c.in_ok-x.ensures.modulus ∙ c.in_ok-products.ensures.modulus) c.in_ok-x.ensures.sound c.in_ok-x.ensures.height
+    c.in_ok-x.ensures.width at)

@@ -1,4 +1,4 @@
-use Rattle.std.proofs.Common.{ℕ, ◌≡◌, ◌<◌, ◌≤◌, ◌+◌, ◌∙◌, List, ap, arith, length, slice_index, subst, sym, refl, take}
+use Rattle.std.proofs.Common.{ℕ, ◌≡◌, ◌<◌, ◌∙◌, List, ap, arith, length, slice_index, subst, sym, refl, take}
 use Rattle.std.proofs.lemmas.List.{get_or-take, length-take}
 use Rattle.residue_words.specs.Matrix.{Matrix}
 use Rattle.sparse_rows.specs.Rows.{transposed}
@@ -9,12 +9,8 @@ use Rattle.kernel_solve.proofs.Transforming.{relations_made, transforms_made}
 use Rattle.kernel_solve.proofs.Turning.{kept_height, kept_relations, kept_rows}
 use Rattle.kernel_solve.proofs.prepared.Prepared.in_form.Goals as goal
 
-pub count_below-rank-requires-clause-many : goal.count_below-rank-requires-clause-many
-count_below-rank-requires-clause-many c =
-    omega (arith, ap length c.leads.ensures.value, c.leads.ensures.sound.rank, c.height.ensures.value, c.height.ensures.bound, ap (λ (M : Matrix). M.height) c.rows-2.ensures.matrix)
-
-pub count_below-rank-requires-clause-rising : goal.count_below-rank-requires-clause-rising
-count_below-rank-requires-clause-rising c = λ k t a b. omega (
+pub count_below-rank-requires : goal.count_below-rank-requires
+count_below-rank-requires c = λ k t a b. omega (
   arith,
   (c.leads.ensures.sound.leads.1.rising) k t a (omega (arith, c.leads.ensures.sound.rank, ap length c.leads.ensures.value)),
   ap (λ ls. slice_index ls k) c.leads.ensures.value,
@@ -22,7 +18,7 @@ count_below-rank-requires-clause-rising c = λ k t a b. omega (
 )
 
 pub columns_from-requires : goal.columns_from-requires
-columns_from-requires c = omega (arith, c.requires, ap (λ (M : Matrix). M.width) c.rows-3.ensures.matrix)
+columns_from-requires c = omega (arith, c.requires, ap (λ (M : Matrix). M.width) c.rows-2.ensures.matrix)
 
 pub invariant_of-result : goal.invariant_of-result
 invariant_of-result c =
@@ -34,7 +30,7 @@ invariant_of-result c =
     let few : firsts ≡ take r F.leads = c.in_ok-leads.ensures.items ∙ ap (take r) c.leads-2.ensures.value in
     let first_at : (k : ℕ) → k < r → slice_index firsts k ≡ slice_index F.leads k = λ k l. ap (λ xs. slice_index xs k) few ∙ get_or-take r F.leads k 0 l in
     let many : length firsts ≡ r = omega (arith, ap length few, length-take r F.leads, cut.few) in
-    let thin : c.in_ok-columns.columns.matrix.width ≡ F.matrix.height = ap (λ (M : Matrix). M.width) c.in_ok-columns.ensures.matrix ∙ ap (λ (M : Matrix). M.height) c.rows-3.ensures.matrix in
+    let thin : c.in_ok-columns.columns.matrix.width ≡ F.matrix.height = ap (λ (M : Matrix). M.width) c.in_ok-columns.ensures.matrix ∙ ap (λ (M : Matrix). M.height) c.rows-2.ensures.matrix in
     record {
       narrow = omega (arith, c.requires, c.width.ensures.value, c.width.ensures.bound, ap (λ (M : Matrix). M.width) c.rows.ensures.matrix);
       few = omega (arith, many, cut.few, c.leads.ensures.sound.rank, thin);
@@ -54,9 +50,9 @@ returns c = λ p A m left form.
     let many : length firsts ≡ r = omega (arith, ap length few, length-take r F.leads, cut_n.few) in
     let cut : IsSplitAt F.leads A.width (length firsts) = subst (λ w. IsSplitAt F.leads w (length firsts)) (sym left) (subst (IsSplitAt F.leads n) (sym many) cut_n) in
     let first_at : (k : ℕ) → k < length firsts → slice_index firsts k ≡ slice_index F.leads k = λ k l. ap (λ xs. slice_index xs k) few ∙ get_or-take r F.leads k 0 (omega (arith, many)) in
-    let made : M ≡ turned_from F.matrix n = c.in_ok-columns.ensures.matrix ∙ ap (λ (M : Matrix). turned_from M n) c.rows-3.ensures.matrix in
+    let made : M ≡ turned_from F.matrix n = c.in_ok-columns.ensures.matrix ∙ ap (λ (M : Matrix). turned_from M n) c.rows-2.ensures.matrix in
     record {
-      modulus = c.in_ok-columns.ensures.modulus ∙ c.rows-3.ensures.modulus ∙ form.modulus;
+      modulus = c.in_ok-columns.ensures.modulus ∙ c.rows-2.ensures.modulus ∙ form.modulus;
       width = sym left;
       height = kept_height A F.matrix M n made (sym left) form.width;
       transforms = λ prime.

@@ -1,4 +1,4 @@
-use Rattle.std.proofs.Common.{ℕ, ◌≡◌, ◌∙◌, ap, arith, sym}
+use Rattle.std.proofs.Common.{ℕ, ap, arith, sym}
 use Rattle.residue_words.specs.Matrix.{Matrix}
 use Rattle.sparse_rows.specs.Rows.{beside}
 use Rattle.echelon_form.specs.Form.{Form, IsFormOf}
