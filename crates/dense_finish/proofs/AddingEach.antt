@@ -1,6 +1,7 @@
 -- Sums added to rows, some columns or some products at a time.
-use Rattle.std.proofs.Common.{ℕ, List, [], ◌∷◌, zero, suc, ◌≡◌, ◌+◌, ◌-◌, ◌*◌, ◌%◌, ◌<◌, ◌≤◌, inl, inr, length, slice_index, slice_index_or, sym, refl, ap, ◌∙◌, arith, mod-eq_of_lt, mod-lt, mul-le-mul_left, mul-le-mul_right, mul-zero}
+use Rattle.std.proofs.Common.{ℕ, List, [], ◌∷◌, zero, suc, ◌≡◌, ◌+◌, ◌-◌, ◌*◌, ◌%◌, ◌<◌, ◌≤◌, below_more, inl, inr, length, length-set, set, slice_index, subst, sym, refl, ap, ◌∙◌, arith, mod-eq_of_lt, mod-lt, mul-le-mul_left, mul-le-mul_right, mul-zero}
 use Rattle.std.proofs.lemmas.Bool.{cases_lt}
+use Rattle.std.proofs.lemmas.List.{get_or-set_other, get_or-set_same}
 use Rattle.residue_words.specs.Matrix.{IsVector}
 use native.Mathlib.Nat.{mod-mod}
 use Rattle.residue_words.proofs.Residues.{add_same}
@@ -178,10 +179,19 @@ four_lanes row at (suc (suc zero)) l = refl
 four_lanes row at (suc (suc (suc zero))) l = refl
 four_lanes row at (suc (suc (suc (suc k)))) l = absurd (omega arith)
 
--- one of four
-pub each_of_four : (P : ℕ → List ℕ → Type 0) (a b c d e : List ℕ) → P 0 a → P 1 b → P 2 c → P 3 d → (t : ℕ) → t < 4 → P t (slice_index_or (a ∷ b ∷ c ∷ d ∷ []) t e)
-each_of_four P a b c d e pa pb pc pd zero l = pa
-each_of_four P a b c d e pa pb pc pd (suc zero) l = pb
-each_of_four P a b c d e pa pb pc pd (suc (suc zero)) l = pc
-each_of_four P a b c d e pa pb pc pd (suc (suc (suc zero))) l = pd
-each_of_four P a b c d e pa pb pc pd (suc (suc (suc (suc t)))) l = absurd (omega arith)
+-- what holds of the first n rows, holds of one more and of four more that are put behind them
+row_more : (P : ℕ → List ℕ → Type 0) (xs : List (List ℕ)) (n : ℕ) (v : List ℕ) → n < length xs → ((t : ℕ) → t < n → P t (block_row xs t)) → P n v → (t : ℕ) → t < n + 1 → P t (block_row (set xs n v) t)
+row_more P xs n v l before here =
+    below_more (λ t. P t (block_row (set xs n v) t)) n (λ t less. subst (P t) (sym (get_or-set_other xs n t v [] (omega arith))) (before t less)) (subst (P n) (sym (get_or-set_same xs n v [] l)) here)
+
+pub four_more : (P : ℕ → List ℕ → Type 0) (xs : List (List ℕ)) (n : ℕ) (a b c d : List ℕ) → n + 4 ≤ length xs → ((t : ℕ) → t < n → P t (block_row xs t)) → P n a → P (n + 1) b → P (n + 2) c → P (n + 3) d →
+    (t : ℕ) → t < n + 4 → P t (block_row (set (set (set (set xs n a) (n + 1) b) (n + 2) c) (n + 3) d) t)
+four_more P xs n a b c d room before pa pb pc pd t l =
+    let one = set xs n a in
+    let two = set one (n + 1) b in
+    let three = set two (n + 2) c in
+    let long : length three ≡ length xs = length-set two (n + 2) c ∙ length-set one (n + 1) b ∙ length-set xs n a in
+    row_more P three (n + 3) d (omega (arith, long))
+    (λ s ls. row_more P two (n + 2) c (omega (arith, length-set one (n + 1) b, length-set xs n a))
+    (λ s ls. row_more P one (n + 1) b (omega (arith, length-set xs n a))
+    (λ s ls. row_more P xs n a (omega arith) before pa s (omega arith)) pb s (omega arith)) pc s (omega arith)) pd t (omega arith)

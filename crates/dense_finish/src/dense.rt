@@ -328,18 +328,31 @@ impl Dense<u32> {
         u32x8::from_slice(&self.places[at..]).to_array()
     }
 
-    // Adds sums at these columns, of which there are at most eight.
+    // Adds sums at these columns, of which there are at most eight; the eight entries from the first on are these.
     #[inline(always)]
-    pub(crate) fn add_sums(&mut self, columns: Columns, sums: u64x8, folding: &Folding)
+    pub(crate) fn add_sums(
+        &mut self,
+        columns: Columns,
+        olds: &[u32; 8],
+        sums: u64x8,
+        folding: &Folding,
+    )
         requires residues { IsVector folding.now.p (length self.old) self.old }
         requires order { columns.start ≤ columns.end }
         requires narrow { columns.end ≤ columns.start + 8 }
         requires inside { columns.start + 8 ≤ length self.old }
+        requires olds { (k : ℕ) → k < 8 → slice_index olds.now k ≡ slice_index self.old (columns.start + k) }
         ensures { AddsBetween folding.now.p columns (λ j. slice_index sums (j - columns.start))
             self.old self.new }
     {
         if columns.end - columns.start == 8 {
-            add_lanes(&mut self.places, columns.start, sums, folding);
+            add_lanes(
+                &mut self.places,
+                columns.start,
+                u32x8::from_array(*olds),
+                sums,
+                folding,
+            );
         } else {
             self.add_singly(columns, &sums.to_array(), &folding.p);
         }

@@ -109,16 +109,16 @@ impl Folding {
     }
 }
 
-// Adds sums to the eight entries from `at` on.
+// Adds sums to the eight entries from `at` on, which are these.
 #[inline(always)]
-pub(crate) fn add_lanes(row: &mut [u32], at: usize, sums: u64x8, folding: &Folding)
+pub(crate) fn add_lanes(row: &mut [u32], at: usize, olds: u32x8, sums: u64x8, folding: &Folding)
     requires room { at + 8 ≤ length row.old }
+    requires olds { (k : ℕ) → k < 8 → slice_index olds k ≡ slice_index row.old (at + k) }
     requires residues { (k : ℕ) → k < length row.old → slice_index row.old k < folding.now.p }
     ensures { AddsBetween folding.now.p (columns_of at (at + 8)) (λ j. slice_index sums (j - at))
         row.old row.new }
 {
-    let x = u32x8::from_slice(&row[at..]);
-    folding.plus(x, sums).copy_to_slice(&mut row[at..]);
+    folding.plus(olds, sums).copy_to_slice(&mut row[at..]);
 }
 
 // The sums of products of four rows of coefficients at four columns.
@@ -180,41 +180,33 @@ fn sums_at(
     }
 }
 
-// Adds the sums of a run's products to up to four rows, from the block's row `at` on, at a tile's columns or at the first of them.
-fn add_tile(
-    rows: &mut [Dense<u32>],
+// The sums of the products of the first rows of coefficients, so many, at a tile's columns.
+fn tile_sums(
     by: &[[u64; PANEL]; BLOCK_ROWS],
-    at: usize,
+    height: usize,
     tile: &[[u32; TILE_COLUMNS]; PANEL],
     run: Run,
-    columns: Columns,
-    width: usize,
-    folding: &Folding,
-)
-    requires few { length rows.old ≤ TILE_ROWS }
-    requires residues { AreVectors folding.now.p width rows.old }
-    requires four { at + TILE_ROWS ≤ BLOCK_ROWS }
+) -> [u64x8; BLOCK_ROWS]
+    requires few { height ≤ BLOCK_ROWS }
     requires small { AreSmall by.now tile.now run }
-    requires order { columns.start ≤ columns.end }
-    requires narrow { columns.end ≤ columns.start + TILE_COLUMNS }
-    requires inside { columns.start + TILE_COLUMNS ≤ width }
-    ensures { AddsToEach folding.now.p columns
-        (λ t. tile_products by.now tile.now run columns.start (at + t)) rows.old rows.new }
+    ensures { (t k : ℕ) → t < height → k < 8 → entry_of result t k ≡ products_of by.now tile.now run t k }
 {
-    let left = sums_at(by, at, tile, run, 0);
-    let right = sums_at(by, at, tile, run, 4);
-    let sums = [
-        joined(left.first, right.first),
-        joined(left.second, right.second),
-        joined(left.third, right.third),
-        joined(left.fourth, right.fourth),
-    ];
-    for t in 0..rows.len() {
-        rows[t].add_sums(columns, sums[t], folding);
+    let mut sums = [u64x8::splat(0); BLOCK_ROWS];
+    let mut row = 0;
+    while row < height {
+        let left = sums_at(by, row, tile, run, 0);
+        let right = sums_at(by, row, tile, run, 4);
+        sums[row] = joined(left.first, right.first);
+        sums[row + 1] = joined(left.second, right.second);
+        sums[row + 2] = joined(left.third, right.third);
+        sums[row + 3] = joined(left.fourth, right.fourth);
+        row += TILE_ROWS;
     }
+    sums
 }
 
-// Adds the sums of a run's products to the rows of a block at a tile's columns, some rows at a time.
+// Adds the sums of a run's products to the rows of a block at a tile's columns, or at the first of them. What the rows have there is
+// read before the products, all at once, since the rows lie far apart: so the processor waits for many of them at a time.
 fn add_run(
     rows: &mut [Dense<u32>],
     by: &[[u64; PANEL]; BLOCK_ROWS],
@@ -233,20 +225,10 @@ fn add_run(
     ensures { AddsToEach folding.now.p columns
         (tile_products by.now tile.now run columns.start) rows.old rows.new }
 {
-    let mut at = 0;
-    while at < rows.len() {
-        let end = rows.len().min(at + TILE_ROWS);
-        add_tile(
-            &mut rows[at..end],
-            by,
-            at,
-            tile,
-            run,
-            columns,
-            width,
-            folding,
-        );
-        at += TILE_ROWS;
+    let olds = tile_of(rows, columns.start);
+    let sums = tile_sums(by, rows.len(), tile, run);
+    for t in 0..rows.len() {
+        rows[t].add_sums(columns, &olds[t], sums[t], folding);
     }
 }
 
@@ -282,16 +264,16 @@ fn add_columns(
     }
 }
 
-// The entries of the units at the eight columns from `start` on, one unit behind the other.
-fn tile_of(units: &[Dense<u32>], start: usize) -> [[u32; TILE_COLUMNS]; PANEL]
-    requires high { length units.now ≤ PANEL }
-    requires wide { (k : ℕ) → k < length units.now → start + TILE_COLUMNS ≤ length (block_row units.now k) }
+// The entries of the rows at the eight columns from `start` on, one row behind the other.
+fn tile_of(rows: &[Dense<u32>], start: usize) -> [[u32; TILE_COLUMNS]; PANEL]
+    requires high { length rows.now ≤ PANEL }
+    requires wide { (k : ℕ) → k < length rows.now → start + TILE_COLUMNS ≤ length (block_row rows.now k) }
     ensures long { length result ≡ PANEL }
-    ensures tile { IsTile start units.now result }
+    ensures tile { IsTile start rows.now result }
 {
     let mut tile = [[0u32; TILE_COLUMNS]; PANEL];
-    for k in 0..units.len() {
-        tile[k] = units[k].eight_at(start);
+    for k in 0..rows.len() {
+        tile[k] = rows[k].eight_at(start);
     }
     tile
 }

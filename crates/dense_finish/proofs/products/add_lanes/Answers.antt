@@ -1,14 +1,13 @@
 use Rattle.std.proofs.Common.{ap, arith, ◌∙◌, ◌+◌, ◌%◌, slice_index}
-use Rattle.std.proofs.lemmas.Simd.{get_or-chunk}
 use Rattle.dense_finish.proofs.ProductSums.{adds_lanes}
 use Rattle.dense_finish.proofs.products.add_lanes.Goals as goal
 
 pub plus-requires : goal.plus-requires
-plus-requires c = λ k l. omega (arith, get_or-chunk c.args.at 8 c.args.row.now k 0 l, c.requires.residues (c.args.at + k) (omega (arith, c.requires.room)))
+plus-requires c = λ k l. omega (arith, c.requires.olds k l, c.requires.residues (c.args.at + k) (omega (arith, c.requires.room)))
 
 pub returns : goal.returns
 returns c =
     let at = c.args.at in
     let row = c.args.row.now in
     adds_lanes c.args.folding.now.p at (λ k. slice_index c.args.sums k) row c.plus.result c.requires.room (omega arith)
-    (λ k l. c.plus.ensures k l ∙ ap (λ t. (t + slice_index c.args.sums k) % c.args.folding.now.p) (get_or-chunk at 8 row k 0 l))
+    (λ k l. c.plus.ensures k l ∙ ap (λ t. (t + slice_index c.args.sums k) % c.args.folding.now.p) (c.requires.olds k l))

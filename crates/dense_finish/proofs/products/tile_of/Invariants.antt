@@ -5,5 +5,5 @@ use Rattle.dense_finish.proofs.products.tile_of.Given as goal
 abbrev pub invariant-loop-k : goal.invariant-loop-k
 invariant-loop-k l = record {
   long : length l.tile ≡ 64;
-  filled : (k j : ℕ) → k < l.k → j < 8 → entry_of l.tile k j ≡ entry_of l.units k (l.start + j);
+  filled : (k j : ℕ) → k < l.k → j < 8 → entry_of l.tile k j ≡ entry_of l.rows k (l.start + j);
 }
