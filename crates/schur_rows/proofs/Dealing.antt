@@ -5,9 +5,8 @@ use Rattle.std.proofs.Math.Seq.{get_or-append_seam}
 use Rattle.std.proofs.Math.Nat.{lt_of_mul-lt-mul_right}
 use Rattle.std.proofs.lemmas.Bool.{cases_eq}
 use Rattle.residue_words.specs.Matrix.{Matrix}
-use Rattle.sparse_rows.specs.Rows.{ResidueMatrix}
 use Rattle.triangular_solve.specs.Triangle.{TriangleState}
-use Rattle.schur_rows.specs.Parts.{HasParts, HaveParts, IsPartOf, IsPartTo, Joins, cut_at}
+use Rattle.schur_rows.specs.Parts.{HasParts, HaveParts, IsDeal, IsPartOf, IsPartTo, Joins, cut_at}
 use Rattle.schur_rows.specs.declared.round.SchurRows.{SchurRows}
 use Rattle.schur_rows.specs.declared.workers.Deal.{Deal}
 use Rattle.schur_rows.proofs.Parting.{part_join}
@@ -59,22 +58,22 @@ pub shared_part : {E : Type 0} (t : TriangleState) (deal : Deal) (shares : List 
 shared_part {E} t deal shares some long all j l r parts at is =
     subst (λ (x : Result (Vec SchurRows Global) E). IfOk x (λ v. HasParts t deal (j % deal.workers) v.items)) (sym at ∙ is) (all (j % deal.workers) r (let low = mod-lt j some in omega (arith, long)))
 
-pub cut_none : (height : ℕ) (deal : Deal) → cut_at height deal 0 ≡ 0
-cut_none height deal = omega arith
+pub cut_none : {deal : Deal} → IsDeal deal → cut_at deal 0 ≡ deal.from
+cut_none {deal} h = omega (arith, h.order)
 
-pub joined_part : (t : TriangleState) (deal : Deal) (j : ℕ) {made part new : SchurRows} → IsPartTo t deal.kept 0 (cut_at t.rows.matrix.height deal j) made → IsPartOf t deal j part → Joins part made new →
-    IsPartTo t deal.kept 0 (cut_at t.rows.matrix.height deal (j + 1)) new
+pub cut_all : {deal : Deal} → IsDeal deal → cut_at deal deal.count ≡ deal.to
+cut_all {deal} h = omega (arith, h.covered)
+
+pub joined_part : (t : TriangleState) (deal : Deal) (j : ℕ) {made part new : SchurRows} → IsPartTo t deal.kept deal.from (cut_at deal j) made → IsPartOf t deal j part → Joins part made new →
+    IsPartTo t deal.kept deal.from (cut_at deal (j + 1)) new
 joined_part t deal j {made} {part} {new} h g join = (
-  part_join t deal.kept 0 (cut_at t.rows.matrix.height deal j) made part new h.0 g.0 h.1 join,
+  part_join t deal.kept deal.from (cut_at deal j) made part new h.0 g.0 h.1 join,
   omega (arith, h.1, g.1, ap (λ (M : Matrix). M.height) join.rows),
 )
 
 -- a part as it is cut, and as it is read
-pub part_at : {t : TriangleState} (deal : Deal) (j : ℕ) {R : ResidueMatrix} {h from to : ℕ} {s : SchurRows} → R ≡ t.rows → h ≡ R.matrix.height → from ≡ cut_at h deal j → to ≡ cut_at h deal (j + 1) →
-    IsPartTo t deal.kept from to s → IsPartOf t deal j s
-part_at {t} deal j {R} {h} {from} {to} {s} same value a b part =
-    let high : h ≡ t.rows.matrix.height = value ∙ ap (λ (R : ResidueMatrix). R.matrix.height) same in
-    subst (λ h. IsPartTo t deal.kept (cut_at h deal j) (cut_at h deal (j + 1)) s) high (subst (λ a. IsPartTo t deal.kept a (cut_at h deal (j + 1)) s) a (subst (λ b. IsPartTo t deal.kept from b s) b part))
+pub part_at : {t : TriangleState} (deal : Deal) (j : ℕ) {from to : ℕ} {s : SchurRows} → from ≡ cut_at deal j → to ≡ cut_at deal (j + 1) → IsPartTo t deal.kept from to s → IsPartOf t deal j s
+part_at {t} deal j {from} {to} {s} a b part = subst (λ a. IsPartTo t deal.kept a (cut_at deal (j + 1)) s) a (subst (λ b. IsPartTo t deal.kept from b s) b part)
 
 pub read_part : {E : Type 0} (t : TriangleState) (deal : Deal) (shares : List (Result (Vec SchurRows Global) E)) → 1 ≤ deal.workers → length shares ≡ deal.workers → HaveParts t deal shares →
     (j : ℕ) → j < deal.count → (r : Result (Vec SchurRows Global) E) (parts : Vec SchurRows Global) → r ≡ slice_index_or shares (j % deal.workers) r → r ≡ Ok parts →

@@ -3,6 +3,7 @@ pub mod Below
 pub mod Copying
 pub mod Dealing
 pub mod Distinct
+pub mod FactorRows
 pub mod Joining
 pub mod Numbers
 pub mod Parting

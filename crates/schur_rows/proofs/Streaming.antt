@@ -1,160 +1,117 @@
--- The rows that a round leaves, taken into a basis one after another.
-use Rattle.std.proofs.Common.{ℕ, ◌≡◌, ◌+◌, ◌*◌, ◌%◌, ◌<◌, ◌≤◌, ◌∙◌, Bool, inl, inr, List, [], length, slice_index, sym, refl, ap, subst, arith, zero-mul}
-use Rattle.std.proofs.lemmas.Bool.{cases_eq}
-use Rattle.residue_words.specs.declared.plain.Pair.{Pair}
-use Rattle.residue_words.specs.Residues.{IsPrime, sum_below}
-use Rattle.residue_words.specs.Matrix.{Matrix, IsCombination, IsMatrix, IsVector, entry, row, zeros}
-use Rattle.residue_words.proofs.Sums.{sum_zero}
-use Rattle.residue_words.proofs.Vectors.{at_zeros, combination_of, combination_through, zeros_vector}
-use Rattle.row_space.specs.Echelon.{HasRank, IsIndependent, SameSpan}
-use Rattle.row_space.specs.Factors.{row_at}
-use Rattle.row_space.specs.Laws.{RrefExists, SpanFixesHeight}
-use Rattle.row_space.specs.Rows.{of_rows}
-use Rattle.row_space.proofs.Rows as Rows
+-- A basis of what a round leaves, made chunk by chunk.
+use Rattle.std.proofs.Common.{ℕ, ◌≡◌, ◌+◌, ◌<◌, ◌≤◌, ◌∙◌, false, List, [], length, sym, refl, ap, subst, arith}
+use Rattle.residue_words.specs.Residues.{IsPrime}
+use Rattle.residue_words.specs.Matrix.{Matrix, IsCombination, IsMatrix, row, zeros}
+use Rattle.residue_words.proofs.Vectors.{combination_through, row_combination, vector_equal, zeros_vector}
+use Rattle.row_space.specs.Echelon.{HasRank, SameSpan}
+use Rattle.row_space.proofs.Counting.{span_height}
+use Rattle.row_space.proofs.Exists.{rref_of_each}
 use Rattle.row_space.proofs.Rows.{rank_of_independent}
-use Rattle.row_space.proofs.Spans.{same_span_chained, same_span_turned}
-use Rattle.sparse_rows.specs.Rows.{ResidueMatrix, ResidueRow, nonzeros, support}
-use Rattle.sparse_rows.specs.Stored.{spread, with_row}
-use Rattle.sparse_rows.proofs.Loops.{matrix_more, row_before, row_last}
-use Rattle.sparse_rows.proofs.Spread.{spread_support}
+use Rattle.row_space.proofs.Spans.{same_span_chained, same_span_of_rows}
+use Rattle.sparse_rows.specs.Rows.{ResidueMatrix}
 use Rattle.pivot_table.specs.Order.{Triangular}
-use Rattle.triangular_solve.specs.Reduced.{FitsRest, IsComplement, IsPivotRow, IsSchurRow}
 use Rattle.triangular_solve.specs.Triangle.{TriangleState}
-use Rattle.triangular_solve.proofs.Appending.{of_own_rows, with_own_row}
-use Rattle.dense_finish.specs.DenseBasis.{IsSoundBasis, ReceivesRow, no_basis}
-use Rattle.schur_rows.specs.PivotNumbers.{IsRowOfPair}
-use Rattle.schur_rows.specs.Streamed.{FitsBasis, TakesLeft}
+use Rattle.dense_finish.specs.Factors.{IsFactored}
+use Rattle.dense_finish.specs.declared.factors.Factors.{Factors}
+use Rattle.schur_rows.specs.Parts.{IsPartTo}
+use Rattle.schur_rows.specs.Round.{above}
+use Rattle.schur_rows.specs.Streamed.{IsBasisLeft, IsBasisUpTo}
+use Rattle.schur_rows.specs.declared.round.SchurRows.{SchurRows}
+use Rattle.schur_rows.proofs.Above.{above_first, above_matrix, above_second, each_of}
+use Rattle.schur_rows.proofs.FactorRows.{factor_rows_independent, factor_rows_span, fit_few}
+use Rattle.schur_rows.proofs.Parting.{part_join, part_none}
 use Rattle.schur_rows.proofs.Spanning.{round_ranked}
+use Rattle.schur_rows.proofs.Whole.{whole_complement}
 
--- a row more keeps two row spaces the same
-both_more : {p : ℕ} {A K : Matrix} (w : List ℕ) → 2 ≤ p → IsMatrix p A → IsMatrix p K → K.width ≡ A.width → IsVector p A.width w → SameSpan p A K → SameSpan p (with_row A w) (with_row K w)
-both_more {p} {A} {K} w two ma mk wide vector same =
-    let ma' : IsMatrix p (of_rows A.width A.rows) = subst (IsMatrix p) (sym (of_own_rows p A ma)) ma in
-    let is : of_rows A.width K.rows ≡ K = ap (λ n. of_rows n K.rows) (sym wide) ∙ of_own_rows p K mk in
-    let mk' : IsMatrix p (of_rows A.width K.rows) = subst (IsMatrix p) (sym is) mk in
-    let same' : SameSpan p (of_rows A.width A.rows) (of_rows A.width K.rows) =
-    subst (λ B. SameSpan p B (of_rows A.width K.rows)) (sym (of_own_rows p A ma)) (subst (SameSpan p A) (sym is) same) in
-    let base = Rows.span_with_new p A.width A.rows K.rows w w two ma' mk' vector vector same'
-    (Rows.combination_last p A.width K.rows w two mk' vector) (Rows.combination_last p A.width A.rows w two ma' vector) in
-    subst (λ B. SameSpan p B (with_row K w)) (with_own_row p A w ma)
-    (subst (SameSpan p (Rows.with_row A.width A.rows w)) (ap (λ n. Rows.with_row n K.rows w) (sym wide) ∙ with_own_row p K w mk) base)
+-- rows of P are combinations of those of Q, and the same rows are below both
+module _ {p : ℕ} {P Q L : Matrix} (two : 2 ≤ p) (mp : IsMatrix p P) (mq : IsMatrix p Q) (ml : IsMatrix p L) (wide : L.width ≡ Q.width) (within : (v : List ℕ) → IsCombination p P v → IsCombination p Q v) where
+  abbrev N : Matrix
+  N = above Q L
 
--- the zero row is in each row space, and adds nothing to it
-zero_in : (p : ℕ) (K : Matrix) → 2 ≤ p → IsCombination p K (zeros K.width)
-zero_in p K two = combination_of p K (zeros K.width) (λ k. 0) (omega arith) (zeros_vector p K.width (omega arith)) (λ j l.
-    ap (λ x. x % p) (at_zeros K.width j l ∙ sym (sum_zero K.height (λ k. 0 * entry K k j) (λ k b. zero-mul (entry K k j)))))
+  mn : IsMatrix p N
+  mn = above_matrix mq ml wide
 
-zero_more : (p : ℕ) (K : Matrix) → 2 ≤ p → IsMatrix p K → SameSpan p K (with_row K (zeros K.width))
-zero_more p K two m =
-    let m' : IsMatrix p (of_rows K.width K.rows) = subst (IsMatrix p) (sym (of_own_rows p K m)) m in
-    let base = Rows.span_with_old p K.width K.rows K.rows (zeros K.width) two m' m' (zeros_vector p K.width (omega arith)) (λ x. ((λ y. y), (λ y. y))) (zero_in p (of_rows K.width K.rows) two) in
-    same_span_turned p (with_row K (zeros K.width)) K
-    (subst (λ B. SameSpan p B K) (with_own_row p K (zeros K.width) m) (subst (SameSpan p (Rows.with_row K.width K.rows (zeros K.width))) (of_own_rows p K m) base))
+  upper : (i : ℕ) → i < Q.height → IsCombination p N (row Q i)
+  upper i l = subst (IsCombination p N) (above_first L mq i l) (row_combination p N i two mn (omega arith))
 
--- nothing is left of a pivot's row
-pub takes_pivot : {t : TriangleState} {qs : List Pair} {i k : ℕ} {b : ResidueMatrix} → FitsBasis t b → IsSoundBasis b → qs ≡ t.pairs → IsRowOfPair qs i k → TakesLeft t i b b
-takes_pivot {t} {qs} {i} {k} {b} fits sound pairs is =
-    let two : 2 ≤ t.rows.modulus = omega (arith, fits.modulus, sound.two_or_more) in
-    record {
-      left = zeros t.rows.matrix.width;
-      vector = zeros_vector t.rows.modulus t.rows.matrix.width (omega arith);
-      nothing = λ x. refl;
-      schur = λ prime no. absurd (subst (λ qs. ¬ IsPivotRow qs i) (sym pairs) no (k, is.0, is.1));
-      span = λ prime. subst (λ n. SameSpan t.rows.modulus b.matrix (with_row b.matrix (zeros n))) fits.width
-          (zero_more t.rows.modulus b.matrix two (subst (λ p. IsMatrix p b.matrix) fits.modulus sound.matrix));
-    }
+  pub rows_within : (k : ℕ) → k < P.height + L.height → IsCombination p N (row (above P L) k)
+  rows_within k l = each_of P.height L.height (λ k. IsCombination p N (row (above P L) k))
+      (λ k a. subst (IsCombination p N) (sym (above_first L mp k a)) (combination_through p Q N (row P k) (omega arith) refl upper (within (row P k) (row_combination p P k two mp a))))
+      (λ t a. subst (IsCombination p N) (above_second L mq t ∙ sym (above_second L mp t)) (row_combination p N (Q.height + t) two mn (omega arith)))
+      k l
 
--- what is left of another row
-pub takes_rest : {t : TriangleState} {R : ResidueMatrix} {qs : List Pair} {i : ℕ} {cols vals inner values : List ℕ} {w : ResidueRow} {old new : ResidueMatrix} (rose : Bool) → FitsBasis t old → R ≡ t.rows → IsMatrix R.modulus R.matrix →
-    i < t.rows.matrix.height → cols ≡ support (row R.matrix i) → vals ≡ nonzeros (row R.matrix i) → qs ≡ t.pairs → ¬ IsPivotRow qs i → FitsRest t w →
-    (IsPrime t.rows.modulus → IsSchurRow t.rows.modulus t.rows.matrix t.pairs (spread t.rows.matrix.width cols vals) w.row) →
-    inner ≡ support w.row → values ≡ nonzeros w.row → ReceivesRow old (spread old.matrix.width inner values) new rose → TakesLeft t i old new
-takes_rest {t} {R} {qs} {i} {cols} {vals} {inner} {values} {w} {old} {new} rose fits same sound li columns stands pairs none rest schur inside nonzero taken =
-    let free : ¬ IsPivotRow t.pairs i = subst (λ qs. ¬ IsPivotRow qs i) pairs none in
-    let n : ℕ = t.rows.matrix.width in
-    let m : IsMatrix t.rows.modulus t.rows.matrix = subst (λ (R : ResidueMatrix). IsMatrix R.modulus R.matrix) same sound in
-    let v : spread n cols vals ≡ row t.rows.matrix i =
-    ap (λ c. spread n c vals) (columns ∙ ap (λ (R : ResidueMatrix). support (row R.matrix i)) same)
-    ∙ ap (spread n (support (row t.rows.matrix i))) (stands ∙ ap (λ (R : ResidueMatrix). nonzeros (row R.matrix i)) same) ∙ spread_support n (row t.rows.matrix i) (m.each i li).len in
-    let u : spread old.matrix.width inner values ≡ w.row =
-    ap (λ x. spread x inner values) fits.width ∙ ap (λ c. spread n c values) inside ∙ ap (spread n (support w.row)) nonzero ∙ spread_support n w.row rest.vector.len in
-    record {
-      left = w.row;
-      vector = rest.vector;
-      nothing = λ x. absurd (free x);
-      schur = λ prime no. subst (λ v. IsSchurRow t.rows.modulus t.rows.matrix t.pairs v w.row) v (schur prime);
-      span = subst (λ p. IsPrime p → SameSpan p new.matrix (with_row old.matrix w.row)) fits.modulus
-          (subst (λ x. IsPrime old.modulus → SameSpan old.modulus new.matrix (with_row old.matrix x)) u taken.span);
-    }
+-- the same rows below two matrices of one row space
+pub below_same : {p : ℕ} {P Q L : Matrix} → 2 ≤ p → IsMatrix p P → IsMatrix p Q → IsMatrix p L → Q.width ≡ P.width → L.width ≡ P.width → SameSpan p P Q → SameSpan p (above P L) (above Q L)
+below_same {p} {P} {Q} {L} two mp mq ml wide below same =
+    same_span_of_rows p (above P L) (above Q L) (omega arith) (sym wide)
+    (rows_within two mp mq ml (below ∙ sym wide) (λ v. (same v).0))
+    (rows_within two mq mp ml below (λ v. (same v).1))
 
--- the first i rows that the round leaves, and a basis of them
-pub record IsStreamed (t : TriangleState) (i : ℕ) (b : ResidueMatrix) : Type 0 where
-  pub fits : FitsBasis t b
-  pub part : Matrix
-  pub matrix : IsMatrix t.rows.modulus part
-  pub height : part.height ≡ i
-  pub width : part.width ≡ t.rows.matrix.width
-  pub nothing : (x : ℕ) → x < i → IsPivotRow t.pairs x → row part x ≡ zeros t.rows.matrix.width
-  pub left : IsPrime t.rows.modulus → (x : ℕ) → x < i → ¬ IsPivotRow t.pairs x → IsSchurRow t.rows.modulus t.rows.matrix t.pairs (row t.rows.matrix x) (row part x)
-  pub span : IsPrime t.rows.modulus → SameSpan t.rows.modulus part b.matrix
-
-pub streamed_none : {t : TriangleState} {p n : ℕ} {b : ResidueMatrix} → p ≡ t.rows.modulus → n ≡ t.rows.matrix.width → b ≡ no_basis p n → IsStreamed t 0 b
-streamed_none {t} {p} {n} {b} modulus width is =
-    let none : Matrix = record { height = 0; width = t.rows.matrix.width; rows = [] } in
-    let same : b.matrix ≡ none = ap (λ (b : ResidueMatrix). b.matrix) is ∙ ap (λ n. record { height = 0; width = n; rows = [] }) width in
-    record {
-      fits = record { modulus = ap (λ (b : ResidueMatrix). b.modulus) is ∙ modulus; width = ap (λ (M : Matrix). M.width) same };
-      part = none;
-      matrix = record { len = refl; each = λ i l. absurd (omega arith) };
-      height = refl;
-      width = refl;
-      nothing = λ x l. absurd (omega arith);
-      left = λ prime x l. absurd (omega arith);
-      span = λ prime. subst (SameSpan t.rows.modulus none) (sym same) (λ v. ((λ y. y), (λ y. y)));
-    }
-
-pub streamed_more : {t : TriangleState} {i : ℕ} {old new : ResidueMatrix} → IsStreamed t i old → IsSoundBasis old → new.modulus ≡ old.modulus → new.matrix.width ≡ old.matrix.width → TakesLeft t i old new → IsStreamed t (i + 1) new
-streamed_more {t} {i} {old} {new} h sound modulus width takes =
-    let p : ℕ = t.rows.modulus in
-    let w : List ℕ = takes.left in
-    let vector : IsVector p h.part.width w = subst (λ n. IsVector p n w) (sym h.width) takes.vector in
-    let mk : IsMatrix p old.matrix = subst (λ q. IsMatrix q old.matrix) h.fits.modulus sound.matrix in
-    let last : row (with_row h.part w) i ≡ w = subst (λ x. row (with_row h.part w) x ≡ w) h.height (row_last w h.matrix) in
-    record {
-      fits = record { modulus = modulus ∙ h.fits.modulus; width = width ∙ h.fits.width };
-      part = with_row h.part w;
-      matrix = matrix_more h.matrix vector;
-      height = ap (λ x. x + 1) h.height;
-      width = h.width;
-      nothing = λ x l pivot. elim (cases_eq x i) [
-        | inl e ↦ ap (row (with_row h.part w)) e ∙ last ∙ takes.nothing (subst (IsPivotRow t.pairs) e pivot)
-        | inr d ↦ let less : x < i = omega arith in row_before w h.matrix x (omega (arith, h.height)) ∙ h.nothing x less pivot
-      ];
-      left = λ prime x l no. elim (cases_eq x i) [
-        | inl e ↦ subst (λ y. IsSchurRow p t.rows.matrix t.pairs (row t.rows.matrix y) (row (with_row h.part w) y)) (sym e)
-            (subst (IsSchurRow p t.rows.matrix t.pairs (row t.rows.matrix i)) (sym last) (takes.schur prime (λ z. no (subst (IsPivotRow t.pairs) (sym e) z))))
-        | inr d ↦ let less : x < i = omega arith in
-            subst (IsSchurRow p t.rows.matrix t.pairs (row t.rows.matrix x)) (sym (row_before w h.matrix x (omega (arith, h.height)))) (h.left prime x less no)
-      ];
-      span = λ prime. let two = prime.two_or_more in
-          same_span_chained p (with_row h.part w) (with_row old.matrix w) new.matrix
-          (both_more w two h.matrix mk (h.fits.width ∙ sym h.width) vector (h.span prime))
-          (same_span_turned p new.matrix (with_row old.matrix w) (takes.span prime));
-    }
-
--- of all rows: the basis has as many rows as the rank of what is left
-pub streamed_all : {t : TriangleState} {i : ℕ} {b : ResidueMatrix} → RrefExists → SpanFixesHeight → IsMatrix t.rows.modulus t.rows.matrix → Triangular t.rows.matrix t.pairs → IsStreamed t i b → i ≡ t.rows.matrix.height → IsSoundBasis b →
-    IsPrime t.rows.modulus → HasRank t.rows.modulus t.rows.matrix (length t.pairs + b.matrix.height)
-streamed_all {t} {i} {b} exists fixes m tri h all sound prime =
-    let p : ℕ = t.rows.modulus in
-    let mk : IsMatrix p b.matrix = subst (λ q. IsMatrix q b.matrix) h.fits.modulus sound.matrix in
-    let complement : IsComplement p t.rows.matrix t.pairs h.part = record {
-      matrix = h.matrix;
-      height = h.height ∙ all;
-      width = h.width;
-      pivotal = λ k j l lj. ap (λ u. slice_index u j) (h.nothing (row_at t.pairs k) (omega (arith, all, (tri.nonzero k l).0)) (k, l, refl)) ∙ at_zeros t.rows.matrix.width j lj;
-      others = λ x l no. h.left prime x (omega (arith, all)) no;
+-- no row is left of no row
+pub basis_none : {t : TriangleState} {b : ResidueMatrix} {p n : ℕ} → 2 ≤ p → p ≡ t.rows.modulus → n ≡ t.rows.matrix.width → b.modulus ≡ p → b.matrix ≡ record { height = 0; width = n; rows = [] } → IsBasisUpTo t 0 b
+basis_none {t} {b} {p} {n} two modulus width sound is =
+    let none : ℕ → Matrix = λ n. record { height = 0; width = n; rows = [] } in
+    let m : ℕ = t.rows.modulus in
+    let big : 2 ≤ m = omega arith in
+    let same : b.matrix ≡ none t.rows.matrix.width = is ∙ ap none width in
+    let part : SchurRows = record {
+      rows = record { modulus = m; matrix = none t.rows.matrix.width };
+      coefficients = record { modulus = m; matrix = none (length t.pairs) };
     } in
-    let free = subst (λ q. IsPrime q → IsIndependent q b.matrix) h.fits.modulus sound.independent in
-    let below : HasRank p h.part b.matrix.height = rank_of_independent exists fixes p h.part b.matrix prime h.matrix mk (h.width ∙ sym h.fits.width) (free prime) (h.span prime) in
-    round_ranked p t.rows.matrix t.pairs h.part b.matrix.height prime m tri complement below
+    record {
+      modulus = sound ∙ modulus;
+      matrix = subst (IsMatrix m) (sym same) (record { len = refl; each = λ i l. absurd (omega arith) });
+      width = ap (λ (M : Matrix). M.width) same;
+      height = omega (arith, ap (λ (M : Matrix). M.height) same);
+      part = part;
+      is_part = part_none t false 0 {s = part} refl refl refl refl;
+      independent = λ prime y vector e. vector_equal m b.matrix.height y (zeros b.matrix.height) vector (zeros_vector m b.matrix.height (omega arith))
+          (λ k l. absurd (omega (arith, ap (λ (M : Matrix). M.height) same)));
+      span = λ prime. subst (SameSpan m (none t.rows.matrix.width)) (sym same) (λ v. ((λ y. y), (λ y. y)));
+    }
+
+-- one chunk more
+pub basis_more : {t : TriangleState} {from to : ℕ} {old stacked : ResidueMatrix} {left : SchurRows} {f : Factors} → IsBasisUpTo t from old → IsPartTo t false from to left → stacked.modulus ≡ old.modulus →
+    stacked.matrix ≡ above old.matrix left.rows.matrix → IsFactored stacked.modulus stacked.matrix f → IsBasisUpTo t to f.u
+basis_more {t} {from} {to} {old} {stacked} {left} {f} h g modulus is factored =
+    let p : ℕ = t.rows.modulus in
+    let N : Matrix = above old.matrix left.rows.matrix in
+    let at : IsFactored p N f = subst (λ p. IsFactored p N f) (modulus ∙ h.modulus) (subst (λ N. IsFactored stacked.modulus N f) is factored) in
+    let mn : IsMatrix p N = above_matrix h.matrix g.0.rest (g.0.width ∙ sym h.width) in
+    let both : SchurRows = record {
+      rows = record { modulus = h.part.rows.modulus; matrix = above h.part.rows.matrix left.rows.matrix };
+      coefficients = record { modulus = h.part.coefficients.modulus; matrix = above h.part.coefficients.matrix left.coefficients.matrix };
+    } in
+    record {
+      modulus = at.right_modulus;
+      matrix = at.fit.right;
+      width = at.fit.right_width ∙ h.width;
+      height = omega (arith, fit_few at.fit, at.fit.right_height, h.height, g.1);
+      part = both;
+      is_part = (
+        part_join t false 0 from h.part left both h.is_part.0 g.0 h.is_part.1 (record { modulus = refl; rows = refl; coefficient_modulus = refl; coefficients = refl }),
+        omega (arith, h.is_part.1, g.1),
+      );
+      independent = λ prime. factor_rows_independent prime mn (at.factors prime);
+      span = λ prime. same_span_chained p (above h.part.rows.matrix left.rows.matrix) N f.u.matrix
+          (below_same prime.two_or_more h.is_part.0.rest h.matrix g.0.rest (h.width ∙ sym h.is_part.0.width) (g.0.width ∙ sym h.is_part.0.width) (h.span prime))
+          (factor_rows_span prime mn (at.factors prime));
+    }
+
+-- of all rows
+pub basis_all : {t : TriangleState} {from : ℕ} {b : ResidueMatrix} → Triangular t.rows.matrix t.pairs → IsBasisUpTo t from b → from ≡ t.rows.matrix.height → IsBasisLeft t b
+basis_all {t} {from} {b} tri h all = record {
+  fits = record { modulus = h.modulus; matrix = h.matrix; width = h.width; height = omega (arith, h.height) };
+  independent = h.independent;
+  span = λ prime. (h.part.rows.matrix, whole_complement tri (subst (λ to. IsPartTo t false 0 to h.part) all h.is_part) prime, h.span prime);
+}
+
+-- it has as many rows as the rank of what is left
+pub basis_rank : {t : TriangleState} {b : ResidueMatrix} → IsMatrix t.rows.modulus t.rows.matrix → Triangular t.rows.matrix t.pairs → IsBasisLeft t b →
+    IsPrime t.rows.modulus → HasRank t.rows.modulus t.rows.matrix (length t.pairs + b.matrix.height)
+basis_rank {t} {b} m tri h prime =
+    let p : ℕ = t.rows.modulus in
+    let left = h.span prime in
+    let below : HasRank p left.0 b.matrix.height =
+    rank_of_independent (λ p A prime m. rref_of_each p A prime m) span_height p left.0 b.matrix prime left.1.matrix h.fits.matrix (left.1.width ∙ sym h.fits.width) (h.independent prime) left.2 in
+    round_ranked p t.rows.matrix t.pairs left.0 b.matrix.height prime m tri left.1 below

@@ -94,22 +94,23 @@ pub record Joins (part old new : SchurRows) : Type 0 where
   pub coefficient_modulus : new.coefficients.modulus ≡ old.coefficients.modulus
   pub coefficients : new.coefficients.matrix ≡ above old.coefficients.matrix part.coefficients.matrix
 
--- the parts cover so many rows
-pub record IsDeal (height : ℕ) (deal : Deal) : Type 0 where
+-- the parts cover the rows from `from` up to `to`
+pub record IsDeal (deal : Deal) : Type 0 where
+  pub order : deal.from ≤ deal.to
+  pub end : deal.to ≤ LARGEST_SIZE
   pub some : 1 ≤ deal.workers
   pub few : deal.count ≤ 1024
   pub few_workers : deal.workers ≤ 64
   pub small : deal.size ≤ LARGEST_SIZE + 1
-  pub covered : height ≤ deal.count * deal.size
+  pub covered : deal.to ≤ deal.from + deal.count * deal.size
 
 -- where part j begins
-abbrev pub cut_at : ℕ → Deal → ℕ → ℕ
-cut_at height deal j = min height (j * deal.size)
+abbrev pub cut_at : Deal → ℕ → ℕ
+cut_at deal j = min deal.to (deal.from + j * deal.size)
 
 -- part j
 abbrev pub IsPartOf : TriangleState → Deal → ℕ → SchurRows → Type 0
-IsPartOf t deal j s = IsPartTo t deal.kept (cut_at t.rows.matrix.height deal j)
-    (cut_at t.rows.matrix.height deal (j + 1)) s
+IsPartOf t deal j s = IsPartTo t deal.kept (cut_at deal j) (cut_at deal (j + 1)) s
 
 -- a worker makes the parts worker, worker + workers, worker + 2 workers and so on
 pub record HasParts (t : TriangleState) (deal : Deal) (worker : ℕ) (parts : List SchurRows) : Type 0 where

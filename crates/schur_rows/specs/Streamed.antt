@@ -1,23 +1,35 @@
--- Rows that a round leaves, taken into a basis one after another and not kept.
-use Rattle.std.specs.Prelude.{◌≡◌, ℕ, List}
+-- A basis of what a round leaves, made chunk by chunk.
+use Rattle.std.specs.Prelude.{◌≡◌, ◌≤◌, ℕ, false}
 use Rattle.residue_words.specs.Residues.{IsPrime}
-use Rattle.residue_words.specs.Matrix.{IsVector, row, zeros}
-use Rattle.row_space.specs.Echelon.{SameSpan}
+use Rattle.residue_words.specs.Matrix.{Matrix, IsMatrix}
+use Rattle.row_space.specs.Echelon.{IsIndependent, SameSpan}
 use Rattle.sparse_rows.specs.Rows.{ResidueMatrix}
-use Rattle.sparse_rows.specs.Stored.{with_row}
-use Rattle.triangular_solve.specs.Reduced.{IsPivotRow, IsSchurRow}
+use Rattle.triangular_solve.specs.Reduced.{IsComplement}
 use Rattle.triangular_solve.specs.Triangle.{TriangleState}
+use Rattle.schur_rows.specs.Parts.{IsPartTo}
+use Rattle.schur_rows.specs.declared.round.SchurRows.{SchurRows}
 
--- the basis took in what the pivots leave of row i: nothing of a pivot's row
-pub record TakesLeft (t : TriangleState) (i : ℕ) (old new : ResidueMatrix) : Type 0 where
-  pub left : List ℕ
-  pub vector : IsVector t.rows.modulus t.rows.matrix.width left
-  pub nothing : IsPivotRow t.pairs i → left ≡ zeros t.rows.matrix.width
-  pub schur : IsPrime t.rows.modulus → ¬ IsPivotRow t.pairs i →
-      IsSchurRow t.rows.modulus t.rows.matrix t.pairs (row t.rows.matrix i) left
-  pub span : IsPrime t.rows.modulus → SameSpan t.rows.modulus new.matrix (with_row old.matrix left)
+-- rows of the width of the triangle's matrix, no more than it has
+pub record FitsBasis (t : TriangleState) (U : ResidueMatrix) : Type 0 where
+  pub modulus : U.modulus ≡ t.rows.modulus
+  pub matrix : IsMatrix t.rows.modulus U.matrix
+  pub width : U.matrix.width ≡ t.rows.matrix.width
+  pub height : U.matrix.height ≤ t.rows.matrix.height
 
--- the basis has the modulus and the width of the triangle's matrix
-pub record FitsBasis (t : TriangleState) (b : ResidueMatrix) : Type 0 where
-  pub modulus : b.modulus ≡ t.rows.modulus
-  pub width : b.matrix.width ≡ t.rows.matrix.width
+-- for a prime modulus they are independent and have the row space of the complement
+pub record IsBasisLeft (t : TriangleState) (U : ResidueMatrix) : Type 0 where
+  pub fits : FitsBasis t U
+  pub independent : IsPrime t.rows.modulus → IsIndependent t.rows.modulus U.matrix
+  pub span : IsPrime t.rows.modulus → (B : Matrix) × IsComplement t.rows.modulus t.rows.matrix t.pairs B
+      × SameSpan t.rows.modulus B U.matrix
+
+-- the same for what is left of the rows up to `to`
+pub record IsBasisUpTo (t : TriangleState) (to : ℕ) (U : ResidueMatrix) : Type 0 where
+  pub modulus : U.modulus ≡ t.rows.modulus
+  pub matrix : IsMatrix t.rows.modulus U.matrix
+  pub width : U.matrix.width ≡ t.rows.matrix.width
+  pub height : U.matrix.height ≤ to
+  pub part : SchurRows
+  pub is_part : IsPartTo t false 0 to part
+  pub independent : IsPrime t.rows.modulus → IsIndependent t.rows.modulus U.matrix
+  pub span : IsPrime t.rows.modulus → SameSpan t.rows.modulus part.rows.matrix U.matrix

@@ -9,16 +9,20 @@ mod pivot_numbers;
 mod round;
 mod row_ranges;
 mod row_reducer;
+mod sampling;
 mod stacking;
 mod streamed;
+#[cfg(test)]
+mod tests;
 mod workers;
 
 ghost use Rattle.schur_rows.specs.Laws.{ComplementIsOne, RoundJoins, RoundRank, RoundSpans};
 
 pub use round::{SchurRows, complement, schur};
 pub use row_reducer::RowReducer;
+pub use sampling::mean_left;
 pub use stacking::append_all;
-pub use streamed::left_rank;
+pub use streamed::left_basis;
 
 /// A matrix has at most one complement, for a prime modulus.
 pub fn complement_is_one()

@@ -45,24 +45,23 @@ pub fn schur<R: Threads + Sync>(
     Ok(left)
 }
 
-/// The complement alone, by so many workers: by flat rows, which they share, where these are cheaper than walks.
+/// The complement alone, by so many workers, in the way that the reducer has chosen.
 pub fn complement<R: Threads + Sync>(
     rt: &R,
     alloc: Global,
-    triangle: &Triangle,
+    reducer: &RowReducer,
     workers: u32,
 ) -> Result<Rows, AllocError>
     requires some { 1 ≤ workers }
     requires few { workers ≤ 64 }
-    ensures fits { IfOk result (FitsComplement triangle.now) }
-    ensures complement { IfOk result (λ rows. IsPrime triangle.now.rows.modulus →
-        IsComplement triangle.now.rows.modulus
-        triangle.now.rows.matrix triangle.now.pairs rows.matrix) }
+    ensures fits { IfOk result (FitsComplement reducer.now) }
+    ensures complement { IfOk result (λ rows. IsPrime reducer.now.rows.modulus →
+        IsComplement reducer.now.rows.modulus
+        reducer.now.rows.matrix reducer.now.pairs rows.matrix) }
 {
     // The calls' contracts tell that the pivots are triangular, and the entries residues.
-    let _ = (triangle.pairs().len(), triangle.rows().modulus());
-    let reducer = RowReducer::of(alloc, triangle)?;
-    let left = left_by(rt, alloc, &reducer, workers, false)?;
+    let _ = (reducer.pairs().len(), reducer.rows().modulus());
+    let left = left_by(rt, alloc, reducer, workers, false)?;
     let SchurRows { rows, .. } = left;
     Ok(rows)
 }

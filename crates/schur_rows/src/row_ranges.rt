@@ -1,5 +1,5 @@
 // Parts of what a round leaves: some rows one after another.
-ghost use Rattle.std.specs.Prelude.{◌≡◌, ◌<◌, ◌≤◌, ◌+◌, ◌-◌, ℕ, length, IfOk, OnOk};
+ghost use Rattle.std.specs.Prelude.{◌≡◌, ◌<◌, ◌≤◌, ◌+◌, ◌-◌, ℕ, length, IfOk, IfSome, OnOk};
 ghost use Rattle.std.specs.Option.{MatchOption};
 ghost use Rattle.sparse_rows.specs.declared.rows.TheConstants.{LARGEST_SIZE};
 ghost use Rattle.triangular_solve.specs.PivotRows.{IsAlike};
@@ -85,6 +85,48 @@ fn next_below(rows: &Rows, from: u32, to: u32) -> Option<u32>
         Some(i) if i < to => Some(i),
         _ => None,
     }
+}
+
+// The first row from `from` on that has an entry and is no pivot's, if there is one.
+pub(crate) fn next_left(reducer: &RowReducer, pivot_rows: &PivotNumbers, from: u32) -> Option<u32>
+    requires numbers { HasNumbers reducer.now.pairs pivot_rows.now }
+    ensures { IfSome result (λ i. (from ≤ i) × (i < reducer.now.rows.matrix.height)) }
+{
+    let rows = reducer.rows();
+    // The call's contract tells how high a matrix is.
+    let _ = rows.height();
+    let mut next = from;
+    while let Some(i) = rows.next_filled(next) {
+        if pivot_rows.find(i, reducer.pairs()).is_none() {
+            return Some(i);
+        }
+        next = i + 1;
+    }
+    None
+}
+
+// Behind so many of these rows from `from` on, or behind all rows.
+pub(crate) fn end_of(
+    reducer: &RowReducer,
+    pivot_rows: &PivotNumbers,
+    from: u32,
+    count: u32,
+) -> u32
+    requires from { from < reducer.now.rows.matrix.height }
+    requires some { 1 ≤ count }
+    requires numbers { HasNumbers reducer.now.pairs pivot_rows.now }
+    ensures behind { from < result }
+    ensures inside { result ≤ reducer.now.rows.matrix.height }
+{
+    let height = reducer.rows().height();
+    let mut end = from;
+    for _ in 0..count {
+        let Some(i) = next_left(reducer, pivot_rows, end) else {
+            return height;
+        };
+        end = i + 1;
+    }
+    end
 }
 
 // Appends rows of zeros to both matrices.

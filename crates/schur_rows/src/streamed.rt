@@ -1,78 +1,122 @@
-// The rank of what a round leaves, without storing it.
-ghost use Rattle.std.specs.Prelude.{◌≡◌, ◌<◌, ◌+◌, length, IfOk, OnOk};
-ghost use Rattle.dense_finish.specs.DenseBasis.{IsSoundBasis};
-ghost use Rattle.residue_words.specs.Residues.{IsPrime};
-ghost use Rattle.row_space.specs.Echelon.{HasRank};
-ghost use Rattle.triangular_solve.specs.PivotRows.{IsAlike};
-ghost use Rattle.triangular_solve.specs.Reduced.{workspace_of};
+// A basis of what a round leaves, without storing it.
+ghost use Rattle.std.specs.Prelude.{◌≡◌, ◌<◌, ◌≤◌, IfOk};
 ghost use Rattle.schur_rows.specs.PivotNumbers.{HasNumbers};
-ghost use Rattle.schur_rows.specs.Streamed.{FitsBasis, TakesLeft};
+ghost use Rattle.schur_rows.specs.Streamed.{IsBasisLeft, IsBasisUpTo};
 
 use crate::pivot_numbers::PivotNumbers;
+use crate::row_ranges::end_of;
 use crate::row_reducer::RowReducer;
-use dense_finish::DenseBasis;
-use sparse_rows::Sparse;
+use crate::stacking::append_all;
+use crate::workers::left_between;
+use dense_finish::{Factors, finish};
+use sparse_rows::Rows;
 use std::alloc::{AllocError, Global};
-use triangular_solve::{Triangle, Work};
+use std::thread::Threads;
 
-/// How many independent rows there are in what the pivots of a triangle leave of its matrix: for a prime modulus, with the number of
-/// pivots it is the matrix's rank.
-///
-/// Each row is reduced by the pivots and taken into a dense basis, and not kept: it takes the memory of the basis, and 4 bytes a column.
-pub fn left_rank(alloc: Global, triangle: &Triangle) -> Result<usize, AllocError>
-    ensures { IfOk result (λ r. IsPrime triangle.now.rows.modulus → HasRank triangle.now.rows.modulus
-        triangle.now.rows.matrix (length triangle.now.pairs + r)) }
-{
-    // The laws' contracts: there is an echelon form, and independent rows of one space are as many.
-    row_space::rref_exists();
-    row_space::span_fixes_height();
-    let rows = triangle.rows();
-    // The calls' contracts tell that the entries are residues, and that the pivots are triangular.
-    let _ = (rows.height(), triangle.pairs().len());
-    let reducer = RowReducer::of(alloc, triangle)?;
-    let numbers = PivotNumbers::of(alloc, &reducer)?;
-    let mut work = reducer.work(alloc)?;
-    let mut left = Sparse::new(alloc, rows.width(), rows.modulus());
-    let mut basis = DenseBasis::new(alloc, rows.width(), &rows.modulus())?;
-    for i in 0..rows.height() {
-        take_row(
-            alloc, &reducer, &numbers, i, &mut work, &mut left, &mut basis,
-        )?;
-    }
-    Ok(basis.height())
+// How many rows a chunk has: at least so many, and so many that its dense block has about so many places.
+#[derive(Clone, Copy, Debug)]
+pub(crate) struct ChunkSize {
+    pub(crate) rows: u32,
+    pub(crate) places: u32,
 }
 
-// Takes what is left of row i into the basis.
-fn take_row(
+// A block of 8 MB where the modulus is below 2^31.
+const CHUNK: ChunkSize = ChunkSize {
+    rows: 256,
+    places: 1 << 21,
+};
+
+// A chunk has so many times the rows of the basis, which is eliminated again with it.
+const TIMES_THE_BASIS: u32 = 4;
+
+// But so many times the places at most.
+const TIMES_THE_PLACES: u32 = 8;
+
+impl ChunkSize {
+    // How many rows the next chunk has on so many columns, below a basis of so many rows.
+    fn rows_below(&self, basis: u32, columns: usize) -> u32
+        ensures { 1 ≤ result }
+    {
+        let least = (self.places as usize / columns.max(1)) as u32;
+        let wanted = basis.saturating_mul(TIMES_THE_BASIS);
+        let most = least.saturating_mul(TIMES_THE_PLACES);
+        wanted.max(least).min(most).max(self.rows).max(1)
+    }
+}
+
+/// Independent rows with the row space of what the pivots of a triangle leave of its matrix, for a prime modulus, by so many
+/// workers. For a modulus that is not prime they are some rows of its width, no more than it has.
+///
+/// What is left is never stored whole. The rows are reduced chunk by chunk; each chunk is put below the basis of those before it,
+/// and both are eliminated densely (`dense_finish::finish`): the right factor is the next basis. The memory is that of a chunk,
+/// of some 2^21 to 2^24 places in the columns that are left. Where these are few a chunk has four times the rows of the basis, so that
+/// eliminating the basis again takes an eighth of the time.
+pub fn left_basis<R: Threads + Sync>(
+    rt: &R,
     alloc: Global,
     reducer: &RowReducer,
-    numbers: &PivotNumbers,
-    i: u32,
-    work: &mut Work,
-    left: &mut Sparse,
-    basis: &mut DenseBasis,
-) -> Result<(), AllocError>
-    requires row { i < reducer.now.rows.matrix.height }
-    requires numbers { HasNumbers reducer.now.pairs numbers.now }
-    requires work { work.old ≡ workspace_of reducer.now }
-    requires left_modulus { left.old.modulus ≡ reducer.now.rows.modulus }
-    requires left_width { length left.old.row ≡ reducer.now.rows.matrix.width }
-    requires basis { FitsBasis reducer.now basis.old }
-    ensures work { work.new ≡ work.old }
-    ensures left { IsAlike left.old left.new }
-    ensures modulus { basis.new.modulus ≡ basis.old.modulus }
-    ensures width { basis.new.matrix.width ≡ basis.old.matrix.width }
-    ensures sound { IsSoundBasis basis.old }
-    ensures taken { OnOk result (TakesLeft reducer.now i basis.old basis.new) }
+    workers: u32,
+) -> Result<Rows, AllocError>
+    requires some { 1 ≤ workers }
+    requires few { workers ≤ 64 }
+    ensures { IfOk result (IsBasisLeft reducer.now) }
 {
-    let triangle = reducer.triangle();
-    let rows = triangle.rows();
-    // The calls' contracts tell that the entries are residues, and that the basis is sound.
-    let _ = (rows.height(), basis.height());
-    if let Some(_k) = numbers.find(i, triangle.pairs()) {
-        return Ok(());
+    basis_by(rt, alloc, reducer, workers, CHUNK)
+}
+
+// The same by chunks of this size.
+pub(crate) fn basis_by<R: Threads + Sync>(
+    rt: &R,
+    alloc: Global,
+    reducer: &RowReducer,
+    workers: u32,
+    size: ChunkSize,
+) -> Result<Rows, AllocError>
+    requires some { 1 ≤ workers }
+    requires few { workers ≤ 64 }
+    ensures { IfOk result (IsBasisLeft reducer.now) }
+{
+    let rows = reducer.rows();
+    let height = rows.height();
+    let pivots = reducer.pairs().len();
+    let pivot_rows = PivotNumbers::of(alloc, reducer)?;
+    let columns = rows.occupied(alloc)?.len().saturating_sub(pivots);
+    let mut basis = Rows::with_room(alloc, rows.modulus(), rows.width(), 0, 0)?;
+    let mut from = 0;
+    while from < height {
+        let count = size.rows_below(basis.height(), columns);
+        let to = end_of(reducer, &pivot_rows, from, count);
+        basis = basis_with(rt, alloc, reducer, &pivot_rows, workers, basis, from, to)?;
+        from = to;
     }
-    reducer.rest(alloc, rows.cols(i), rows.vals(i), work, left)?;
-    basis.insert(left.cols(), left.vals())?;
-    Ok(())
+    Ok(basis)
+}
+
+// A basis of what is left of the rows up to `to`, from one of what is left of those up to `from`.
+fn basis_with<R: Threads + Sync>(
+    rt: &R,
+    alloc: Global,
+    reducer: &RowReducer,
+    pivot_rows: &PivotNumbers,
+    workers: u32,
+    basis: Rows,
+    from: u32,
+    to: u32,
+) -> Result<Rows, AllocError>
+    requires some { 1 ≤ workers }
+    requires few { workers ≤ 64 }
+    requires order { from ≤ to }
+    requires inside { to ≤ reducer.now.rows.matrix.height }
+    requires numbers { HasNumbers reducer.now.pairs pivot_rows.now }
+    requires basis { IsBasisUpTo reducer.now from basis }
+    ensures { IfOk result (IsBasisUpTo reducer.now to) }
+{
+    // The call's contract tells how high a matrix is.
+    let _ = reducer.rows().height();
+    let left = left_between(rt, alloc, reducer, pivot_rows, workers, false, from, to)?;
+    let mut stacked = basis;
+    append_all(alloc, &mut stacked, &left.rows)?;
+    drop(left);
+    let Factors { u, .. } = finish(rt, alloc, &stacked, workers)?;
+    Ok(u)
 }

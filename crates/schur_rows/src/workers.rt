@@ -19,25 +19,26 @@ const PARTS: usize = 16;
 // What each worker makes, or that memory ran out for it.
 type Share = Result<Vec<SchurRows>, AllocError>;
 
-// How the rows are dealt: so many parts of so many rows each, the last ones shorter, to the workers in turn.
+// How the rows from `from` up to `to` are dealt: so many parts of so many rows each, the last ones shorter, to the workers in turn.
 #[derive(Clone, Copy, Debug)]
 pub(crate) struct Deal {
     // Whether the coefficients are kept.
     kept: bool,
+    from: u32,
+    to: u32,
     size: usize,
     count: usize,
     workers: usize,
 }
 
 impl Deal {
-    // Where part j of a matrix of this height begins.
-    fn cut(&self, height: u32, j: usize) -> u32
-        requires height { height ≤ LARGEST_SIZE }
-        requires deal { IsDeal height self.now }
+    // Where part j begins.
+    fn cut(&self, j: usize) -> u32
+        requires deal { IsDeal self.now }
         requires part { j ≤ self.now.count }
-        ensures { result ≡ cut_at height self.now j }
+        ensures { result ≡ cut_at self.now j }
     {
-        (height as usize).min(j * self.size) as u32
+        (self.to as usize).min(self.from as usize + j * self.size) as u32
     }
 }
 
@@ -55,18 +56,43 @@ pub(crate) fn left_by<R: Threads + Sync>(
 {
     let height = reducer.rows().height();
     let pivot_rows = PivotNumbers::of(alloc, reducer)?;
+    left_between(rt, alloc, reducer, &pivot_rows, workers, kept, 0, height)
+}
+
+// What it leaves of the rows from `from` up to `to`.
+pub(crate) fn left_between<R: Threads + Sync>(
+    rt: &R,
+    alloc: Global,
+    reducer: &RowReducer,
+    pivot_rows: &PivotNumbers,
+    workers: u32,
+    kept: bool,
+    from: u32,
+    to: u32,
+) -> Result<SchurRows, AllocError>
+    requires some { 1 ≤ workers }
+    requires few { workers ≤ 64 }
+    requires order { from ≤ to }
+    requires inside { to ≤ reducer.now.rows.matrix.height }
+    requires numbers { HasNumbers reducer.now.pairs pivot_rows.now }
+    ensures { IfOk result (IsPartTo reducer.now kept from to) }
+{
+    // The call's contract tells how high a matrix is.
+    let _ = reducer.rows().height();
     if workers == 1 {
         let mut work = reducer.work(alloc)?;
-        return part_of(alloc, reducer, &pivot_rows, kept, 0, height, &mut work);
+        return part_of(alloc, reducer, pivot_rows, kept, from, to, &mut work);
     }
     let count = PARTS * workers as usize;
     let deal = Deal {
         kept,
-        size: height as usize / count + 1,
+        from,
+        to,
+        size: (to - from) as usize / count + 1,
         count,
         workers: workers as usize,
     };
-    let shares = shares_of(rt, alloc, reducer, &pivot_rows, deal)?;
+    let shares = shares_of(rt, alloc, reducer, pivot_rows, deal)?;
     merged(alloc, reducer, deal, &shares)
 }
 
@@ -78,7 +104,8 @@ fn shares_of<R: Threads + Sync>(
     pivot_rows: &PivotNumbers,
     deal: Deal,
 ) -> Result<Vec<Share>, AllocError>
-    requires deal { IsDeal reducer.now.rows.matrix.height deal }
+    requires deal { IsDeal deal }
+    requires inside { deal.to ≤ reducer.now.rows.matrix.height }
     requires numbers { HasNumbers reducer.now.pairs pivot_rows.now }
     ensures count { IfOk result (λ shares. length shares.items ≡ deal.workers) }
     ensures shares { IfOk result (λ shares. HaveParts reducer.now deal shares.items) }
@@ -100,17 +127,19 @@ fn share_of(
     worker: usize,
 ) -> Share
     requires worker { worker < deal.workers }
-    requires deal { IsDeal reducer.now.rows.matrix.height deal }
+    requires deal { IsDeal deal }
+    requires inside { deal.to ≤ reducer.now.rows.matrix.height }
     requires numbers { HasNumbers reducer.now.pairs pivot_rows.now }
     ensures { IfOk result (λ parts. HasParts reducer.now deal worker parts.items) }
 {
-    let height = reducer.rows().height();
+    // The call's contract tells how high a matrix is.
+    let _ = reducer.rows().height();
     let mut work = reducer.work(alloc)?;
     let mut parts = Vec::new(alloc);
     let mut j = worker;
     while j < deal.count {
-        let from = deal.cut(height, j);
-        let to = deal.cut(height, j + 1);
+        let from = deal.cut(j);
+        let to = deal.cut(j + 1);
         parts.push(part_of(alloc, reducer, pivot_rows, deal.kept, from, to, &mut work)?)?;
         j += deal.workers;
     }
@@ -124,12 +153,15 @@ fn merged(
     deal: Deal,
     shares: &[Share],
 ) -> Result<SchurRows, AllocError>
-    requires deal { IsDeal reducer.now.rows.matrix.height deal }
+    requires deal { IsDeal deal }
+    requires inside { deal.to ≤ reducer.now.rows.matrix.height }
     requires count { length shares.now ≡ deal.workers }
     requires shares { HaveParts reducer.now deal shares.now }
-    ensures { IfOk result (IsPartTo reducer.now deal.kept 0 reducer.now.rows.matrix.height) }
+    ensures { IfOk result (IsPartTo reducer.now deal.kept deal.from deal.to) }
 {
-    let mut made = no_rows(alloc, reducer, deal.kept, reducer.rows().height())?;
+    // The call's contract tells how high a matrix is.
+    let _ = reducer.rows().height();
+    let mut made = no_rows(alloc, reducer, deal.kept, deal.to - deal.from)?;
     for j in 0..deal.count {
         match &shares[j % deal.workers] {
             Ok(parts) => join(alloc, &mut made, &parts[j / deal.workers])?,

@@ -6,7 +6,7 @@ use fl_pivots::leftmost;
 use optimistic_search::{Open, search};
 use pluq_factor::{Plan, rank};
 use residue_words::Modulus;
-use schur_rows::complement;
+use schur_rows::{RowReducer, complement};
 use sparse_rows::Rows;
 use std::alloc::{AllocError, Global};
 use std::io::{self, Read};
@@ -55,7 +55,7 @@ fn time_round<R: Threads + Sync + Clock + Print>(
     let search = start.elapsed(rt)?.as_micros();
     let found = triangle.pairs().len();
     let start = Instant::now(rt)?;
-    let rest = complement(rt, alloc, &triangle, workers)?;
+    let rest = complement(rt, alloc, &RowReducer::of(alloc, &triangle)?, workers)?;
     let elimination = start.elapsed(rt)?.as_micros();
     let height = rest.filled(alloc)?.len();
     let width = rest.occupied(alloc)?.len();

@@ -3,7 +3,7 @@ use Rattle.schur_rows.proofs.Dealing.{cut_none, joined_part, read_part}
 use Rattle.schur_rows.proofs.workers.merged.Goals as goal
 
 pub loop-j-init : goal.loop-j-init
-loop-j-init c = let h = c.in_ok-made.ensures 0 in (h.0, omega (arith, h.1, cut_none c.args.reducer.now.rows.matrix.height c.args.deal))
+loop-j-init c = let h = c.in_ok-made.ensures c.args.deal.from in (h.0, omega (arith, h.1, cut_none c.requires.deal))
 
 pub loop-j-preserved : goal.loop-j-preserved
 loop-j-preserved c = joined_part c.args.reducer.now c.args.deal c.loop-j.j c.loop-j.invariant

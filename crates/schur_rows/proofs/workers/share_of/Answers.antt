@@ -10,7 +10,7 @@ loop-j-preserved c = record {
   work = c.part_of.ensures.work ∙ c.loop-j.invariant.work;
   gathered = subst (IsGathered c.args.reducer.now c.args.deal c.args.worker (c.loop-j.j + c.args.deal.workers)) (sym c.in_ok-push.ensures.items)
       (gathered_more c.args.reducer.now c.args.deal c.loop-j.invariant.gathered c.in_ok-part_of.field-0
-      (part_at c.args.deal c.loop-j.j c.rows.ensures c.height-height.ensures.value c.cut-from.ensures c.cut-to.ensures c.in_ok-part_of.ensures.part));
+      (part_at c.args.deal c.loop-j.j c.cut-from.ensures c.cut-to.ensures c.in_ok-part_of.ensures.part));
 }
 
 pub returns : goal.returns

@@ -1,0 +1,57 @@
+// How full what a round leaves is, by samples.
+ghost use Rattle.std.specs.Prelude.{◌≡◌, ◌≤◌, length};
+ghost use Rattle.triangular_solve.specs.PivotRows.{IsAlike};
+ghost use Rattle.triangular_solve.specs.Reduced.{workspace_of};
+ghost use Rattle.schur_rows.specs.PivotNumbers.{HasNumbers};
+
+use crate::pivot_numbers::PivotNumbers;
+use crate::row_ranges::next_left;
+use crate::row_reducer::RowReducer;
+use sparse_rows::Sparse;
+use std::alloc::{AllocError, Global};
+use triangular_solve::Work;
+
+/// How many entries the pivots leave of a row, on average of so many rows: these are spread over the matrix, have an entry and are
+/// no pivot's.
+pub fn mean_left(alloc: Global, reducer: &RowReducer, samples: u32) -> Result<u64, AllocError>
+    requires { 1 ≤ samples }
+{
+    let rows = reducer.rows();
+    let height = u64::from(rows.height());
+    let pivot_rows = PivotNumbers::of(alloc, reducer)?;
+    let mut work = reducer.work(alloc)?;
+    let mut rest = Sparse::new(alloc, rows.width(), rows.modulus());
+    let mut left: u64 = 0;
+    for k in 0..samples {
+        let from = (u64::from(k) * height / u64::from(samples)) as u32;
+        let count = entries_left(alloc, reducer, &pivot_rows, from, &mut work, &mut rest)?;
+        left = left.saturating_add(count as u64);
+    }
+    Ok(left / u64::from(samples))
+}
+
+// How many entries are left of the first row from `from` on that has one and is no pivot's.
+fn entries_left(
+    alloc: Global,
+    reducer: &RowReducer,
+    pivot_rows: &PivotNumbers,
+    from: u32,
+    work: &mut Work,
+    rest: &mut Sparse,
+) -> Result<usize, AllocError>
+    requires numbers { HasNumbers reducer.now.pairs pivot_rows.now }
+    requires work { work.old ≡ workspace_of reducer.now }
+    requires rest_modulus { rest.old.modulus ≡ reducer.now.rows.modulus }
+    requires rest_width { length rest.old.row ≡ reducer.now.rows.matrix.width }
+    ensures work { work.new ≡ work.old }
+    ensures rest { IsAlike rest.old rest.new }
+{
+    let Some(i) = next_left(reducer, pivot_rows, from) else {
+        return Ok(0);
+    };
+    let rows = reducer.rows();
+    // The call's contract tells that the entries are residues.
+    let _ = rows.modulus();
+    reducer.rest(alloc, rows.cols(i), rows.vals(i), work, rest)?;
+    Ok(rest.cols().len())
+}
