@@ -102,7 +102,8 @@ pub fn search_traced<'a, R: Threads + Sync, G: Gate>(
 /// What `search` does with more workers than one, for every number of workers and every matrix, and how many steps the walks took,
 /// modulo 2^64.
 ///
-/// It is kept to measure with: one worker goes on a board too, by walks, and in the order of the others.
+/// One worker goes on a board too, by walks, and in the order of the others: from the last row to the first, which on boundary maps is
+/// sooner done and leaves less behind than the greedy list that `search` gives then.
 pub fn search_counted<'a, R: Threads + Sync, G: Gate>(
     rt: &R,
     alloc: Global,
