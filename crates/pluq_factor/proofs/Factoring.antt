@@ -1,13 +1,11 @@
 -- Factors that rounds give.
 use Rattle.std.proofs.Common.{ℕ, zero, suc, ◌≡◌, ◌≢◌, ◌+◌, ◌-◌, ◌*◌, ◌%◌, ◌<◌, ◌≤◌, inl, inr, List, [], ◌++◌, length, slice_index, sym, refl, ap, ap₂, subst, ◌∙◌, arith, length-append, mod-eq_of_lt}
-use Rattle.std.proofs.lemmas.Bool.{cases_eq, cases_lt}
 use Rattle.residue_words.specs.declared.plain.Pair.{Pair}
 use Rattle.residue_words.specs.Residues.{IsPrime, sum_below}
 use Rattle.residue_words.specs.Matrix.{Matrix, IsMatrix, IsVector, entry, row}
 use Rattle.residue_words.proofs.Sums.{sum_none}
 use Rattle.residue_words.proofs.Vectors.{entry_residue}
-use Rattle.row_space.specs.Factors.{AreFactors, FitAsFactors, row_at, col_at}
-use Rattle.row_space.proofs.Counting.{pigeonhole}
+use Rattle.row_space.specs.Factors.{AreFactors, row_at, col_at}
 use Rattle.sparse_rows.specs.Rows.{ResidueMatrix, beside}
 use Rattle.dense_finish.specs.declared.factors.Factors.{Factors}
 use Rattle.dense_finish.specs.Factors.{IsFactored}
@@ -17,27 +15,13 @@ use Rattle.triangular_solve.specs.Reduced.{IsComplement, IsReduced}
 use Rattle.triangular_solve.specs.Triangle.{TriangleState}
 use Rattle.schur_rows.specs.Round.{FitsRound, IsRound, above, pivot_rows}
 use Rattle.schur_rows.specs.declared.round.SchurRows.{SchurRows}
+use Rattle.schur_rows.proofs.FactorRows.{fit_few}
 use Rattle.schur_rows.proofs.Joining.{joined}
 use Rattle.schur_rows.proofs.Above.{above_matrix, beside_matrix, col_first, col_second, each_of, pivot_height, pivots_matrix, row_first, row_second}
 use Rattle.pluq_factor.specs.Rounds.{AreFactorsOf, AreWithoutPivots, HaveSizes}
 use Rattle.pluq_factor.specs.Staged.{Staged}
 use Rattle.pluq_factor.specs.RoundPivots.{IsRoundTaken, triangle_on}
 use Rattle.pluq_factor.specs.declared.round_pivots.RoundPivots.{RoundPivots}
-
--- places below n that differ are no more than n
-few_places : (m n : ℕ) (place : ℕ → ℕ) → ((k : ℕ) → k < m → place k < n) → ((k t : ℕ) → k < t → t < m → place k ≢ place t) → m ≤ n
-few_places m n place inside apart = pigeonhole m n place inside (λ k t lk lt same.
-    elim (cases_eq k t) [
-      | inl e ↦ e
-      | inr d ↦ elim (cases_lt k t) [ inl less ↦ absurd (apart k t less lt same) | inr more ↦ absurd (apart t k (omega arith) lk (sym same)) ]
-    ])
-
--- no more pivots than rows, and than columns
-pub fit_few : {p : ℕ} {A : Matrix} {ps : List Pair} {L U : Matrix} → FitAsFactors p A ps L U → length ps ≤ A.height
-fit_few {p} {A} {ps} {L} {U} fit = few_places (length ps) A.height (row_at ps) fit.rows_below fit.rows_distinct
-
-pub fit_narrow : {p : ℕ} {A : Matrix} {ps : List Pair} {L U : Matrix} → FitAsFactors p A ps L U → length ps ≤ A.width
-fit_narrow {p} {A} {ps} {L} {U} fit = few_places (length ps) A.width (col_at ps) fit.columns_below fit.columns_distinct
 
 -- a dense finish gives factors
 pub finished : {p : ℕ} {A : Matrix} {f : Factors} → IsFactored p A f → AreFactorsOf p A f

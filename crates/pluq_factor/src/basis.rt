@@ -1,10 +1,12 @@
 // Rows that show the row space.
-ghost use Rattle.std.specs.Prelude.{◌≡◌, ◌≤◌, IfOk};
+ghost use Rattle.std.specs.Prelude.{◌≡◌, ◌≤◌, ◌+◌, IfOk};
+ghost use Rattle.sparse_rows.specs.declared.rows.TheConstants.{LARGEST_SIZE};
+ghost use Rattle.schur_rows.specs.Round.{above};
 ghost use Rattle.pluq_factor.specs.Basis.{IsBasis};
 
 use crate::extent::Extent;
 use crate::plan::Plan;
-use crate::round_pivots::{Left, take_left};
+use crate::round_pivots::{Left, Rest, take_left};
 use dense_finish::{Factors, finish};
 use echelon_form::Echelon;
 use optimistic_search::Gate;
@@ -125,13 +127,37 @@ fn basis_from<R: Threads + Sync, G: Gate>(
     };
     drop(rows);
     let Left { top, rest } = left;
+    let Rest {
+        rows: rest,
+        is_basis,
+    } = rest;
+    // The call's contract tells that the entries are residues.
+    let _ = rest.height();
+    if is_basis {
+        let whole = with_below(alloc, top, &rest)?;
+        return Ok(whole);
+    }
     let more = rounds_behind(alloc, &rest, rounds - 1)?;
     let below = basis_from(rt, alloc, rest, workers, more, gate)?;
+    // And here too.
+    let _ = below.height();
+    let basis = with_below(alloc, top, &below)?;
+    Ok(basis)
+}
+
+// The rows with others below them; without these where there would be more than a matrix has, which a prime modulus excludes.
+fn with_below(alloc: Global, top: Rows, below: &Rows) -> Result<Rows, AllocError>
+    requires modulus { top.modulus ≡ below.now.modulus }
+    requires width { top.matrix.width ≡ below.now.matrix.width }
+    ensures modulus { IfOk result (λ rows. rows.modulus ≡ top.modulus) }
+    ensures width { IfOk result (λ rows. rows.matrix.width ≡ top.matrix.width) }
+    ensures stacked { IfOk result (λ rows. top.matrix.height + below.now.matrix.height ≤ LARGEST_SIZE →
+        rows.matrix ≡ above top.matrix below.now.matrix) }
+{
     let mut basis = top;
-    // Only where the modulus isn't prime are there more rows than a matrix has.
     if below.height() > LARGEST_SIZE - basis.height() {
         return Ok(basis);
     }
-    append_all(alloc, &mut basis, &below)?;
+    append_all(alloc, &mut basis, below)?;
     Ok(basis)
 }

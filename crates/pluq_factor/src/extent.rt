@@ -1,4 +1,5 @@
 // How large a dense block a matrix would make.
+use schur_rows::{RowReducer, mean_left};
 use sparse_rows::Rows;
 use std::alloc::{AllocError, Global};
 
@@ -8,7 +9,7 @@ const LARGEST_BLOCK: u64 = 1 << 26;
 // A block is made where one place of so many holds an entry.
 const BLOCK_SHARE: u64 = 10;
 
-// A dense basis of more places than this isn't made: 256 MB of them.
+// A dense basis of more places than this isn't made: 128 MB of them where the modulus is below 2^31.
 const LARGEST_BASIS: u64 = 1 << 25;
 
 // So many rows for each column make a rest of few pivots.
@@ -16,6 +17,9 @@ const TALL: u64 = 3;
 
 // A round is no gain where one place of so many holds an entry.
 const ROUND_SHARE: u64 = 20;
+
+// How many rows are reduced to see how full they are.
+const SAMPLES: u32 = 32;
 
 // The block of the rows and columns that have an entry: how many places it has, and how many entries stand there.
 #[derive(Debug, Drop)]
@@ -35,17 +39,17 @@ impl Extent {
         })
     }
 
-    // Whether behind so many pivots there are several rows for each column and too many for a block, but a dense basis of the columns
-    // is small.
-    pub(crate) fn is_tall(alloc: Global, rows: &Rows, pivots: u32) -> Result<bool, AllocError> {
-        let filled = rows.filled(alloc)?.len() as u64;
-        let occupied = rows.occupied(alloc)?.len() as u64;
-        let height = filled.saturating_sub(u64::from(pivots));
-        let width = occupied.saturating_sub(u64::from(pivots));
-        let sides = u64::from(rows.height()).max(u64::from(rows.width()));
-        let tall = width.saturating_mul(TALL) <= height
-            && LARGEST_BLOCK < width.saturating_mul(height);
-        Ok(tall && width.saturating_mul(width) <= LARGEST_BASIS && sides / 4 <= rows.entries())
+    // Whether what pivots leave is better taken into a basis of its row space than stored: there are several rows for each column that
+    // is left, a dense basis on these columns is small, and samples say that a round would be no gain.
+    pub(crate) fn is_streamed(alloc: Global, reducer: &RowReducer) -> Result<bool, AllocError> {
+        let rows = reducer.rows();
+        let pivots = reducer.pairs().len();
+        let height = rows.filled(alloc)?.len().saturating_sub(pivots) as u64;
+        let width = rows.occupied(alloc)?.len().saturating_sub(pivots) as u64;
+        if height < width.saturating_mul(TALL) || LARGEST_BASIS < width.saturating_mul(width) {
+            return Ok(false);
+        }
+        Ok(width / ROUND_SHARE <= mean_left(alloc, reducer, SAMPLES)?)
     }
 
     // Whether a dense elimination is cheaper, in memory that is at most some constant times that of the entries.

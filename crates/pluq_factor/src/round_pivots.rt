@@ -3,13 +3,13 @@ ghost use Rattle.std.specs.Prelude.{◌≡◌, ◌≤◌, [], length, IfOk, IfSo
 ghost use Rattle.std.specs.Option.{MatchOption};
 ghost use Rattle.pivot_table.specs.Selected.{Selected};
 ghost use Rattle.pluq_factor.specs.Counted.{LeavesRank};
-ghost use Rattle.pluq_factor.specs.RoundPivots.{IsLeftBy, IsRoundTaken};
+ghost use Rattle.pluq_factor.specs.RoundPivots.{IsLeftBy, IsRestOf, IsRoundTaken};
 
 use crate::extent::Extent;
 use crate::plan::{rows_of, select_pivots};
 use optimistic_search::Gate;
 use pivot_table::Pair;
-use schur_rows::{SchurRows, complement, left_rank, schur};
+use schur_rows::{RowReducer, SchurRows, complement, left_basis, schur};
 use sparse_rows::{List, Rows};
 use std::alloc::{AllocError, Global};
 use std::thread::Threads;
@@ -23,11 +23,18 @@ pub(crate) struct RoundPivots {
     pub(crate) left: SchurRows,
 }
 
-// The rows of a round's pivots, and the complement.
+// The rows of a round's pivots, and what they leave.
 #[derive(Debug, Drop)]
 pub(crate) struct Left {
     pub(crate) top: Rows,
-    pub(crate) rest: Rows,
+    pub(crate) rest: Rest,
+}
+
+// The complement that pivots leave, or rows of its row space; and whether these are a basis.
+#[derive(Debug, Drop)]
+pub(crate) struct Rest {
+    pub(crate) rows: Rows,
+    pub(crate) is_basis: bool,
 }
 
 // How many pivots rounds have found, and the complement.
@@ -82,13 +89,40 @@ pub(crate) fn take_left<R: Threads + Sync, G: Gate>(
     if pairs.is_empty() {
         return Ok(None);
     }
-    let rest = complement(rt, alloc, &triangle, workers)?;
+    let rest = rest_of(rt, alloc, &triangle, workers)?;
     let top = rows.select(alloc, &rows_of(alloc, pairs)?)?;
     Ok(Some(Left { top, rest }))
 }
 
-// One round whose pivots are counted alone; None where there is no pivot. Where few columns and many rows are left, what is left
-// isn't kept, but counted too.
+// What the pivots leave. Where few columns, many rows and many entries are left, it isn't stored, but a basis of its row space is
+// made.
+fn rest_of<R: Threads + Sync>(
+    rt: &R,
+    alloc: Global,
+    triangle: &Triangle,
+    workers: u32,
+) -> Result<Rest, AllocError>
+    requires some { 1 ≤ workers }
+    requires few { workers ≤ 64 }
+    ensures { IfOk result (IsRestOf triangle.now) }
+{
+    let reducer = RowReducer::of(alloc, triangle)?;
+    if Extent::is_streamed(alloc, &reducer)? {
+        let basis = left_basis(rt, alloc, &reducer, workers)?;
+        return Ok(Rest {
+            rows: basis,
+            is_basis: true,
+        });
+    }
+    let rows = complement(rt, alloc, &reducer, workers)?;
+    Ok(Rest {
+        rows,
+        is_basis: false,
+    })
+}
+
+// One round whose pivots are counted alone; None where there is no pivot. Where few columns, many rows and many entries are left,
+// what is left isn't stored, but counted too.
 pub(crate) fn count_round<R: Threads + Sync, G: Gate>(
     rt: &R,
     alloc: Global,
@@ -109,37 +143,43 @@ pub(crate) fn count_round<R: Threads + Sync, G: Gate>(
     if count == 0 {
         return Ok(None);
     }
-    if Extent::is_tall(alloc, rows, count)? {
-        let counted = count_left(alloc, rows, &triangle, count)?;
+    let reducer = RowReducer::of(alloc, &triangle)?;
+    if Extent::is_streamed(alloc, &reducer)? {
+        let counted = count_left(rt, alloc, rows, &reducer, workers, count)?;
         return Ok(Some(counted));
     }
-    let rest = complement(rt, alloc, &triangle, workers)?;
+    let rest = complement(rt, alloc, &reducer, workers)?;
     Ok(Some(Counted { count, rest }))
 }
 
 // The pivots of a round with the rank of what they leave: no entry is left.
-fn count_left(
+fn count_left<R: Threads + Sync>(
+    rt: &R,
     alloc: Global,
     rows: &Rows,
-    triangle: &Triangle,
+    reducer: &RowReducer,
+    workers: u32,
     count: u32,
 ) -> Result<Counted, AllocError>
-    requires triangle { triangle.now.rows ≡ rows.now }
-    requires count { count ≡ length triangle.now.pairs }
+    requires some { 1 ≤ workers }
+    requires few { workers ≤ 64 }
+    requires triangle { reducer.now.rows ≡ rows.now }
+    requires count { count ≡ length reducer.now.pairs }
     ensures { IfOk result (LeavesRank rows.now) }
 {
     // The call's contract tells that the pivots are triangular.
-    let _ = triangle.pairs().len();
+    let _ = reducer.pairs().len();
     let height = rows.height();
     let width = rows.width();
     let most = height.min(width);
-    let left = left_rank(alloc, triangle)?;
+    let basis = left_basis(rt, alloc, reducer, workers)?;
+    let left = basis.height();
     let mut rest = Rows::with_room(alloc, rows.modulus(), width, 0, 0)?;
     rest.append_zeros(height)?;
     // Less only where the modulus isn't prime.
-    let more = left.min((most - count) as usize);
+    let more = left.min(most - count);
     Ok(Counted {
-        count: count + more as u32,
+        count: count + more,
         rest,
     })
 }

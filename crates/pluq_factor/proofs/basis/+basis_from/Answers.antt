@@ -1,17 +1,16 @@
-use Rattle.std.proofs.Common.{ℕ, Option, ◌≡◌, ◌≤◌, ◌+◌, ◌-◌, ap, arith, subst}
+use Rattle.std.proofs.Common.{Option, arith, subst}
 use Rattle.std.specs.Option.{IfSome}
-use Rattle.residue_words.specs.Matrix.{Matrix}
 use Rattle.pluq_factor.specs.RoundPivots.{IsLeftBy}
 use Rattle.pluq_factor.specs.declared.round_pivots.Left.{Left}
-use Rattle.pluq_factor.proofs.Bases.{basis_few, basis_joined, basis_top}
+use Rattle.pluq_factor.proofs.Bases.{basis_itself, basis_joined, rest_modulus, rest_width}
 use Rattle.pluq_factor.proofs.basis.+basis_from.Goals as goal
 
-pub returns-then-height : goal.returns-then-height
-returns-then-height g t c =
+pub returns-then-is_basis : goal.returns-then-is_basis
+returns-then-is_basis g t c =
     let left = subst (λ (o : Option Left). IfSome o (IsLeftBy c.args.rows)) c.in-Some.is c.in_ok-left.ensures in
-    basis_top left (λ prime. omega (arith, basis_few {V = c.in_ok-below.below} left c.height-2.ensures.sound c.in_ok-below.ensures prime, c.if-height.true, c.height-2.ensures.value, c.height-3.ensures.value, c.height-3.ensures.bound, c.height.ensures.value, c.height.ensures.bound))
+    basis_joined left c.height-2.ensures.sound (basis_itself left c.if-is_basis.true) (omega (arith, c.height.ensures.value, c.height.ensures.bound)) c.in_ok-whole.ensures.modulus c.in_ok-whole.ensures.width c.in_ok-whole.ensures.stacked
 
 pub returns : goal.returns
 returns g t c =
     let left = subst (λ (o : Option Left). IfSome o (IsLeftBy c.args.rows)) c.in-Some.is c.in_ok-left.ensures in
-    basis_joined {V = c.in_ok-below.below} left c.height-2.ensures.sound c.in_ok-below.ensures c.append_all.ensures.modulus c.in_ok-append_all.ensures.matrix
+    basis_joined {V = c.in_ok-below.below} left c.height-3.ensures.sound c.in_ok-below.ensures (omega (arith, c.height.ensures.value, c.height.ensures.bound)) c.in_ok-basis-3.ensures.modulus c.in_ok-basis-3.ensures.width c.in_ok-basis-3.ensures.stacked

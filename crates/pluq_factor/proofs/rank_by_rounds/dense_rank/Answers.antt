@@ -1,6 +1,6 @@
 use Rattle.std.proofs.Common.{◌≤◌, ap, length, subst, sym}
 use Rattle.row_space.specs.Echelon.{HasRank}
-use Rattle.pluq_factor.proofs.Factoring.{fit_few, fit_narrow}
+use Rattle.schur_rows.proofs.FactorRows.{fit_few, fit_narrow}
 use Rattle.pluq_factor.proofs.rank_by_rounds.dense_rank.Goals as goal
 
 pub returns-clause-rank : goal.returns-clause-rank

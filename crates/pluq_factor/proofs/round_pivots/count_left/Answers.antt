@@ -1,18 +1,24 @@
-use Rattle.std.proofs.Common.{◌≤◌, ◌∙◌, ap, arith, length, refl, subst, sym}
-use Rattle.residue_words.specs.Matrix.{Matrix}
+use Rattle.std.proofs.Common.{◌+◌, ◌∙◌, ap, arith, length, refl, subst, sym}
+use Rattle.residue_words.specs.Matrix.{Matrix, IsMatrix}
+use Rattle.row_space.specs.Echelon.{HasRank}
 use Rattle.sparse_rows.specs.Rows.{ResidueMatrix, with_zeros}
 use Rattle.schur_rows.proofs.Distinct.{triangular_narrow, triangular_short}
+use Rattle.schur_rows.proofs.Streaming.{basis_rank}
 use Rattle.pluq_factor.proofs.Ranking.{counted_left}
 use Rattle.pluq_factor.proofs.round_pivots.count_left.Goals as goal
 
 pub overflow_sub-most : goal.overflow_sub-most
-overflow_sub-most c =
+overflow_sub-most g c =
     let high = triangular_short c.pairs.ensures.triangular in
     let wide = triangular_narrow c.pairs.ensures.triangular in
     omega (arith, high, wide, c.requires.count, c.min-most.ensures, c.height-height.ensures.value, c.width-width.ensures.value, ap (λ (R : ResidueMatrix). R.matrix.height) c.requires.triangle, ap (λ (R : ResidueMatrix). R.matrix.width) c.requires.triangle)
 
 pub returns : goal.returns
-returns c =
-    counted_left {t = c.args.triangle.now} c.in_ok-left.left c.height-height.ensures.sound c.requires.triangle c.pairs.ensures.triangular c.requires.count c.in_ok-left.ensures c.min-most.ensures c.min-more.ensures refl
+returns g c =
+    let t = c.args.reducer.now in
+    let sound : IsMatrix t.rows.modulus t.rows.matrix = subst (λ (R : ResidueMatrix). IsMatrix R.modulus R.matrix) (sym c.requires.triangle) c.height-height.ensures.sound in
+    counted_left {t = t} c.height-left.result c.height-height.ensures.sound c.requires.triangle c.pairs.ensures.triangular c.requires.count
+    (λ prime. subst (λ n. HasRank t.rows.modulus t.rows.matrix (length t.pairs + n)) (sym c.height-left.ensures.value) (basis_rank sound c.pairs.ensures.triangular c.in_ok-basis.ensures prime))
+    c.min-most.ensures c.min-more.ensures refl
     (c.append_zeros.ensures.modulus ∙ c.in_ok-rest.ensures.modulus ∙ c.modulus.ensures.value) (c.in_ok-append_zeros.ensures.matrix ∙ ap (λ (M : Matrix). with_zeros M c.height-height.result) c.in_ok-rest.ensures.matrix)
     c.height-height.ensures.value c.width-width.ensures.value
