@@ -1,23 +1,33 @@
 -- A row more, and the form with it.
-use Rattle.std.proofs.Common.{ℕ, ◌≡◌, ◌+◌, ◌≤◌, ◌↔◌, Bool, true, false, cond, Option, None, Some, List, [], length, map, sym, refl, ap, subst, ◌∙◌, arith}
+use Rattle.std.proofs.Common.{ℕ, ◌≡◌, ◌+◌, ◌<◌, ◌≤◌, ◌↔◌, Bool, true, false, cond, Option, None, Some, Result, Ok, Err, List, [], length, sym, refl, ap, subst, ◌∙◌, arith}
 use Rattle.std.specs.Option.{is_some}
+use Rattle.std.specs.Result.{OnErr}
 use Rattle.residue_words.specs.Residues.{IsPrime}
 use Rattle.residue_words.specs.Matrix.{Matrix, IsMatrix, IsVector, IsCombination, row, zeros}
 use Rattle.residue_words.proofs.Vectors.{at_zeros, length_list_of, list_equal}
-use Rattle.row_space.specs.Echelon.{IsRref, SameSpan}
+use Rattle.row_space.specs.Echelon.{IsIndependent, IsRref, SameSpan}
 use Rattle.row_space.specs.Rows.{of_rows}
 use Rattle.row_space.proofs.Rows as Rows
 use Rattle.row_space.proofs.Rows.{combination_last, span_with_new, span_with_old}
 use Rattle.row_space.proofs.Spans.{same_span_chained, same_span_turned}
 use Rattle.sparse_rows.specs.Rows.{ResidueMatrix, nonzeros, support}
-use Rattle.sparse_rows.specs.Stored.{spread, with_row}
+use Rattle.sparse_rows.specs.Stored.{IsSparse, spread, with_row}
+use Rattle.sparse_rows.proofs.Loops.{matrix_more}
 use Rattle.sparse_rows.proofs.Spread.{sparse_none, spread_none, spread_support, support_spread}
 use Rattle.triangular_solve.specs.Leads.{Inserts, IsSound, KeptRows}
 use Rattle.triangular_solve.proofs.Appending.{inserts_same, of_own_rows, with_own_row}
-use Rattle.echelon_form.specs.Settling.{AreSettled, IsOrderOfLeads}
-use Rattle.echelon_form.proofs.Settled.{settled_leads, settled_span}
 use Rattle.triangular_solve.proofs.Dividing.{listed_none}
+use Rattle.triangular_solve.proofs.Draining.{sparse_of}
+use Rattle.triangular_solve.proofs.Combining.{leads_independent}
 use Rattle.grow_form.specs.Growing.{AppendsRow}
+use Rattle.grow_form.specs.Numbering.{AreKeptByNumbers, ComesBehind, HasNumber, IsByNumbers, IsNumbering, IsRowByNumbers, NumberedColumns, at_columns, number_of, rows_at_columns, seen_rows}
+use Rattle.grow_form.proofs.Moved.{moved_independent, moved_matrix, moved_more, moved_span, moved_vector}
+use Rattle.grow_form.proofs.Numbers.{IsUnused, combination_seen, kept_behind, kept_inserted, kept_prime, kept_zero, named, seen_behind}
+
+-- what holds, holds at an error
+pub any_err : {T E P : Type 0} (r : Result T E) → P → OnErr r P
+any_err (Ok x) h = tt
+any_err (Err e) h = h
 
 own_matrix : (p : ℕ) (A : Matrix) → IsMatrix p A → IsMatrix p (of_rows A.width A.rows)
 own_matrix p A m = subst (IsMatrix p) (sym (of_own_rows p A m)) m
@@ -72,10 +82,6 @@ form_more p A B v two m vector width span E F h =
       same_form p (with_row E v) B F (sym wide) (same_span_turned p B (with_row E v) same),
     )
 
--- what callers see of kept rows
-abbrev pub seen : KeptRows → ResidueMatrix
-seen kept = record { modulus = kept.modulus; matrix = kept.matrix }
-
 inserted_span : {old : KeptRows} (new : KeptRows) {v : List ℕ} → IsSound old → IsVector old.modulus old.matrix.width v → (lead : Option ℕ) → Inserts old new v lead →
     IsPrime old.modulus → SameSpan old.modulus new.matrix (with_row old.matrix v)
 inserted_span new sound vector (Some c) h prime = h.span prime
@@ -94,30 +100,53 @@ inserted_old : (old new : KeptRows) (v : List ℕ) (lead : Option ℕ) → Inser
 inserted_old old new v (Some c) h = ((λ e. absurd (subst IsFound e tt)), (λ c. absurd (h.independent c)))
 inserted_old old new v None h = ((λ e. h.1), (λ c. refl))
 
--- a row that was inserted was appended, as callers are told
-pub appends_inserted : {old : KeptRows} (new : KeptRows) {v : List ℕ} → IsSound old → IsSound new → IsVector old.modulus old.matrix.width v → (lead : Option ℕ) → Inserts old new v lead →
-    AppendsRow (seen old) (seen new) v (is_some lead)
-appends_inserted {old} new {v} sound after vector lead h =
-    let same = inserts_same old new v lead h in
-    record {
-      modulus = same.0;
-      width = same.1;
-      matrix = subst (λ q. IsMatrix q new.matrix) same.0 after.matrix;
-      height = inserted_height old new v lead h;
-      spanned = inserted_old old new v lead h;
-      span = inserted_span new sound vector lead h;
-      form = λ prime. form_more old.modulus old.matrix new.matrix v sound.two_or_more sound.matrix vector same.1 (inserted_span new sound vector lead h prime);
-    }
-
--- the kept rows settled by ascending leads are the form, whatever the modulus
-pub rref_of_settled : {kept : KeptRows} {order : List (ℕ × ℕ)} {E : Matrix} → IsSound kept → IsOrderOfLeads kept order → AreSettled kept order (length order) E →
-    IsRref kept.modulus kept.matrix E
-rref_of_settled {kept} {order} {E} sound o s = record {
-  matrix = s.matrix;
-  width = s.width;
-  form = (map (λ c. c.0) order, settled_leads sound o s);
-  span = settled_span sound o s;
+-- a row that was inserted by numbers was appended, as callers are told, whatever columns come later
+pub appends_seen : {old new : KeptRows} {N later : NumberedColumns} {v : List ℕ} → IsSound old → IsSound new → IsNumbering N → AreKeptByNumbers old N → ComesBehind N later →
+    IsVector old.modulus old.matrix.width v → IsByNumbers N v → (lead : Option ℕ) → Inserts old new v lead → AppendsRow (seen_rows old N) (seen_rows new later) (at_columns N.arrivals v) (is_some lead)
+appends_seen {old} {new} {N} {later} {v} sound after h by behind vector is lead inserts = record {
+  modulus = same.0;
+  width = behind.width;
+  matrix = subst (λ q. IsMatrix q (rows_at_columns later.arrivals new.matrix)) same.0 (moved_matrix (length later.arrivals) (number_of later.arrivals) (omega (arith, after.two_or_more)) after.matrix);
+  height = inserted_height old new v lead inserts;
+  spanned = ((λ e. there.0 (found.0 e)), (λ c. found.1 (there.1 c)));
+  span = span;
+  form = λ prime. form_more p A (rows_at_columns later.arrivals new.matrix) (at_columns N.arrivals v) sound.two_or_more (moved_matrix n number pos sound.matrix) (moved_vector n number pos vector) behind.width (span prime);
 }
+  where
+    p : ℕ
+    p = old.modulus
+
+    n : ℕ
+    n = length N.arrivals
+
+    number : ℕ → ℕ
+    number = number_of N.arrivals
+
+    pos : 0 < old.modulus
+    pos = omega (arith, sound.two_or_more)
+
+    A : Matrix
+    A = rows_at_columns N.arrivals old.matrix
+
+    same : (new.modulus ≡ old.modulus) × (new.matrix.width ≡ old.matrix.width)
+    same = inserts_same old new v lead inserts
+
+    found : (is_some lead ≡ false) ↔ IsCombination old.modulus old.matrix v
+    found = inserted_old old new v lead inserts
+
+    there : IsCombination old.modulus old.matrix v ↔ IsCombination old.modulus (rows_at_columns N.arrivals old.matrix) (at_columns N.arrivals v)
+    there = combination_seen sound by h vector is
+
+    own : IsMatrix old.modulus new.matrix
+    own = subst (λ q. IsMatrix q new.matrix) same.0 after.matrix
+
+    span : IsPrime old.modulus → SameSpan old.modulus (rows_at_columns later.arrivals new.matrix) (with_row (rows_at_columns N.arrivals old.matrix) (at_columns N.arrivals v))
+    span prime =
+        let now : rows_at_columns later.arrivals new.matrix ≡ rows_at_columns N.arrivals new.matrix =
+        ap (λ (r : ResidueMatrix). r.matrix) (seen_behind after (kept_prime sound by after prime vector is lead inserts) behind) in
+        subst (λ B. SameSpan old.modulus B (with_row (rows_at_columns N.arrivals old.matrix) (at_columns N.arrivals v))) (sym now)
+        (subst (SameSpan old.modulus (rows_at_columns N.arrivals new.matrix)) (moved_more (length N.arrivals) (number_of N.arrivals) old.matrix v)
+        (moved_span (length N.arrivals) (number_of N.arrivals) pos own (matrix_more sound.matrix vector) (inserted_span new sound vector lead inserts prime)))
 
 -- a row has no support exactly where it is the zero row
 pub no_support : (n : ℕ) (w : List ℕ) → length w ≡ n → (length (support w) ≡ 0) ↔ (w ≡ zeros n)
@@ -132,3 +161,54 @@ pub spread_alone : {n : ℕ} {r : ResidueMatrix} {cols vals : List ℕ} → IsMa
 spread_alone {n} {r} {cols} {vals} m width height ce ve =
     let vector : IsVector r.modulus r.matrix.width (row r.matrix 0) = m.each 0 (omega (arith, height)) in
     ap (λ c. spread n c vals) ce ∙ ap (spread n (support (row r.matrix 0))) ve ∙ spread_support n (row r.matrix 0) (vector.len ∙ width)
+
+-- the kept rows by numbers are independent where they are seen
+pub seen_independent : {kept : KeptRows} {N : NumberedColumns} → IsSound kept → IsNumbering N → AreKeptByNumbers kept N → IsIndependent kept.modulus (rows_at_columns N.arrivals kept.matrix)
+seen_independent {kept} {N} sound h by =
+    moved_independent (length N.arrivals) (number_of N.arrivals) (length N.arrivals) (IsUnused N) (named h) (omega (arith, sound.two_or_more)) sound.matrix by.width
+    (λ i s l off. kept_zero sound by i s l off) (leads_independent kept.modulus kept.matrix kept.leads sound.leads)
+
+-- A row came to kept rows, first its columns and then its entries by their numbers.
+module _ {kept : KeptRows} {N now : NumberedColumns} {cols vals row_cols row_vals : List ℕ} {r : ResidueMatrix} (sound : IsSound kept) (by : AreKeptByNumbers kept N) (h : IsNumbering now) (behind : ComesBehind N now)
+    (is : IsRowByNumbers now kept.modulus cols vals r) (m : IsMatrix r.modulus r.matrix) (ce : row_cols ≡ support (row r.matrix 0)) (ve : row_vals ≡ nonzeros (row r.matrix 0)) where
+  wide : r.matrix.width ≡ kept.matrix.width
+  wide = is.width ∙ behind.width ∙ sym by.width
+
+  row_vector : IsVector kept.modulus kept.matrix.width (row r.matrix 0)
+  row_vector = subst (λ q. IsVector q kept.matrix.width (row r.matrix 0)) is.modulus (subst (λ n. IsVector r.modulus n (row r.matrix 0)) wide (m.each 0 (omega (arith, is.height))))
+
+  pub row_sparse : IsSparse kept.modulus kept.matrix.width row_cols row_vals
+  row_sparse = sparse_of row_vector refl refl ce ve
+
+  is_row : spread kept.matrix.width row_cols row_vals ≡ row r.matrix 0
+  is_row = spread_alone m wide is.height ce ve
+
+  by_now : AreKeptByNumbers kept now
+  by_now = kept_behind sound by behind
+
+  same_row : at_columns now.arrivals (row r.matrix 0) ≡ spread (length N.arrivals) cols vals
+  same_row = is.same ∙ ap (λ n. spread n cols vals) behind.width
+
+  -- it was appended
+  pub row_appended : {new : KeptRows} {later : NumberedColumns} → IsSound new → ComesBehind now later → (lead : Option ℕ) → Inserts kept new (spread kept.matrix.width row_cols row_vals) lead →
+      AppendsRow (seen_rows kept N) (seen_rows new later) (spread (length N.arrivals) cols vals) (is_some lead)
+  row_appended {new} {later} after then lead inserts =
+      subst (λ (g : ResidueMatrix). AppendsRow g (seen_rows new later) (spread (length N.arrivals) cols vals) (is_some lead)) (seen_behind sound by behind)
+      (subst (λ v. AppendsRow (seen_rows kept now) (seen_rows new later) v (is_some lead)) same_row
+      (appends_seen sound after h by_now then row_vector is.by_numbers lead (subst (λ v. Inserts kept new v lead) is_row inserts)))
+
+  -- and the rows stay kept by numbers
+  pub row_kept : {new : KeptRows} {later : NumberedColumns} → ComesBehind now later → (lead : Option ℕ) → HasNumber later lead → Inserts kept new (spread kept.matrix.width row_cols row_vals) lead →
+      AreKeptByNumbers new later
+  row_kept then lead has inserts = kept_inserted sound (kept_behind sound by_now then) (spread kept.matrix.width row_cols row_vals) lead inserts has
+
+  -- it is a combination of the kept rows where it is one of those that are seen
+  pub row_found : IsCombination kept.modulus kept.matrix (spread kept.matrix.width row_cols row_vals) ↔ IsCombination kept.modulus (rows_at_columns N.arrivals kept.matrix) (spread (length N.arrivals) cols vals)
+  row_found =
+      let seen = combination_seen sound by_now h row_vector is.by_numbers in
+      let same : rows_at_columns now.arrivals kept.matrix ≡ rows_at_columns N.arrivals kept.matrix = ap (λ (g : ResidueMatrix). g.matrix) (seen_behind sound by behind) in (
+        λ c. subst (λ A. IsCombination kept.modulus A (spread (length N.arrivals) cols vals)) same (subst (IsCombination kept.modulus (rows_at_columns now.arrivals kept.matrix)) same_row
+            (seen.0 (subst (IsCombination kept.modulus kept.matrix) is_row c))),
+        λ c. subst (IsCombination kept.modulus kept.matrix) (sym is_row) (seen.1 (subst (IsCombination kept.modulus (rows_at_columns now.arrivals kept.matrix)) (sym same_row)
+            (subst (λ A. IsCombination kept.modulus A (spread (length N.arrivals) cols vals)) (sym same) c))),
+      )

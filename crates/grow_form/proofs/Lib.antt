@@ -1,4 +1,9 @@
+pub mod ByColumns
+pub mod Example
 pub mod Growing
+pub mod Moved
+pub mod Numbers
+pub mod OneRow
 pub mod OneScript
 pub mod ScriptAnswers
 pub mod ScriptReading

@@ -14,7 +14,6 @@ use Rattle.row_space.specs.Echelon.{HasRank, IsRref}
 use Rattle.sparse_rows.specs.Rows.{ResidueMatrix}
 use Rattle.sparse_rows.specs.Stored.{with_row}
 use Rattle.sparse_rows.proofs.Loops.{matrix_more}
-use Rattle.sparse_rows.proofs.Renaming.{rising_short}
 use Rattle.sms_text.specs.declared.kind.TextError.{TextError}
 use Rattle.sms_text.specs.declared.kind.TextError.TheVariants as error
 use Rattle.sms_text.specs.declared.reader.TheConstants.{LARGEST_TEXT_SIZE}
@@ -33,7 +32,7 @@ use Rattle.grow_form.specs.declared.answering.Answer.TheVariants as answer
 use Rattle.grow_form.specs.declared.script.ScriptLine.{ScriptLine}
 use Rattle.grow_form.specs.declared.script.ScriptLine.TheVariants.{Append, Rank, Form, Contains, End}
 use Rattle.grow_form.specs.Answers.{AnswersOfScript, FitsRows}
-use Rattle.grow_form.specs.Growing.{AppendsRow, SpansRowsOf}
+use Rattle.grow_form.specs.Growing.{AppendsRow, AreRowsOfForm, SpansRowsOf}
 use Rattle.grow_form.specs.Script.{IsScriptLine, row_of_terms, script_line_of, term_sum}
 use Rattle.grow_form.specs.Scripts.{AddsAnswer, AnswersSteps, AnswerFitsText, SaysScript, SaysStep, TellsWhether, script_answer_text, answers_text, rank_line}
 use Rattle.grow_form.proofs.Growing.{same_form}
@@ -202,13 +201,8 @@ line_vector p n (w ∷ ws) some =
     (vector_either p n (bytes_eq w (codes "rank")) Rank _ tt (vector_either p n (bytes_eq w (codes "rref")) Form End tt tt)))
 
 -- a form fits a text where its rows do
-form_fits : (p n : ℕ) (K E : Matrix) → K.width ≡ n → n ≤ LARGEST_TEXT_SIZE → IsRref p K E → (E.height ≤ LARGEST_TEXT_SIZE) × (E.width ≤ LARGEST_TEXT_SIZE)
-form_fits p n K E width small h =
-    let leads = h.form.0 in
-    let long = h.form.1.0 in
-    let places = h.form.1.1 in
-    let short : length leads ≤ E.width = rising_short leads E.width (λ k t l m. places.rising k t l (omega (arith, m, long))) (λ k l. places.inside k (omega (arith, l, long))) in
-    (omega (arith, short, long, h.width, width, small), omega (arith, h.width, width, small))
+form_fits : (n : ℕ) (A E : ResidueMatrix) → A.matrix.width ≡ n → n ≤ LARGEST_TEXT_SIZE → AreRowsOfForm A E → (E.matrix.height ≤ LARGEST_TEXT_SIZE) × (E.matrix.width ≤ LARGEST_TEXT_SIZE)
+form_fits n A E width small (leads, h) = (omega (arith, h.short, width, small), omega (arith, h.width, width, small))
 
 -- the answer of a line, if there is one
 abbrev those_of : Option Answer → List Answer
@@ -270,8 +264,8 @@ module _ (A grow grow' : ResidueMatrix) (answers answers' : List Answer) (old mi
   line_read Rank (Some (answer.Rank r)) meant vector other (kept, h) grown =
       query_read Rank (answer.Rank r) meant kept grown tt (λ prime steps text t. (script_answer_text (answer.Rank r), text, (r, told_rank (with_rows A is.rows) grow is.spans prime r h, refl), t, refl))
   line_read Form (Some (answer.Form E)) meant vector other (kept, h) grown =
-      query_read Form (answer.Form E) meant kept grown (form_fits grow.modulus A.matrix.width grow.matrix E.matrix (is.spans.width ∙ is.width) small h)
-      (λ prime steps text t. (script_answer_text (answer.Form E), text, (E.matrix, told_form (with_rows A is.rows) grow is.spans prime E.matrix h, refl), t, refl))
+      query_read Form (answer.Form E) meant kept grown (form_fits A.matrix.width grow E (is.spans.width ∙ is.width) small h)
+      (λ prime steps text t. (script_answer_text (answer.Form E), text, (E.matrix, told_form (with_rows A is.rows) grow is.spans prime E.matrix (h.1.rref (subst IsPrime (sym is.spans.modulus) prime)), refl), t, refl))
   line_read (Contains r) (Some (answer.Contains found)) meant vector other (kept, h) grown =
       query_read (Contains r) (answer.Contains found) meant kept grown tt
       (λ prime steps text t. (script_answer_text (answer.Contains found), text, told_whether (with_rows A is.rows) grow is.spans prime (row r.matrix 0) found h, t, refl))

@@ -2,13 +2,13 @@
 use Rattle.std.specs.Prelude.{◌≡◌, ◌↔◌, Bool, true, Option, None, Some}
 use Rattle.residue_words.specs.Matrix.{IsCombination, row}
 use Rattle.residue_words.specs.Residues.{IsPrime}
-use Rattle.row_space.specs.Echelon.{HasRank, IsRref}
+use Rattle.row_space.specs.Echelon.{HasRank}
 use Rattle.sparse_rows.specs.Rows.{ResidueMatrix}
 use Rattle.grow_form.specs.declared.answering.Answer.{Answer}
 use Rattle.grow_form.specs.declared.answering.Answer.TheVariants as answer
 use Rattle.grow_form.specs.declared.script.ScriptLine.{ScriptLine}
 use Rattle.grow_form.specs.declared.script.ScriptLine.TheVariants.{Append, Rank, Form, Contains, End}
-use Rattle.grow_form.specs.Growing.{AppendsRow}
+use Rattle.grow_form.specs.Growing.{AppendsRow, AreRowsOfForm}
 
 -- one row of the width and the modulus of others
 pub record IsRowFor (grow r : ResidueMatrix) : Type 0 where
@@ -27,7 +27,7 @@ abbrev pub AnswersOfScript : ResidueMatrix → ResidueMatrix → ScriptLine → 
 AnswersOfScript old new (Append r) None = (rose : Bool) × AppendsRow old new (row r.matrix 0) rose
 AnswersOfScript old new Rank (Some (answer.Rank r)) =
     (new ≡ old) × (IsPrime old.modulus → HasRank old.modulus old.matrix r)
-AnswersOfScript old new Form (Some (answer.Form E)) = (new ≡ old) × IsRref old.modulus old.matrix E.matrix
+AnswersOfScript old new Form (Some (answer.Form E)) = (new ≡ old) × AreRowsOfForm old E
 AnswersOfScript old new (Contains r) (Some (answer.Contains found)) =
     (new ≡ old) × ((found ≡ true) ↔ IsCombination old.modulus old.matrix (row r.matrix 0))
 AnswersOfScript old new End None = new ≡ old

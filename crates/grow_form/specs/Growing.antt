@@ -3,6 +3,7 @@ use Rattle.std.specs.Prelude.{◌≡◌, ◌+◌, ◌↔◌, Bool, false, if◌t
 use Rattle.residue_words.specs.Matrix.{Matrix, IsCombination, IsMatrix}
 use Rattle.residue_words.specs.Residues.{IsPrime}
 use Rattle.row_space.specs.Echelon.{IsRref, SameSpan}
+use Rattle.echelon_form.specs.Form.{IsFormOf}
 use Rattle.sparse_rows.specs.Rows.{ResidueMatrix}
 use Rattle.sparse_rows.specs.Stored.{with_row}
 
@@ -28,3 +29,8 @@ pub record SpansRowsOf (A grow : ResidueMatrix) : Type 0 where
   pub width : grow.matrix.width ≡ A.matrix.width
   pub matrix : IsMatrix A.modulus grow.matrix
   pub span : IsPrime A.modulus → SameSpan A.modulus grow.matrix A.matrix
+
+-- the rows are those of the echelon form of the rows of A
+abbrev pub AreRowsOfForm : ResidueMatrix → ResidueMatrix → Type 0
+AreRowsOfForm A E = (leads : List ℕ)
+    × IsFormOf A.modulus A.matrix (record { modulus = E.modulus; matrix = E.matrix; leads = leads })

@@ -1,17 +1,45 @@
 // The reduced echelon form of the kept rows.
 ghost use Rattle.std.specs.Prelude.{◌≡◌, length, IfOk};
-ghost use Rattle.row_space.specs.Echelon.{IsRref};
 ghost use Rattle.triangular_solve.specs.Leads.{IsSound};
-ghost use Rattle.echelon_form.specs.Settling.{AreSettled, IsOrderOfLeads};
+ghost use Rattle.echelon_form.specs.Settling.{AreSettled, HaveSpanOf, IsOrderOfLeads};
+ghost use Rattle.grow_form.specs.Numbering.{AreKeptByNumbers, AreSettledByLeads, rows_at_columns};
 
+use crate::numbering::Numbering;
 use sparse_rows::Rows;
 use std::alloc::{AllocError, Global};
 use triangular_solve::{Accumulator, Leads};
 
-// The kept rows settled, by ascending leads.
-pub(crate) fn form_of(alloc: Global, kept: &Leads) -> Result<Rows, AllocError>
+// The rows that are kept by numbers and were settled, eliminated in the order of the columns.
+pub(crate) fn eliminated(
+    alloc: Global,
+    kept: &Leads,
+    settled: &Rows,
+    numbering: &Numbering,
+) -> Result<Leads, AllocError>
+    requires by_numbers { AreKeptByNumbers kept.now numbering.now }
+    requires settled { AreSettledByLeads kept.now settled.now.matrix }
     ensures modulus { IfOk result (λ rows. rows.modulus ≡ kept.now.modulus) }
-    ensures rref { IfOk result (λ rows. IsRref kept.now.modulus kept.now.matrix rows.matrix) }
+    ensures width { IfOk result (λ rows. rows.matrix.width ≡ kept.now.matrix.width) }
+    ensures span { IfOk result (HaveSpanOf (rows_at_columns numbering.now.arrivals kept.now.matrix)) }
+{
+    // The calls tell what the kept rows and the numbers promise.
+    let _ = (kept.height(), numbering.width());
+    let p = kept.modulus();
+    let mut rows = Leads::new(alloc, kept.width(), &p)?;
+    for k in 0..settled.height() {
+        let row = numbering.row_at_columns(alloc, settled.cols(k), settled.vals(k), &p)?;
+        // The calls tell what the rows promise before they change, and that the entries are residues.
+        let _ = (rows.height(), row.height());
+        rows.insert(row.cols(0), row.vals(0))?;
+    }
+    Ok(rows)
+}
+
+// The rows settled, by ascending leads.
+pub(crate) fn settled_rows(alloc: Global, kept: &Leads) -> Result<Rows, AllocError>
+    ensures sound { IsSound kept.now }
+    ensures modulus { IfOk result (λ rows. rows.modulus ≡ kept.now.modulus) }
+    ensures settled { IfOk result (λ rows. AreSettledByLeads kept.now rows.matrix) }
 {
     let order = order_by_leads(alloc, kept)?;
     settle_all(alloc, kept, &order)

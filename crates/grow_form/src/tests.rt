@@ -14,7 +14,7 @@ const REFUSED: u64 = 99;
 
 // Each row: a width, the lines of a script, and the numbers of its answers: a rank, 1 for yes and 0 for no, the row, column and
 // value of each entry of a form.
-const SCRIPTS: [(u32, &[&[u8]], &[u64]); 4] = [
+const SCRIPTS: [(u32, &[&[u8]], &[u64]); 7] = [
     (
         3,
         &[
@@ -48,6 +48,75 @@ const SCRIPTS: [(u32, &[&[u8]], &[u64]); 4] = [
         &[0, 0, 1, 1],
     ),
     (0, &[b"row", b"rank", b"in", b"rref"], &[0, 1]),
+    // Columns that come late, and not in their order, with the answers of a plain elimination of all rows at once.
+    (
+        6,
+        &[
+            b"row 6 2 5 1",
+            b"row 4 3 6 1",
+            b"in 6 2",
+            b"in 1 3",
+            b"rank",
+            b"row 5 3 4 1",
+            b"rank",
+            b"rref",
+            b"row 1 1 6 4",
+            b"in 1 2 6 1",
+            b"in 1 1 2 1",
+            b"row 2 1 4 5",
+            b"rref",
+            b"rank",
+        ],
+        &[
+            0, 0, 2, 3, 0, 3, 1, 1, 4, 1, 2, 5, 1, 1, 0, 0, 0, 1, 1, 1, 1, 2, 3, 1, 3, 4, 1, 4, 5,
+            1, 5,
+        ],
+    ),
+    (
+        5,
+        &[
+            b"row 3 1 5 6",
+            b"row 1 1 3 6",
+            b"row 1 6 5 1",
+            b"rank",
+            b"in 1 1 5 6",
+            b"in 3 1 4 1",
+            b"rref",
+            b"row 4 2 5 3",
+            b"row 2 1 4 1",
+            b"rank",
+            b"rref",
+            b"in 2 2 5 3",
+        ],
+        &[
+            2, 1, 0, 0, 0, 1, 0, 4, 6, 1, 2, 1, 1, 4, 6, 4, 0, 0, 1, 0, 4, 6, 1, 1, 1, 1, 4, 2, 2,
+            2, 1, 2, 4, 6, 3, 3, 1, 3, 4, 5, 0,
+        ],
+    ),
+    (
+        7,
+        &[
+            b"row 7 1 1 1",
+            b"row 7 2 2 1",
+            b"row 7 3 3 1",
+            b"row 1 3 2 2",
+            b"rref",
+            b"in 1 3 3 6",
+            b"in 5 1",
+            b"row 5 1 6 1",
+            b"row 6 1 5 2",
+            b"rank",
+            b"rref",
+            b"in 5 3 6 3",
+            b"in 4 1",
+            b"row 4 4",
+            b"in 4 1 1 3 3 6",
+        ],
+        &[
+            0, 0, 1, 0, 6, 1, 1, 1, 1, 1, 6, 2, 2, 2, 1, 2, 6, 3, 1, 0, 5, 0, 0, 1, 0, 6, 1, 1, 1,
+            1, 1, 6, 2, 2, 2, 1, 2, 6, 3, 3, 4, 1, 4, 5, 1, 1, 0, 1,
+        ],
+    ),
 ];
 
 // The one line of a text.

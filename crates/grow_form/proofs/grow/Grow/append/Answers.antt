@@ -1,18 +1,51 @@
-use Rattle.std.proofs.Common.{arith, subst, sym}
-use Rattle.residue_words.specs.Matrix.{IsVector}
+use Rattle.std.proofs.Common.{◌≡◌, ◌∙◌, ap, length, subst, sym}
+use Rattle.residue_words.specs.Matrix.{IsMatrix}
 use Rattle.sparse_rows.specs.Rows.{ResidueMatrix}
 use Rattle.sparse_rows.specs.Stored.{IsSparse, spread}
-use Rattle.sparse_rows.proofs.Spread.{spread_vector}
 use Rattle.grow_form.specs.Growing.{AppendsRow}
-use Rattle.grow_form.proofs.Growing.{appends_inserted, seen}
+use Rattle.grow_form.specs.Numbering.{AreKeptByNumbers, IsRowByNumbers, seen_rows}
+use Rattle.grow_form.proofs.Growing.{any_err, row_appended, row_kept, row_sparse}
+use Rattle.grow_form.proofs.Numbers.{kept_behind, seen_behind}
 use Rattle.grow_form.proofs.grow.Grow.append.Goals as goal
+
+pub note-requires : goal.note-requires
+note-requires c =
+    let sparse : IsSparse c.self.inside.kept.modulus (length c.self.inside.numbering.arrivals) c.args.cols.now c.args.vals.now =
+    subst (λ (g : ResidueMatrix). IsSparse g.modulus g.matrix.width c.args.cols.now c.args.vals.now) (sym c.self.view_is) c.requires in
+    sparse.below
+
+pub row_by_numbers-requires-clause-sparse : goal.row_by_numbers-requires-clause-sparse
+row_by_numbers-requires-clause-sparse c =
+    let sparse : IsSparse c.self.inside.kept.modulus (length c.self.inside.numbering.arrivals) c.args.cols.now c.args.vals.now =
+    subst (λ (g : ResidueMatrix). IsSparse g.modulus g.matrix.width c.args.cols.now c.args.vals.now) (sym c.self.view_is) c.requires in
+    rw (c.modulus-p.ensures, c.note.ensures.behind.width) sparse
+
+pub insert-requires : goal.insert-requires
+insert-requires c =
+    let is : IsRowByNumbers c.note.new.self c.self.inside.kept.modulus c.args.cols.now c.args.vals.now c.in_ok-row.row =
+    subst (λ p. IsRowByNumbers c.note.new.self p c.args.cols.now c.args.vals.now c.in_ok-row.row) c.modulus-p.ensures c.in_ok-row.ensures in
+    row_sparse c.height.ensures.sound c.self.invariant c.width-2.ensures.sound c.note.ensures.behind is c.height-2.ensures.sound c.cols.ensures.support c.vals.ensures.values
 
 pub returns-clause-ok : goal.returns-clause-ok
 returns-clause-ok c =
-    let sparse : IsSparse c.self.inside.kept.modulus c.self.inside.kept.matrix.width c.args.cols.now c.args.vals.now =
-    subst (λ (g : ResidueMatrix). IsSparse g.modulus g.matrix.width c.args.cols.now c.args.vals.now) (sym c.self.view_is) c.requires in
-    let vector : IsVector c.self.inside.kept.modulus c.self.inside.kept.matrix.width (spread c.self.inside.kept.matrix.width c.args.cols.now c.args.vals.now) =
-    spread_vector (omega (arith, c.height.ensures.sound.two_or_more)) sparse in
-    subst (λ (g : ResidueMatrix). AppendsRow g (seen c.insert.new.self) (spread g.matrix.width c.args.cols.now c.args.vals.now) c.is_some.result) c.self.view_is
-    (subst (AppendsRow (seen c.self.inside.kept) (seen c.insert.new.self) (spread c.self.inside.kept.matrix.width c.args.cols.now c.args.vals.now)) (sym c.is_some.ensures)
-    (appends_inserted c.insert.new.self c.height.ensures.sound c.height-2.ensures.sound vector c.in_ok-lead.lead c.in_ok-lead.ensures.inserted))
+    let is : IsRowByNumbers c.note.new.self c.self.inside.kept.modulus c.args.cols.now c.args.vals.now c.in_ok-row.row =
+    subst (λ p. IsRowByNumbers c.note.new.self p c.args.cols.now c.args.vals.now c.in_ok-row.row) c.modulus-p.ensures c.in_ok-row.ensures in
+    subst (λ (g : ResidueMatrix). AppendsRow g (seen_rows c.insert.new.self c.cover.new.self) (spread g.matrix.width c.args.cols.now c.args.vals.now) c.is_some.result) c.self.view_is
+    (subst (AppendsRow (seen_rows c.self.inside.kept c.self.inside.numbering) (seen_rows c.insert.new.self c.cover.new.self) (spread (length c.self.inside.numbering.arrivals) c.args.cols.now c.args.vals.now)) (sym c.is_some.ensures)
+    (row_appended c.height.ensures.sound c.self.invariant c.width-2.ensures.sound c.note.ensures.behind is c.height-2.ensures.sound c.cols.ensures.support c.vals.ensures.values
+    c.height-3.ensures.sound c.cover.ensures.behind c.in_ok-lead.lead c.in_ok-lead.ensures.inserted))
+
+pub invariant_of-self-2 : goal.invariant_of-self-2
+invariant_of-self-2 c =
+    let is : IsRowByNumbers c.note.new.self c.self.inside.kept.modulus c.args.cols.now c.args.vals.now c.in_ok-row.row =
+    subst (λ p. IsRowByNumbers c.note.new.self p c.args.cols.now c.args.vals.now c.in_ok-row.row) c.modulus-p.ensures c.in_ok-row.ensures in
+    row_kept c.height.ensures.sound c.self.invariant c.width-2.ensures.sound c.note.ensures.behind is c.height-2.ensures.sound c.cols.ensures.support c.vals.ensures.values
+    c.cover.ensures.behind c.in_ok-lead.lead c.cover.ensures.covered c.in_ok-lead.ensures.inserted
+
+pub returns-in_err-row-clause-err : goal.returns-in_err-row-clause-err
+returns-in_err-row-clause-err c = any_err c.from_residual.result (seen_behind c.height.ensures.sound c.self.invariant c.note.ensures.behind ∙ c.self.view_is)
+
+pub returns-in_err-lead-clause-err : goal.returns-in_err-lead-clause-err
+returns-in_err-lead-clause-err c =
+    any_err c.from_residual-in_err-lead.result
+    (ap (λ K. seen_rows K c.note.new.self) c.in_err-lead.ensures.err ∙ seen_behind c.height.ensures.sound c.self.invariant c.note.ensures.behind ∙ c.self.view_is)

@@ -1,15 +1,22 @@
-use Rattle.std.proofs.Common.{refl, subst, sym}
+use Rattle.std.proofs.Common.{arith, refl, subst, sym}
 use Rattle.residue_words.specs.Residues.{IsPrime}
 use Rattle.row_space.specs.Echelon.{HasRank}
 use Rattle.row_space.proofs.Rows.{rank_of_independent}
 use Rattle.sparse_rows.specs.Rows.{ResidueMatrix}
-use Rattle.triangular_solve.proofs.Combining.{leads_independent}
+use Rattle.grow_form.specs.Numbering.{number_of, rows_at_columns}
+use Rattle.grow_form.proofs.Growing.{seen_independent}
+use Rattle.grow_form.proofs.Moved.{moved_matrix}
+use Rattle.std.proofs.Common.{length, ◌<◌}
+use Rattle.residue_words.specs.Matrix.{Matrix, IsMatrix}
 use Rattle.grow_form.proofs.grow.Grow.rank.Goals as goal
 
 pub returns-clause-rank : goal.returns-clause-rank
 returns-clause-rank c =
     subst (λ (g : ResidueMatrix). IsPrime g.modulus → HasRank g.modulus g.matrix c.height.result) c.self.view_is
-    (λ prime. subst (HasRank c.self.inside.kept.modulus c.self.inside.kept.matrix) (sym c.height.ensures.value)
-    (rank_of_independent c.rref_exists.ensures c.span_fixes_height.ensures c.self.inside.kept.modulus c.self.inside.kept.matrix c.self.inside.kept.matrix prime
-    c.height.ensures.sound.matrix c.height.ensures.sound.matrix refl
-    (leads_independent c.self.inside.kept.modulus c.self.inside.kept.matrix c.self.inside.kept.leads c.height.ensures.sound.leads) (λ v. ((λ x. x), (λ x. x)))))
+    (λ prime.
+        let A : Matrix = rows_at_columns c.self.inside.numbering.arrivals c.self.inside.kept.matrix in
+        let m : IsMatrix c.self.inside.kept.modulus A =
+        moved_matrix (length c.self.inside.numbering.arrivals) (number_of c.self.inside.numbering.arrivals) (omega (arith, c.height.ensures.sound.two_or_more)) c.height.ensures.sound.matrix in
+        subst (HasRank c.self.inside.kept.modulus A) (sym c.height.ensures.value)
+        (rank_of_independent c.rref_exists.ensures c.span_fixes_height.ensures c.self.inside.kept.modulus A A prime
+        m m refl (seen_independent c.height.ensures.sound c.width.ensures.sound c.self.invariant) (λ v. ((λ x. x), (λ x. x)))))
