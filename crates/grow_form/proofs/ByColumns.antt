@@ -1,8 +1,8 @@
 -- Kept rows that are settled by their numbers, moved to the columns and eliminated there.
-use Rattle.std.proofs.Common.{ℕ, ◌≡◌, ◌+◌, ◌<◌, ◌≤◌, inl, inr, List, length, slice_index, slice_index_or, sym, refl, ap, ap₂, subst, ◌∙◌, arith, Option}
+use Rattle.std.proofs.Common.{ℕ, ◌≡◌, ◌+◌, ◌<◌, inl, inr, List, length, slice_index, slice_index_or, sym, ap, ap₂, subst, ◌∙◌, arith, Option}
 use Rattle.std.proofs.lemmas.Bool.{cases_eq}
-use Rattle.residue_words.specs.Matrix.{Matrix, IsMatrix, IsVector, entry, row, zeros}
-use Rattle.residue_words.proofs.Vectors.{at_list_of, at_zeros, combination_through}
+use Rattle.residue_words.specs.Matrix.{Matrix, IsMatrix, IsVector, entry, row}
+use Rattle.residue_words.proofs.Vectors.{at_zeros, combination_through}
 use Rattle.row_space.specs.Echelon.{SameSpan}
 use Rattle.sparse_rows.specs.Rows.{IsFilled, IsNextFilled, ResidueMatrix, nonzeros, support}
 use Rattle.sparse_rows.specs.Stored.{IsSparse, spread}

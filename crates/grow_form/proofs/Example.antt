@@ -1,8 +1,8 @@
 -- The script of the example answered.
-use Rattle.std.proofs.Common.{ℕ, zero, suc, ◌≡◌, ◌<◌, List, [], ◌∷◌, codes, slice_index, inl, inr, refl, arith, ◌≢◌}
+use Rattle.std.proofs.Common.{ℕ, zero, suc, ◌≡◌, ◌<◌, [], ◌∷◌, codes, slice_index, inl, inr, refl, arith, ◌≢◌}
 use Rattle.residue_words.specs.Residues.{sum_below}
-use Rattle.residue_words.specs.Matrix.{Matrix, IsCombination, IsMatrix, IsVector, entry, row}
-use Rattle.row_space.specs.Echelon.{HasPlaces, HasRank, IsRref}
+use Rattle.residue_words.specs.Matrix.{Matrix, IsCombination, IsVector, entry, row}
+use Rattle.row_space.specs.Echelon.{IsRref}
 use Rattle.row_space.proofs.Spans.{same_span_of_rows}
 use Rattle.grow_form.specs.Example.{IsWorkedScript}
 use Rattle.grow_form.specs.Scripts.{rank_line}

@@ -1,12 +1,12 @@
 -- Rows whose entries are moved: at column j stands the entry that had the number of j.
-use Rattle.std.proofs.Common.{ℕ, suc, ◌≡◌, ◌+◌, ◌*◌, ◌%◌, ◌<◌, ◌≤◌, ◌↔◌, ◌⊎◌, inl, inr, List, [], ◌∷◌, length, map, slice_index, slice_index_or, sym, refl, ap, ap₂, subst, ◌∙◌, arith, mul-zero}
+use Rattle.std.proofs.Common.{ℕ, suc, ◌≡◌, ◌+◌, ◌*◌, ◌%◌, ◌<◌, ◌≤◌, ◌⊎◌, inl, inr, List, [], ◌∷◌, length, map, slice_index, slice_index_or, sym, refl, ap, ap₂, subst, ◌∙◌, arith, mul-zero}
 use native.Mathlib.Nat.{zero-mod}
 use Rattle.std.proofs.lemmas.Bool.{cases_lt}
 use Rattle.std.proofs.lemmas.List.{get_or_past, get_or-map, length-map, map-append}
 use Rattle.residue_words.specs.Residues.{sum_below}
 use Rattle.residue_words.specs.Matrix.{Matrix, IsCombination, IsMatrix, IsVector, combine, entry, list_of, row, zeros}
 use Rattle.residue_words.proofs.Sums.{sum_equal, sum_zero}
-use Rattle.residue_words.proofs.Vectors.{at_combine, at_list_of, at_zeros, combine_vector, length_list_of, list_of_equal, vector_equal, vector_of, zeros_vector}
+use Rattle.residue_words.proofs.Vectors.{at_combine, at_list_of, at_zeros, combine_vector, list_of_equal, vector_equal, vector_of, zeros_vector}
 use Rattle.row_space.specs.Echelon.{IsIndependent, SameSpan}
 use Rattle.sparse_rows.specs.Stored.{with_row}
 

@@ -1,5 +1,5 @@
 -- Columns that get numbers as they come, and rows by these numbers.
-use Rattle.std.proofs.Common.{ℕ, zero, suc, ◌≡◌, ◌≢◌, ◌+◌, ◌-◌, ◌*◌, ◌%◌, ◌<◌, ◌≤◌, ◌⊎◌, inl, inr, List, [], ◌∷◌, ◌++◌, length, map, replicate, cond, eqb, slice_index, slice_index_or, slice_set, sym, refl, ap, ap₂, subst, ◌∙◌, arith, length-append, mod-eq_of_lt, mul-zero, ◌↔◌, Option, Some, None}
+use Rattle.std.proofs.Common.{ℕ, zero, suc, ◌≡◌, ◌≢◌, ◌+◌, ◌-◌, ◌*◌, ◌%◌, ◌<◌, ◌≤◌, ◌⊎◌, inl, inr, List, [], ◌∷◌, ◌++◌, length, map, replicate, cond, eqb, slice_index, slice_set, sym, refl, ap, subst, ◌∙◌, arith, mod-eq_of_lt, mul-zero, ◌↔◌, Option, Some, None}
 use native.Mathlib.Nat.{zero-mod}
 use Rattle.std.specs.List.{All}
 use Rattle.std.proofs.Math.ListN.{get_or-append}
@@ -7,17 +7,17 @@ use Rattle.std.proofs.Math.Seq.{get_or-append_seam}
 use Rattle.std.proofs.lemmas.Bool.{cases_eq, cases_lt, cond-false, cond-true, eq-eqb, ne_eqb}
 use Rattle.std.proofs.lemmas.List.{get_or-set_same, get_or-set_other, get_or-map, get_or_past, length-map, length-replicate, length-set}
 use Rattle.residue_words.specs.Residues.{IsPrime}
-use Rattle.residue_words.specs.Matrix.{Matrix, IsCombination, IsMatrix, IsVector, combine, entry, list_of, row}
+use Rattle.residue_words.specs.Matrix.{Matrix, IsCombination, IsMatrix, IsVector, entry, list_of, row}
 use Rattle.residue_words.proofs.Sums.{sum_zero}
 use Rattle.residue_words.proofs.Vectors.{at_combine, at_list_of, length_list_of, list_of_equal, row_combination, row_matrix_of}
 use Rattle.row_space.proofs.Counting.{pigeonhole}
 use Rattle.sparse_rows.specs.Rows.{FitsMatrix, ResidueMatrix, built, nonzeros, row_triples, sum_at, support, triple}
 use Rattle.sparse_rows.specs.Stored.{IsSparse, entry_at, spread, with_row}
 use Rattle.sparse_rows.proofs.Loops.{row_before, row_last}
-use Rattle.sparse_rows.proofs.Spread.{at_spread, entry_cover, entry_here, entry_support, spread_vector, support_sparse}
+use Rattle.sparse_rows.proofs.Spread.{at_spread, entry_cover, entry_here, entry_support, spread_vector}
 use Rattle.triangular_solve.specs.Leads.{Appends, Inserts, IsSound, KeptRows}
 use Rattle.grow_form.specs.Numbering.{AreKeptByNumbers, AreUsed, ComesBehind, HasNumber, HaveCome, IsByNumbers, IsNumbering, IsRowAtColumns, IsRowByNumbers, NumberedColumns, at_columns, column_of, no_columns, number_of, rows_at_columns, seen_rows}
-use Rattle.grow_form.proofs.Moved.{combination_back, combination_beyond, combination_there, map_equal, moved_independent}
+use Rattle.grow_form.proofs.Moved.{combination_back, combination_beyond, combination_there, map_equal}
 use Rattle.grow_form.proofs.OneRow.{renamed_away, renamed_fit, renamed_here}
 
 -- no more columns have come than there are

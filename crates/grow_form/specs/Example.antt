@@ -1,6 +1,5 @@
 -- A script of four lines modulo 7 in two columns, and its answers.
 use Rattle.std.specs.Prelude.{ℕ, List, [], ◌∷◌, ◌++◌, codes}
-use Rattle.residue_words.specs.Matrix.{Matrix}
 use Rattle.grow_form.specs.Scripts.{AnswersLines, rank_line}
 
 -- the words of `row 1 3`, `rank`, `in 1 1`, `in 2 1` and `end`

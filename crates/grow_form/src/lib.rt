@@ -2,8 +2,6 @@
 //! give such rows and questions as texts.
 #![tactic(auto)]
 
-ghost use Rattle.grow_form.specs.Example.{IsWorkedScript};
-
 mod answering;
 mod grow;
 mod numbering;
@@ -19,6 +17,8 @@ pub use grow::Grow;
 pub use script::{ScriptLine, script_line};
 pub use scripts::answer_script;
 pub use writing::write_answers;
+
+ghost use Rattle.grow_form.specs.Example.{IsWorkedScript};
 
 /// A small script worked: what its lines are answered.
 pub fn script_is_worked()

@@ -1,10 +1,10 @@
-use Rattle.std.proofs.Common.{◌≡◌, ◌∙◌, ◌<◌, ap₂, arith, subst, sym}
-use Rattle.residue_words.specs.Matrix.{IsMatrix, IsVector, row}
+use Rattle.std.proofs.Common.{◌∙◌, ap₂, arith, subst, sym}
+use Rattle.residue_words.specs.Matrix.{IsMatrix}
 use Rattle.row_space.specs.Echelon.{SameSpan}
 use Rattle.row_space.proofs.Spans.{same_span_chained}
 use Rattle.triangular_solve.specs.Leads.{no_rows}
 use Rattle.triangular_solve.proofs.Draining.{sparse_of}
-use Rattle.echelon_form.proofs.Keeping.{IsKeeping, keeping_all}
+use Rattle.echelon_form.proofs.Keeping.{keeping_all}
 use Rattle.grow_form.specs.Numbering.{IsRowAtColumns, rows_at_columns}
 use Rattle.grow_form.proofs.ByColumns.{eliminated_none, eliminated_more, settled_matrix, settled_seen, settled_sparse, settled_used}
 use Rattle.grow_form.proofs.reduced_form.eliminated.Goals as goal

@@ -1,11 +1,10 @@
-use Rattle.std.proofs.Common.{◌≡◌, ◌∙◌, ap, length, subst, sym}
-use Rattle.residue_words.specs.Matrix.{IsMatrix}
+use Rattle.std.proofs.Common.{◌∙◌, ap, length, subst, sym}
 use Rattle.sparse_rows.specs.Rows.{ResidueMatrix}
 use Rattle.sparse_rows.specs.Stored.{IsSparse, spread}
 use Rattle.grow_form.specs.Growing.{AppendsRow}
-use Rattle.grow_form.specs.Numbering.{AreKeptByNumbers, IsRowByNumbers, seen_rows}
+use Rattle.grow_form.specs.Numbering.{IsRowByNumbers, seen_rows}
 use Rattle.grow_form.proofs.Growing.{any_err, row_appended, row_kept, row_sparse}
-use Rattle.grow_form.proofs.Numbers.{kept_behind, seen_behind}
+use Rattle.grow_form.proofs.Numbers.{seen_behind}
 use Rattle.grow_form.proofs.grow.Grow.append.Goals as goal
 
 pub note-requires : goal.note-requires

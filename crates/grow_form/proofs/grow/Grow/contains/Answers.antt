@@ -1,7 +1,7 @@
 use Rattle.std.proofs.Common.{◌≡◌, ◌↔◌, ◌∙◌, false, true, length, ap, arith, subst, sym}
 use Rattle.std.proofs.lemmas.Bool.{false≢true}
 use Rattle.std.proofs.lemmas.Bool.Decides.{nat_tests}
-use Rattle.residue_words.specs.Matrix.{IsCombination, row}
+use Rattle.residue_words.specs.Matrix.{IsCombination}
 use Rattle.sparse_rows.specs.Rows.{ResidueMatrix, support}
 use Rattle.sparse_rows.specs.Stored.{IsSparse, spread}
 use Rattle.grow_form.specs.Numbering.{IsRowByNumbers}

@@ -1,4 +1,4 @@
-use Rattle.std.proofs.Common.{◌≡◌, ℕ, List, ◌∙◌, map, refl, sym, subst}
+use Rattle.std.proofs.Common.{ℕ, ◌∙◌, map, refl, subst}
 use Rattle.residue_words.specs.Residues.{IsPrime}
 use Rattle.row_space.specs.Echelon.{SameSpan}
 use Rattle.sparse_rows.specs.Rows.{ResidueMatrix}

@@ -6,7 +6,7 @@ use Rattle.sparse_rows.specs.Rows.{ResidueMatrix}
 use Rattle.grow_form.specs.Numbering.{number_of, rows_at_columns}
 use Rattle.grow_form.proofs.Growing.{seen_independent}
 use Rattle.grow_form.proofs.Moved.{moved_matrix}
-use Rattle.std.proofs.Common.{length, ◌<◌}
+use Rattle.std.proofs.Common.{length}
 use Rattle.residue_words.specs.Matrix.{Matrix, IsMatrix}
 use Rattle.grow_form.proofs.grow.Grow.rank.Goals as goal
 

@@ -1,5 +1,4 @@
-use Rattle.std.proofs.Common.{◌≡◌, ap₂, List, ℕ}
-use Rattle.grow_form.specs.Numbering.{NumberedColumns}
+use Rattle.std.proofs.Common.{ap₂, List, ℕ}
 use Rattle.grow_form.proofs.numbering.Numbering.new.Goals as goal
 
 pub returns : goal.returns

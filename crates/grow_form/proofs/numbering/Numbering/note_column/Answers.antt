@@ -1,6 +1,6 @@
-use Rattle.std.proofs.Common.{◌≡◌, ◌<◌, ◌≤◌, ◌+◌, ◌∙◌, arith, length, slice_index, subst, sym}
+use Rattle.std.proofs.Common.{◌≡◌, ◌<◌, ◌∙◌, arith, length, slice_index, subst, sym}
 use Rattle.std.proofs.lemmas.List.{get_or_read}
-use Rattle.grow_form.specs.Numbering.{ComesBehind, IsNumbering, NumberedColumns}
+use Rattle.grow_form.specs.Numbering.{NumberedColumns}
 use Rattle.grow_form.proofs.Numbers.{column_noted, columns_few, noted_behind, room_left}
 use Rattle.grow_form.proofs.numbering.Numbering.note_column.Goals as goal
 

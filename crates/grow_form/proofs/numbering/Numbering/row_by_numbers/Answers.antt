@@ -1,7 +1,6 @@
-use Rattle.std.proofs.Common.{ℕ, List, ◌≡◌, ◌≢◌, ◌<◌, ◌≤◌, ◌+◌, ◌-◌, ◌++◌, ◌∷◌, [], ◌∙◌, ap, ap₂, arith, length, map, slice_index, subst, sym}
-use Rattle.std.specs.List.{All}
+use Rattle.std.proofs.Common.{ℕ, List, ◌≡◌, ◌≢◌, ◌<◌, ◌-◌, ◌++◌, ◌∷◌, [], ◌∙◌, ap, ap₂, arith, length, map, slice_index, subst, sym}
 use Rattle.std.proofs.lemmas.List.{get_or_read}
-use Rattle.sparse_rows.specs.Rows.{FitsMatrix, built, row_triples, triple}
+use Rattle.sparse_rows.specs.Rows.{built, row_triples, triple}
 use Rattle.grow_form.specs.Numbering.{IsNumbering, NumberedColumns, number_of}
 use Rattle.grow_form.proofs.Numbers.{built_by_numbers, columns_few, fit_by_numbers}
 use Rattle.grow_form.proofs.OneRow.{renamed_all, renamed_more}
