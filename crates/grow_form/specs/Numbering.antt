@@ -1,5 +1,6 @@
 -- Columns that get numbers as they come, so that the newest one has the least number.
-use Rattle.std.specs.Prelude.{◌≡◌, ◌≢◌, ◌<◌, ◌≤◌, ◌+◌, ◌-◌, ℕ, List, length, map, replicate, slice_index, Option, Some}
+use Rattle.std.specs.Prelude.{◌≡◌, ◌≢◌, ◌<◌, ◌≤◌, ◌+◌, ◌-◌, ℕ, List, Option, Some, length, map, replicate}
+use Rattle.std.specs.Prelude.{slice_index}
 use Rattle.residue_words.specs.Matrix.{Matrix, list_of, row}
 use Rattle.sparse_rows.specs.Rows.{ResidueMatrix}
 use Rattle.sparse_rows.specs.Stored.{spread}
@@ -7,8 +8,8 @@ use Rattle.sparse_rows.specs.declared.rows.TheConstants.{LARGEST_SIZE}
 use Rattle.triangular_solve.specs.Leads.{KeptRows}
 use Rattle.echelon_form.specs.Settling.{AreSettled, IsOrderOfLeads}
 
--- for each column 1 and its place among those that have come, or 0; these columns in the order in which they came, and room for
--- the others; and how many have come
+-- for each column 1 and its place among those that have come, or 0; these columns in the order in which they
+-- came, and room for the others; and how many have come
 pub record NumberedColumns : Type 0 where
   pub arrivals : List ℕ
   pub columns : List ℕ
@@ -18,7 +19,8 @@ pub record NumberedColumns : Type 0 where
 abbrev pub no_columns : ℕ → NumberedColumns
 no_columns n = record { arrivals = replicate n 0; columns = replicate n 0; count = 0 }
 
--- of n columns the one that came at place k has the number n - 1 - k, and one that hasn't come n, where no row has an entry
+-- of n columns the one that came at place k has the number n - 1 - k, and one that hasn't come n, where no row
+-- has an entry
 abbrev pub number_of : List ℕ → ℕ → ℕ
 number_of arrivals j = length arrivals - slice_index arrivals j
 
@@ -64,7 +66,8 @@ pub record ComesBehind (old new : NumberedColumns) : Type 0 where
   pub same : (w : List ℕ) → IsByNumbers old w → at_columns new.arrivals w ≡ at_columns old.arrivals w
 
 -- the matrix of one row that is the row of these columns and values by the numbers of the columns
-pub record IsRowByNumbers (N : NumberedColumns) (p : ℕ) (cols vals : List ℕ) (r : ResidueMatrix) : Type 0 where
+pub record IsRowByNumbers (N : NumberedColumns) (p : ℕ) (cols vals : List ℕ)
+    (r : ResidueMatrix) : Type 0 where
   pub modulus : r.modulus ≡ p
   pub height : r.matrix.height ≡ 1
   pub width : r.matrix.width ≡ length N.arrivals
@@ -80,7 +83,8 @@ abbrev pub HasNumber : NumberedColumns → Option ℕ → Type 0
 HasNumber N lead = (number : ℕ) → lead ≡ Some number → length N.arrivals ≤ number + N.count
 
 -- the matrix of one row that is the row of these numbers and values, moved to the columns
-pub record IsRowAtColumns (N : NumberedColumns) (p : ℕ) (numbers vals : List ℕ) (r : ResidueMatrix) : Type 0 where
+pub record IsRowAtColumns (N : NumberedColumns) (p : ℕ) (numbers vals : List ℕ)
+    (r : ResidueMatrix) : Type 0 where
   pub modulus : r.modulus ≡ p
   pub height : r.matrix.height ≡ 1
   pub width : r.matrix.width ≡ length N.arrivals

@@ -18,9 +18,9 @@ use triangular_solve::Leads;
 /// The row space of rows that are appended one after another. Contracts see the modulus and independent rows that span it;
 /// what is asked of it, its rank, its reduced echelon form and the rows in it, are the same whichever rows these are.
 ///
-/// Rows are kept by their leads, each at that of its columns which came last, so that a new row meets few of them; they are
-/// settled only where the form is asked for. It takes 20 bytes a column, 8 of which are touched only at columns that have
-/// come, at most 24 bytes an entry of the kept rows and about 90 bytes a row.
+/// Rows are kept by their leads, each at that of its columns which came last, so that a new row meets few of
+/// them; they are settled only where the form is asked for. It takes 20 bytes a column, 8 of which are touched
+/// only at columns that have come, at most 24 bytes an entry of the kept rows and about 90 bytes a row.
 #[derive(Debug, Drop)]
 pub struct Grow {
     alloc: Global,
@@ -106,9 +106,9 @@ impl Grow {
         Ok(self.kept.rest(self.alloc, row.cols(0), row.vals(0))?.cols().is_empty())
     }
 
-    /// The reduced echelon form of the rows: for a prime modulus the one form of all rows that were appended. The kept rows are
-    /// settled, eliminated anew in the order of the columns and settled again, in the time of the entries that this makes and of
-    /// the columns.
+    /// The reduced echelon form of the rows: for a prime modulus the one form of all rows that were appended. The
+    /// kept rows are settled, eliminated anew in the order of the columns and settled again, in the time of the
+    /// entries that this makes and of the columns.
     pub fn form(&self) -> Result<Rows, AllocError>
         ensures { IfOk result (AreRowsOfForm self.now) }
     {

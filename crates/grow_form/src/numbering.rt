@@ -3,15 +3,16 @@ ghost use Rattle.std.specs.Prelude.{◌≡◌, ◌≢◌, ◌<◌, ◌≤◌, �
 ghost use Rattle.sparse_rows.specs.Rows.{AreBelow};
 ghost use Rattle.sparse_rows.specs.Stored.{IsSparse};
 ghost use Rattle.sparse_rows.specs.declared.rows.TheConstants.{LARGEST_SIZE};
-ghost use Rattle.grow_form.specs.Numbering.{AreUsed, ComesBehind, HasNumber, HaveCome, IsNumbering, IsRowAtColumns, IsRowByNumbers, no_columns};
+ghost use Rattle.grow_form.specs.Numbering.{AreUsed, ComesBehind, HasNumber, HaveCome, IsNumbering};
+ghost use Rattle.grow_form.specs.Numbering.{IsRowAtColumns, IsRowByNumbers, no_columns};
 
 use residue_words::Modulus;
 use sparse_rows::Rows;
 use std::alloc::{AllocError, Global};
 use std::marker::Model;
 
-// Of n columns the one that comes first has the number n - 1, the next one n - 2, and so on. It takes 8 bytes a column, which
-// are touched only where columns have come.
+// Of n columns the one that comes first has the number n - 1, the next one n - 2, and so on. It takes 8 bytes a
+// column, which are touched only where columns have come.
 #[derive(Debug, Drop)]
 pub(crate) struct Numbering {
     // For each column 1 and its place among those that have come, or 0.

@@ -48,7 +48,7 @@ const SCRIPTS: [(u32, &[&[u8]], &[u64]); 7] = [
         &[0, 0, 1, 1],
     ),
     (0, &[b"row", b"rank", b"in", b"rref"], &[0, 1]),
-    // Columns that come late, and not in their order, with the answers of a plain elimination of all rows at once.
+    // Columns that come late, and not in their order, with the answers of a plain elimination of all rows.
     (
         6,
         &[
