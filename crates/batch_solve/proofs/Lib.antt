@@ -4,5 +4,6 @@ pub mod BatchReplies
 pub mod BatchShapes
 pub mod BatchWhole
 pub mod BatchWriting
+pub mod OneBatchAnswer
 pub mod Serving
 pub mod Slots

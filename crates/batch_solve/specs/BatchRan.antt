@@ -41,6 +41,12 @@ abbrev pub IsBatchAnswered : List (List ℕ) → ℕ → Input → List ℕ → 
 IsBatchAnswered words limit input text =
     (c : BatchCommand) × AcceptedBatch words c × HasBatchAnswer c limit input text
 
+-- the answer of a batch to the same words and bytes is one text, for a prime modulus
+abbrev pub IsOneBatchAnswer : Type 0
+IsOneBatchAnswer = (words : List (List ℕ)) (limit : ℕ) (input : Input) (c : BatchCommand) (text other : List ℕ) →
+    AcceptedBatch words c → IsPrime c.modulus →
+    IsBatchAnswered words limit input text → IsBatchAnswered words limit input other → text ≡ other
+
 -- why there is no answer
 abbrev pub HasNoBatchAnswer : List (List ℕ) → ℕ → Input → BatchStatus → Type 0
 HasNoBatchAnswer words limit input status.Usage = AskForNoBatch words

@@ -7,7 +7,7 @@ ghost use Rattle.spasm_run.specs.Options.{bytes_of};
 ghost use Rattle.batch_solve.specs.declared.batch_words.TheConstants.{LARGEST_COUNT};
 ghost use Rattle.batch_solve.specs.BatchAnswers.{batch_misfit};
 ghost use Rattle.batch_solve.specs.BatchFound.{AreBatchReplies, ComesOfBatch, IsSmallReply, WereFound, matrices_of};
-ghost use Rattle.batch_solve.specs.BatchRan.{BatchRan};
+ghost use Rattle.batch_solve.specs.BatchRan.{BatchRan, IsOneBatchAnswer};
 ghost use Rattle.batch_solve.specs.BatchStatus.{BatchSaysWhy, is_batch_done, is_batch_written};
 ghost use Rattle.batch_solve.specs.BatchWords.{AcceptedBatch, AskForNoBatch};
 
@@ -24,6 +24,11 @@ use sparse_rows::Rows;
 use std::alloc::{AllocError, Global};
 use std::sync::Wait;
 use std::thread::Threads;
+
+/// A batch has one answer for the same words and bytes, where the modulus is prime.
+pub fn at_most_one_batch_answer()
+    ensures { IsOneBatchAnswer }
+{}
 
 /// Runs the batch that the words ask for: reads a matrix A and the right-hand sides b behind it from the source, and writes what
 /// `solve` writes for A and each b to `out`, in their order, all at once and only if all went well. Where it did not, one line that

@@ -20,7 +20,7 @@ mod watch;
 mod worker;
 mod written_replies;
 
-pub use batch_run::{run_batch, run_batch_within};
+pub use batch_run::{at_most_one_batch_answer, run_batch, run_batch_within};
 pub use batch_status::BatchStatus;
 pub use batch_words::{BatchCommand, LARGEST_COUNT, at_most_one_batch, read_batch_words};
 pub use desk::Desk;
