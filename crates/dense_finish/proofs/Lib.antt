@@ -7,15 +7,12 @@ pub mod Filling
 pub mod Gathering
 pub mod Growing
 pub mod Indexing
-pub mod MovedRows
-pub mod Noting
 pub mod Parts
 pub mod ProductSums
 pub mod Progress
 pub mod Putting
 pub mod Splitting
 pub mod Stages
-pub mod TakingOff
 pub mod TakingOut
 pub mod UnitRows
 pub mod Vectors

@@ -1,11 +1,9 @@
 pub mod Block
 pub mod Dense
-pub mod DenseBasis
 pub mod Factors
 pub mod Multiples
 pub mod Panel
 pub mod Pivots
 pub mod Products
-pub mod ReducedRows
 pub mod Splitting
 pub mod Units

@@ -7,14 +7,12 @@ ghost use Rattle.dense_finish.specs.Dense.{AreEntriesAt, Gathers, IsZeroAtFree, 
 ghost use Rattle.sparse_rows.specs.Rows.{AreBelow};
 ghost use Rattle.dense_finish.specs.Multiples.{plus_multiple};
 ghost use Rattle.dense_finish.specs.Products.{AddsBetween};
-ghost use Rattle.dense_finish.specs.ReducedRows.{cleared_at};
 ghost use Rattle.dense_finish.specs.declared.panel.TheConstants.{PANEL};
 ghost use Rattle.residue_words.specs.declared.shoup.TheConstants.{LANE_BOUND};
 
 use crate::panel::PANEL;
 use crate::products::{Columns, Folding, add_lanes};
 use crate::residue::Residue;
-use crate::row_addition::axpy;
 use residue_words::Modulus;
 use sparse_rows::Sparse;
 use std::alloc::{AllocError, Global};
@@ -265,56 +263,6 @@ impl<W: Residue> Dense<W> {
             }
         }
         Ok(())
-    }
-}
-
-impl Dense<u64> {
-    // Takes a row off as often as makes this one 0 at a column where that one is 1.
-    pub(crate) fn clear_at(&mut self, column: usize, unit: &Dense<u64>, p: &Modulus)
-        requires inside { column < length self.old }
-        requires residues { IsVector p.now (length self.old) self.old }
-        requires unit { IsVector p.now (length self.old) unit.now }
-        ensures { self.new ≡ cleared_at p.now column unit.now self.old }
-    {
-        let a = self.get(column);
-        if a != 0 {
-            axpy(&mut self.places, p.neg(a), &unit.places, p);
-        }
-    }
-
-    // A multiple of it.
-    pub(crate) fn scaled(
-        &self,
-        alloc: Global,
-        by: u64,
-        p: &Modulus,
-    ) -> Result<Dense<u64>, AllocError>
-        requires factor { by < p.now }
-        requires residues { IsVector p.now (length self.now) self.now }
-        ensures { IfOk result (λ row. row ≡ plus_multiple p.now by (zeros (length self.now)) self.now) }
-    {
-        let mut row: Dense<u64> = Dense::zeros(alloc, self.len(), p)?;
-        axpy(&mut row.places, by, &self.places, p);
-        Ok(row)
-    }
-
-    // The row with zeros behind it.
-    pub(crate) fn widened(
-        &self,
-        alloc: Global,
-        width: usize,
-        p: &Modulus,
-    ) -> Result<Dense<u64>, AllocError>
-        requires wider { length self.now ≤ width }
-        requires residues { IsVector p.now (length self.now) self.now }
-        ensures vector { IfOk result (IsVector p.now width) }
-        ensures same { IfOk result (λ row. (j : ℕ) → slice_index row j ≡ slice_index self.now j) }
-    {
-        let mut row: Dense<u64> = Dense::zeros(alloc, width, p)?;
-        for j in 0..self.len() {
-            row.set(j, self.get(j), p);
-        }
-        Ok(row)
     }
 }
 

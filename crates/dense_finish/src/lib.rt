@@ -3,7 +3,6 @@
 
 mod block;
 mod dense;
-mod dense_basis;
 mod elimination;
 mod factors;
 mod lane_addition;
@@ -11,14 +10,12 @@ mod multiplier;
 mod panel;
 mod pivots;
 mod products;
-mod reduced_rows;
 mod reducing;
 mod residue;
 mod row_addition;
 #[cfg(test)]
 mod tests;
 
-pub use dense_basis::DenseBasis;
 pub use elimination::finish;
 pub use factors::Factors;
 pub use row_addition::{axpy, axpy_plainly};

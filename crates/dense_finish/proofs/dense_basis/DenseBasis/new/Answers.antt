@@ -1,1 +1,0 @@
-use Rattle.dense_finish.proofs.dense_basis.DenseBasis.new.Goals as goal
