@@ -7,7 +7,7 @@ use native.Mathlib.Nat.{mod-mod}
 use Rattle.residue_words.proofs.Residues.{add_same}
 use Rattle.residue_words.proofs.Sums.{sum_bound, sum_equal, sum_split, sum_zero}
 use Rattle.dense_finish.specs.Block.{AreVectors, block_row, entry_of}
-use Rattle.dense_finish.specs.Products.{AddsBetween, AddsToEach, IsTile, columns_of, products, run_of}
+use Rattle.dense_finish.specs.Products.{AddsBetween, AddsToEach, IsTile, IsWritten, columns_of, products, run_of}
 use Rattle.dense_finish.specs.declared.products.Columns.{Columns}
 use Rattle.dense_finish.specs.declared.products.Run.{Run}
 
@@ -83,40 +83,16 @@ adds_nothing {p} {end} {width} {f} {old} {new} vectors none le h = record {
   };
 }
 
--- zeros added
-pub adds_kept : {p width : ℕ} {columns : Columns} {f : ℕ → ℕ → ℕ} {rows : List (List ℕ)} → AreVectors p width rows → columns.start ≤ columns.end → columns.end ≤ width →
-    ((t j : ℕ) → f t j ≡ 0) → AddsToEach p columns f rows rows
-adds_kept {p} {width} {columns} {f} {rows} vectors order le none = record {
-  long = refl;
-  each = λ t l. record {
-    long = refl;
-    added = λ j from less.
-        let plain : slice_index (block_row rows t) j + f t j ≡ slice_index (block_row rows t) j = omega (arith, none t j) in
-        sym (ap (λ x. x % p) plain ∙ mod-eq_of_lt ((vectors t l).residues j (omega arith)));
-    before = λ j less. refl;
-    behind = λ j le. refl;
-  };
-}
-
 -- sums added one after the other
-pub adds_then : {p : ℕ} {columns : Columns} {f g h : ℕ → ℕ → ℕ} {old mid new : List (List ℕ)} → ((t j : ℕ) → f t j + g t j ≡ h t j) → AddsToEach p columns f old mid →
-    AddsToEach p columns g mid new → AddsToEach p columns h old new
-adds_then {p} {columns} {f} {g} {h} {old} {mid} {new} sum first second = record {
-  long = second.long ∙ first.long;
-  each = λ t l.
-      let a = first.each t l in
-      let b = second.each t (omega (arith, first.long)) in
-      record {
-        long = b.long ∙ a.long;
-        added = λ j from less.
-            let x = slice_index (block_row old t) j in
-            let whole : x + f t j + g t j ≡ x + h t j = omega (arith, sum t j) in
-            b.added j from less ∙ ap (λ y. (y + g t j) % p) (a.added j from less)
-            ∙ add_same p ((x + f t j) % p) (x + f t j) (g t j) (g t j) (mod-mod (x + f t j) p) refl ∙ ap (λ y. y % p) whole;
-        before = λ j less. b.before j less ∙ a.before j less;
-        behind = λ j le. b.behind j le ∙ a.behind j le;
-      };
-}
+pub plus_then : (p x a b c : ℕ) {y z : ℕ} → y ≡ (x + a) % p → z ≡ (y + b) % p → a + b ≡ c → z ≡ (x + c) % p
+plus_then p x a b c first second sum =
+    let whole : x + a + b ≡ x + c = omega arith in
+    second ∙ ap (λ t. (t + b) % p) first ∙ add_same p ((x + a) % p) (x + a) b b (mod-mod (x + a) p) refl ∙ ap (λ t. t % p) whole
+
+-- sums written where they belong
+pub adds_written : {p : ℕ} {columns : Columns} {f : ℕ → ℕ} {v old new : List ℕ} → IsWritten columns v old new →
+    ((j : ℕ) → columns.start ≤ j → j < columns.end → slice_index v (j - columns.start) ≡ (slice_index old j + f j) % p) → AddsBetween p columns f old new
+adds_written h same = record { long = h.long; added = λ j from less. h.written j from less ∙ same j from less; before = h.before; behind = h.behind }
 
 -- products of two runs, and of a run where the rows are 0
 pub products_split : (c : List ℕ) (rows : List (List ℕ)) (s n j : ℕ) → products c rows (run_of 0 s) j + products c rows (run_of s n) j ≡ products c rows (run_of 0 (s + n)) j
@@ -146,15 +122,16 @@ products_small p most c rows run j room few left right =
     let more : run.count * (p * p) ≤ most * (p * p) = mul-le-mul_right (p * p) few in
     omega arith
 
--- the lanes of two vectors side by side
-pub joined_lanes : (f : ℕ → ℕ) (left right v : List ℕ) → ((k : ℕ) → k < 4 → slice_index v k ≡ slice_index left k) → ((k : ℕ) → k < 4 → slice_index v (4 + k) ≡ slice_index right k) →
-    ((k : ℕ) → k < 4 → slice_index left k ≡ f (0 + k)) → ((k : ℕ) → k < 4 → slice_index right k ≡ f (4 + k)) → (k : ℕ) → k < 8 → slice_index v k ≡ f k
-joined_lanes f left right v front back low high k l = elim (cases_lt k 4) [
-  | inl less ↦ let plain : 0 + k ≡ k = omega arith in front k less ∙ low k less ∙ ap f plain
+-- the residues of eight entries and sums, given by four and four
+pub plus_eight : (p : ℕ) (old left right v : List ℕ) (f : ℕ → ℕ) {x : List ℕ} → x ≡ old → ((k : ℕ) → k < 4 → slice_index v k ≡ (slice_index x k + slice_index left k) % p) →
+    ((k : ℕ) → k < 4 → slice_index v (4 + k) ≡ (slice_index x (4 + k) + slice_index right k) % p) → ((k : ℕ) → k < 4 → slice_index left k ≡ f (0 + k)) →
+    ((k : ℕ) → k < 4 → slice_index right k ≡ f (4 + k)) → (k : ℕ) → k < 8 → slice_index v k ≡ (slice_index old k + f k) % p
+plus_eight p old left right v f same front back low high k l = elim (cases_lt k 4) [
+  | inl less ↦ let plain : 0 + k ≡ k = omega arith in front k less ∙ (λ i. (slice_index (same i) k + (low k less ∙ ap f plain) i) % p)
   | inr more ↦
       let place : 4 + (k - 4) ≡ k = omega arith in
       let inside : k - 4 < 4 = omega arith in
-      ap (slice_index v) (sym place) ∙ back (k - 4) inside ∙ high (k - 4) inside ∙ ap f place
+      ap (slice_index v) (sym place) ∙ back (k - 4) inside ∙ (λ i. (slice_index (same i) (place i) + (high (k - 4) inside ∙ ap f place) i) % p)
 ]
 
 -- equal sums, each of the rows
@@ -195,3 +172,10 @@ four_more P xs n a b c d room before pa pb pc pd t l =
     (λ s ls. row_more P two (n + 2) c (omega (arith, length-set one (n + 1) b, length-set xs n a))
     (λ s ls. row_more P one (n + 1) b (omega (arith, length-set xs n a))
     (λ s ls. row_more P xs n a (omega arith) before pa s (omega arith)) pb s (omega arith)) pc s (omega arith)) pd t (omega arith)
+
+pub four_kept : (xs : List (List ℕ)) (n : ℕ) (a b c d : List ℕ) (t : ℕ) → n + 4 ≤ t → block_row (set (set (set (set xs n a) (n + 1) b) (n + 2) c) (n + 3) d) t ≡ block_row xs t
+four_kept xs n a b c d t le =
+    let one = set xs n a in
+    let two = set one (n + 1) b in
+    let three = set two (n + 2) c in
+    get_or-set_other three (n + 3) t d [] (omega arith) ∙ get_or-set_other two (n + 2) t c [] (omega arith) ∙ get_or-set_other one (n + 1) t b [] (omega arith) ∙ get_or-set_other xs n t a [] (omega arith)

@@ -11,7 +11,7 @@ use Rattle.residue_words.specs.Residues.{sum_below}
 use Rattle.residue_words.proofs.Residues.{add_same}
 use Rattle.residue_words.proofs.Sums.{sum_equal, sum_more, sum_none, sum_split}
 use Rattle.dense_finish.specs.Block.{block_row, entry_of}
-use Rattle.dense_finish.specs.Products.{AddsBetween, AreSmall, columns_of, products, products_of, run_of}
+use Rattle.dense_finish.specs.Products.{AreSmall, IsWritten, columns_of, products, products_of, run_of}
 use Rattle.dense_finish.specs.declared.products.Run.{Run}
 
 -- the residue of x and s, by the halves of s
@@ -25,15 +25,13 @@ folded p x s y z low high =
     twice p a = mod-mod a p
 
 -- one column more
-pub adds_one : (p start j : ℕ) (f : ℕ → ℕ) (old mid : List ℕ) (u : ℕ) → j < length old → AddsBetween p (columns_of start j) f old mid → start ≤ j → u ≡ (slice_index mid j + f j) % p →
-    AddsBetween p (columns_of start (j + 1)) f old (slice_set mid j u)
-adds_one p start j f old mid u inside h order is = record {
+pub written_one : (start j : ℕ) (v old mid : List ℕ) (u : ℕ) → j < length old → IsWritten (columns_of start j) v old mid → start ≤ j → u ≡ slice_index v (j - start) →
+    IsWritten (columns_of start (j + 1)) v old (slice_set mid j u)
+written_one start j v old mid u inside h order is = record {
   long = length-set mid j u ∙ h.long;
-  added = λ x from l. elim (cases_eq x j) [
-    | inl e ↦
-        ap (slice_index (slice_set mid j u)) e ∙ get_or-set_same mid j u 0 (omega (arith, h.long)) ∙ is ∙ ap (λ t. (t + f j) % p) (h.behind j (omega arith))
-        ∙ ap (λ t. (slice_index old t + f t) % p) (sym e)
-    | inr d ↦ get_or-set_other mid j x u 0 d ∙ h.added x from (omega arith)
+  written = λ x from l. elim (cases_eq x j) [
+    | inl e ↦ ap (slice_index (slice_set mid j u)) e ∙ get_or-set_same mid j u 0 (omega (arith, h.long)) ∙ is ∙ ap (λ t. slice_index v (t - start)) (sym e)
+    | inr d ↦ get_or-set_other mid j x u 0 d ∙ h.written x from (omega arith)
   ];
   before = λ x l. get_or-set_other mid j x u 0 (omega arith) ∙ h.before x l;
   behind = λ x l. get_or-set_other mid j x u 0 (omega arith) ∙ h.behind x (omega arith);
@@ -65,14 +63,12 @@ module _ (by units : List (List ℕ)) (run : Run) (small : AreSmall by units run
   sum_small = omega (arith, sum_then, products_front (block_row by t) units run.first (i + 1) run.count j (omega arith), small.sums t j row column)
 
 -- eight columns from `at` on
-pub adds_lanes : (p at : ℕ) (f : ℕ → ℕ) (row v : List ℕ) → at + 8 ≤ length row → length v ≡ 8 → ((k : ℕ) → k < 8 → slice_index v k ≡ (slice_index row (at + k) + f k) % p) →
-    AddsBetween p (columns_of at (at + 8)) (λ j. f (j - at)) row (put_chunk at row v)
-adds_lanes p at f row v room long lanes = record {
+pub written_lanes : (at : ℕ) (row v : List ℕ) → at + 8 ≤ length row → length v ≡ 8 → IsWritten (columns_of at (at + 8)) v row (put_chunk at row v)
+written_lanes at row v room long = record {
   long = length-put_chunk at row v;
-  added = λ j from l.
+  written = λ j from l.
       let place : at + (j - at) ≡ j = omega arith in
-      subst (λ t. slice_index (put_chunk at row v) t ≡ (slice_index row t + f (j - at)) % p) place
-      (get_or-put_chunk_at at row v (j - at) 0 (omega arith) (omega arith) ∙ lanes (j - at) (omega arith));
+      subst (λ t. slice_index (put_chunk at row v) t ≡ slice_index v (j - at)) place (get_or-put_chunk_at at row v (j - at) 0 (omega arith) (omega arith));
   before = λ j l. get_or-put_chunk_below at row v j 0 l;
   behind = λ j l. get_or-put_chunk_above at row v j 0 (omega arith);
 }

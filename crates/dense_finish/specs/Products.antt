@@ -35,6 +35,13 @@ pub record AreSmall (by tile : List (List ℕ)) (run : Run) : Type 0 where
   pub coefficients : (t k : ℕ) → t < 32 → entry_of by t k < 4294967296
   pub sums : (t l : ℕ) → t < 32 → l < 8 → products_of by tile run t l < 18446744073709551616
 
+-- new is the row old with v at these columns, from the first on
+pub record IsWritten (columns : Columns) (v old new : List ℕ) : Type 0 where
+  pub long : length new ≡ length old
+  pub written : (j : ℕ) → columns.start ≤ j → j < columns.end → slice_index new j ≡ slice_index v (j - columns.start)
+  pub before : (j : ℕ) → j < columns.start → slice_index new j ≡ slice_index old j
+  pub behind : (j : ℕ) → columns.end ≤ j → slice_index new j ≡ slice_index old j
+
 -- new is the row old with the residues of old and f at these columns
 pub record AddsBetween (p : ℕ) (columns : Columns) (f : ℕ → ℕ) (old new : List ℕ) : Type 0 where
   pub long : length new ≡ length old

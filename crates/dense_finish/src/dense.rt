@@ -6,12 +6,12 @@ ghost use Rattle.sparse_rows.specs.declared.rows.TheConstants.{LARGEST_SIZE};
 ghost use Rattle.dense_finish.specs.Dense.{AreEntriesAt, Gathers, IsZeroAtFree, IsCleared, IsFirstFree, IsPivotOf, KeepsCoefficients, Scatters, TakesOut};
 ghost use Rattle.sparse_rows.specs.Rows.{AreBelow};
 ghost use Rattle.dense_finish.specs.Multiples.{plus_multiple};
-ghost use Rattle.dense_finish.specs.Products.{AddsBetween};
+ghost use Rattle.dense_finish.specs.Products.{IsWritten};
 ghost use Rattle.dense_finish.specs.declared.panel.TheConstants.{PANEL};
 ghost use Rattle.residue_words.specs.declared.shoup.TheConstants.{LANE_BOUND};
 
 use crate::panel::PANEL;
-use crate::products::{Columns, Folding, add_lanes};
+use crate::products::{Columns, write_lanes};
 use crate::residue::Residue;
 use residue_words::Modulus;
 use sparse_rows::Sparse;
@@ -276,48 +276,34 @@ impl Dense<u32> {
         u32x8::from_slice(&self.places[at..]).to_array()
     }
 
-    // Adds sums at these columns, of which there are at most eight; the eight entries from the first on are these.
+    // Writes residues at these columns, of which there are at most eight, from the first on.
     #[inline(always)]
-    pub(crate) fn add_sums(
-        &mut self,
-        columns: Columns,
-        olds: &[u32; 8],
-        sums: u64x8,
-        folding: &Folding,
-    )
-        requires residues { IsVector folding.now.p (length self.old) self.old }
+    pub(crate) fn write(&mut self, columns: Columns, values: &[u32; 8], p: &Modulus)
+        requires modulus { p.now < LANE_BOUND }
+        requires residues { (k : ℕ) → k < 8 → slice_index values.now k < p.now }
         requires order { columns.start ≤ columns.end }
         requires narrow { columns.end ≤ columns.start + 8 }
         requires inside { columns.start + 8 ≤ length self.old }
-        requires olds { (k : ℕ) → k < 8 → slice_index olds.now k ≡ slice_index self.old (columns.start + k) }
-        ensures { AddsBetween folding.now.p columns (λ j. slice_index sums (j - columns.start))
-            self.old self.new }
+        ensures { IsWritten columns values.now self.old self.new }
     {
         if columns.end - columns.start == 8 {
-            add_lanes(
-                &mut self.places,
-                columns.start,
-                u32x8::from_array(*olds),
-                sums,
-                folding,
-            );
+            write_lanes(&mut self.places, columns.start, u32x8::from_array(*values));
         } else {
-            self.add_singly(columns, &sums.to_array(), &folding.p);
+            self.write_singly(columns, values, p);
         }
     }
 
-    // Adds the sums entry by entry.
-    fn add_singly(&mut self, columns: Columns, sums: &[u64; 8], p: &Modulus)
+    // Writes them entry by entry.
+    fn write_singly(&mut self, columns: Columns, values: &[u32; 8], p: &Modulus)
         requires modulus { p.now < LANE_BOUND }
-        requires residues { IsVector p.now (length self.old) self.old }
+        requires residues { (k : ℕ) → k < 8 → slice_index values.now k < p.now }
         requires order { columns.start ≤ columns.end }
         requires narrow { columns.end ≤ columns.start + 8 }
         requires inside { columns.start + 8 ≤ length self.old }
-        ensures { AddsBetween p.now columns (λ j. slice_index sums.now (j - columns.start))
-            self.old self.new }
+        ensures { IsWritten columns values.now self.old self.new }
     {
         for j in columns.start..columns.end {
-            self.set(j, p.add(self.get(j), sums[j - columns.start] % p.p()), p);
+            self.set(j, u64::from(values[j - columns.start]), p);
         }
     }
 }

@@ -1,6 +1,6 @@
 // Sums of products added to rows by tiles of lanes, for a modulus below 2^31.
 ghost use Rattle.dense_finish.specs.Block.{AreVectors, block_row, entry_of};
-ghost use Rattle.dense_finish.specs.Products.{AddsBetween, AddsToEach, AreSmall, IsTile, columns_of, products_of, run_of, tile_products};
+ghost use Rattle.dense_finish.specs.Products.{AddsToEach, AreSmall, IsTile, IsWritten, columns_of, products_of, run_of, tile_products};
 ghost use Rattle.dense_finish.specs.declared.panel.TheConstants.{PANEL};
 ghost use Rattle.residue_words.specs.declared.shoup.TheConstants.{LANE_BOUND};
 ghost use Rattle.std.specs.Prelude.{◌≡◌, ◌<◌, ◌≤◌, ◌+◌, ◌-◌, ◌*◌, ◌%◌, ◌/◌, ℕ, length, slice_index};
@@ -109,16 +109,13 @@ impl Folding {
     }
 }
 
-// Adds sums to the eight entries from `at` on, which are these.
+// Writes eight entries from `at` on.
 #[inline(always)]
-pub(crate) fn add_lanes(row: &mut [u32], at: usize, olds: u32x8, sums: u64x8, folding: &Folding)
+pub(crate) fn write_lanes(row: &mut [u32], at: usize, values: u32x8)
     requires room { at + 8 ≤ length row.old }
-    requires olds { (k : ℕ) → k < 8 → slice_index olds k ≡ slice_index row.old (at + k) }
-    requires residues { (k : ℕ) → k < length row.old → slice_index row.old k < folding.now.p }
-    ensures { AddsBetween folding.now.p (columns_of at (at + 8)) (λ j. slice_index sums (j - at))
-        row.old row.new }
+    ensures { IsWritten (columns_of at (at + 8)) values row.old row.new }
 {
-    folding.plus(olds, sums).copy_to_slice(&mut row[at..]);
+    values.copy_to_slice(&mut row[at..]);
 }
 
 // The sums of products of four rows of coefficients at four columns.
@@ -180,60 +177,134 @@ fn sums_at(
     }
 }
 
-// The sums of the products of the first rows of coefficients, so many, at a tile's columns.
-fn tile_sums(
-    by: &[[u64; PANEL]; BLOCK_ROWS],
+// The entries of the rows at the eight columns from `start` on, one row behind the other, and zeros behind them.
+fn tile_of(rows: &[Dense<u32>], start: usize) -> [[u32; TILE_COLUMNS]; PANEL]
+    requires high { length rows.now ≤ PANEL }
+    requires wide { (k : ℕ) → k < length rows.now → start + TILE_COLUMNS ≤ length (block_row rows.now k) }
+    ensures long { length result ≡ PANEL }
+    ensures tile { IsTile start rows.now result }
+    ensures rest { (k l : ℕ) → length rows.now ≤ k → entry_of result k l ≡ 0 }
+{
+    let mut tile = [[0u32; TILE_COLUMNS]; PANEL];
+    for k in 0..rows.len() {
+        tile[k] = rows[k].eight_at(start);
+    }
+    tile
+}
+
+// The residues of eight entries and sums, given by four and four.
+#[inline(always)]
+fn plus_joined(
+    entries: &[u32; TILE_COLUMNS],
+    left: u64x4,
+    right: u64x4,
+    folding: &Folding,
+) -> [u32; TILE_COLUMNS]
+    requires { (k : ℕ) → k < TILE_COLUMNS → slice_index entries.now k < folding.now.p }
+    ensures left { (k : ℕ) → k < 4 → slice_index result k
+        ≡ (slice_index entries.now k + slice_index left k) % folding.now.p }
+    ensures right { (k : ℕ) → k < 4 → slice_index result (4 + k)
+        ≡ (slice_index entries.now (4 + k) + slice_index right k) % folding.now.p }
+{
+    folding
+        .plus(u32x8::from_array(*entries), joined(left, right))
+        .to_array()
+}
+
+// Adds the sums of a run's products to the entries of so many rows at a tile's columns, four rows at a time.
+fn add_run(
+    entries: &mut [[u32; TILE_COLUMNS]; PANEL],
     height: usize,
+    by: &[[u64; PANEL]; BLOCK_ROWS],
     tile: &[[u32; TILE_COLUMNS]; PANEL],
     run: Run,
-) -> [u64x8; BLOCK_ROWS]
+    folding: &Folding,
+)
     requires few { height ≤ BLOCK_ROWS }
+    requires long { length entries.old ≡ PANEL }
+    requires residues { (t l : ℕ) → t < BLOCK_ROWS → l < TILE_COLUMNS → entry_of entries.old t l < folding.now.p }
     requires small { AreSmall by.now tile.now run }
-    ensures { (t k : ℕ) → t < height → k < 8 → entry_of result t k ≡ products_of by.now tile.now run t k }
+    ensures long { length entries.new ≡ PANEL }
+    ensures residues { (t l : ℕ) → t < BLOCK_ROWS → l < TILE_COLUMNS → entry_of entries.new t l < folding.now.p }
+    ensures added { (t l : ℕ) → t < height → l < TILE_COLUMNS → entry_of entries.new t l
+        ≡ (entry_of entries.old t l + products_of by.now tile.now run t l) % folding.now.p }
 {
-    let mut sums = [u64x8::splat(0); BLOCK_ROWS];
     let mut row = 0;
     while row < height {
         let left = sums_at(by, row, tile, run, 0);
         let right = sums_at(by, row, tile, run, 4);
-        sums[row] = joined(left.first, right.first);
-        sums[row + 1] = joined(left.second, right.second);
-        sums[row + 2] = joined(left.third, right.third);
-        sums[row + 3] = joined(left.fourth, right.fourth);
+        let first = plus_joined(&entries[row], left.first, right.first, folding);
+        let second = plus_joined(&entries[row + 1], left.second, right.second, folding);
+        let third = plus_joined(&entries[row + 2], left.third, right.third, folding);
+        let fourth = plus_joined(&entries[row + 3], left.fourth, right.fourth, folding);
+        entries[row] = first;
+        entries[row + 1] = second;
+        entries[row + 2] = third;
+        entries[row + 3] = fourth;
         row += TILE_ROWS;
     }
-    sums
 }
 
-// Adds the sums of a run's products to the rows of a block at a tile's columns, or at the first of them. What the rows have there is
-// read before the products, all at once, since the rows lie far apart: so the processor waits for many of them at a time.
-fn add_run(
-    rows: &mut [Dense<u32>],
+// The entries of the rows of a block at the eight columns from `start` on, with the sums of the products with a tile of so many rows
+// added, as many products at a time as a sum takes. The entries are read before any product, all at once: the rows lie far apart in
+// memory, and a processor waits for many of them at a time.
+fn entries_with_products(
+    rows: &[Dense<u32>],
     by: &[[u64; PANEL]; BLOCK_ROWS],
     tile: &[[u32; TILE_COLUMNS]; PANEL],
-    run: Run,
-    columns: Columns,
+    height: usize,
+    start: usize,
     width: usize,
     folding: &Folding,
+) -> [[u32; TILE_COLUMNS]; PANEL]
+    requires few { length rows.now ≤ BLOCK_ROWS }
+    requires residues { AreVectors folding.now.p width rows.now }
+    requires high { height ≤ PANEL }
+    requires long { length tile.now ≡ PANEL }
+    requires tile { (k l : ℕ) → k < height → l < TILE_COLUMNS → entry_of tile.now k l < folding.now.p }
+    requires coefficients { (t k : ℕ) → t < BLOCK_ROWS → entry_of by.now t k < folding.now.p }
+    requires inside { start + TILE_COLUMNS ≤ width }
+    ensures long { length result ≡ PANEL }
+    ensures residues { (t l : ℕ) → t < BLOCK_ROWS → l < TILE_COLUMNS → entry_of result t l < folding.now.p }
+    ensures added { (t l : ℕ) → t < length rows.now → l < TILE_COLUMNS → entry_of result t l
+        ≡ (entry_of rows.now t (start + l) + products_of by.now tile.now (run_of 0 height) t l) % folding.now.p }
+{
+    let mut entries = tile_of(rows, start);
+    let mut first = 0;
+    while first < height {
+        let count = folding.most.min(height - first);
+        let run = Run { first, count };
+        add_run(&mut entries, rows.len(), by, tile, run, folding);
+        first += count;
+    }
+    entries
+}
+
+// Writes the entries, row by row, at these columns, of which there are at most eight.
+fn write_entries(
+    rows: &mut [Dense<u32>],
+    entries: &[[u32; TILE_COLUMNS]; PANEL],
+    columns: Columns,
+    width: usize,
+    p: &Modulus,
 )
-    requires few { length rows.old ≤ BLOCK_ROWS }
-    requires residues { AreVectors folding.now.p width rows.old }
-    requires small { AreSmall by.now tile.now run }
+    requires modulus { p.now < LANE_BOUND }
+    requires few { length rows.old ≤ PANEL }
+    requires wide { (t : ℕ) → t < length rows.old → length (block_row rows.old t) ≡ width }
+    requires long { length entries.now ≡ PANEL }
+    requires residues { (t l : ℕ) → t < length rows.old → l < TILE_COLUMNS → entry_of entries.now t l < p.now }
     requires order { columns.start ≤ columns.end }
     requires narrow { columns.end ≤ columns.start + TILE_COLUMNS }
     requires inside { columns.start + TILE_COLUMNS ≤ width }
-    ensures { AddsToEach folding.now.p columns
-        (tile_products by.now tile.now run columns.start) rows.old rows.new }
+    ensures { (t : ℕ) → t < length rows.old
+        → IsWritten columns (block_row entries.now t) (block_row rows.old t) (block_row rows.new t) }
 {
-    let olds = tile_of(rows, columns.start);
-    let sums = tile_sums(by, rows.len(), tile, run);
     for t in 0..rows.len() {
-        rows[t].add_sums(columns, &olds[t], sums[t], folding);
+        rows[t].write(columns, &entries[t], p);
     }
 }
 
-// Adds the sums of the products with a tile of so many rows to the rows of a block at its columns, as many products at a time as a
-// sum takes.
+// Adds the sums of the products with a tile of so many rows to the rows of a block at its columns, or at the first of them.
 fn add_columns(
     rows: &mut [Dense<u32>],
     by: &[[u64; PANEL]; BLOCK_ROWS],
@@ -255,27 +326,8 @@ fn add_columns(
     ensures { AddsToEach folding.now.p columns
         (tile_products by.now tile.now (run_of 0 height) columns.start) rows.old rows.new }
 {
-    let mut first = 0;
-    while first < height {
-        let count = folding.most.min(height - first);
-        let run = Run { first, count };
-        add_run(rows, by, tile, run, columns, width, folding);
-        first += count;
-    }
-}
-
-// The entries of the rows at the eight columns from `start` on, one row behind the other.
-fn tile_of(rows: &[Dense<u32>], start: usize) -> [[u32; TILE_COLUMNS]; PANEL]
-    requires high { length rows.now ≤ PANEL }
-    requires wide { (k : ℕ) → k < length rows.now → start + TILE_COLUMNS ≤ length (block_row rows.now k) }
-    ensures long { length result ≡ PANEL }
-    ensures tile { IsTile start rows.now result }
-{
-    let mut tile = [[0u32; TILE_COLUMNS]; PANEL];
-    for k in 0..rows.len() {
-        tile[k] = rows[k].eight_at(start);
-    }
-    tile
+    let entries = entries_with_products(rows, by, tile, height, columns.start, width, folding);
+    write_entries(rows, &entries, columns, width, &folding.p);
 }
 
 // Adds the sums of products to the rows of a block, of entries before `columns.end`. The units are copied tile by tile, so that what

@@ -1,29 +1,18 @@
-use Rattle.std.proofs.Common.{◌-◌, arith, ◌<◌}
-use Rattle.dense_finish.specs.Block.{block_row}
-use Rattle.dense_finish.proofs.AddingEach.{adds_kept, adds_then, products_small, products_split}
-use Rattle.dense_finish.proofs.ProductSums.{products_none}
+use Rattle.std.proofs.Common.{◌≡◌, ◌+◌, ◌-◌, ◌%◌, ◌∙◌, ap, arith}
+use Rattle.dense_finish.specs.Block.{entry_of}
+use Rattle.dense_finish.specs.Products.{tile_products, run_of}
+use Rattle.dense_finish.proofs.AddingEach.{adds_written}
 use Rattle.dense_finish.proofs.products.add_columns.Goals as goal
 
-pub loop-first-init : goal.loop-first-init
-loop-first-init c = record {
-  within = omega arith;
-  added = adds_kept c.requires.residues c.requires.order (omega (arith, c.requires.narrow, c.requires.inside)) (λ t j. products_none (block_row c.args.by.now t) c.args.tile.now 0 (j - c.args.columns.start));
-}
+pub write_entries-requires-clause-residues : goal.write_entries-requires-clause-residues
+write_entries-requires-clause-residues c = λ t k l lk. c.entries_with_products-entries.ensures.residues t k (omega (arith, c.requires.few)) lk
 
-pub add_run-requires-clause-small : goal.add_run-requires-clause-small
-add_run-requires-clause-small c =
-    let f = c.args.folding.now in
-    let low : f.p < 2147483648 = omega (arith, f.one.in_range, f.one_modulus) in
-    record {
-      long = c.requires.long;
-      inside = omega (arith, c.loop-first.invariant.within, c.requires.high);
-      coefficients = λ t k l. omega (arith, c.requires.coefficients t k l, low);
-      sums = λ t j l lj. products_small f.p f.most (block_row c.args.by.now t) c.args.tile.now _ j f.room (omega arith) (λ k. c.requires.coefficients t k l)
-          (λ k lk. c.requires.tile k j (omega (arith, c.loop-first.invariant.within, lk)) lj);
-    }
-
-pub loop-first-preserved : goal.loop-first-preserved
-loop-first-preserved c = record {
-  within = omega (arith, c.loop-first.invariant.within);
-  added = adds_then (λ t j. products_split (block_row c.args.by.now t) c.args.tile.now c.loop-first.first c.min-count.result (j - c.args.columns.start)) c.loop-first.invariant.added c.add_run.ensures;
+pub returns : goal.returns
+returns c = record {
+  long = c.write_entries.auto.rows;
+  each = λ t l. adds_written (c.write_entries.ensures t l) (λ j from less.
+      let start = c.args.columns.start in
+      let place : start + (j - start) ≡ j = omega arith in
+      c.entries_with_products-entries.ensures.added t (j - start) l (omega (arith, c.requires.narrow))
+      ∙ ap (λ x. (entry_of c.args.rows.now t x + tile_products c.args.by.now c.args.tile.now (run_of 0 c.args.height) start t j) % c.args.folding.now.p) place);
 }

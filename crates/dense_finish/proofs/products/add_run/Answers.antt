@@ -1,58 +1,62 @@
-use Rattle.std.proofs.Common.{ℕ, [], ◌≡◌, ◌<◌, ◌+◌, ◌-◌, ◌∙◌, ap, below_more, arith, length, refl, set, slice_index, slice_index_or, subst, sym}
-use Rattle.std.proofs.lemmas.List.{get_or-set_other, get_or-set_same}
-use Rattle.residue_words.specs.Matrix.{IsVector}
-use Rattle.dense_finish.specs.Block.{block_row}
-use Rattle.dense_finish.specs.Products.{AddsBetween, tile_products}
-use Rattle.dense_finish.proofs.AddingEach.{adds_equal}
-use Rattle.dense_finish.proofs.BlockRows.{read_row}
+use Rattle.std.proofs.Common.{ℕ, ◌≡◌, ◌<◌, ◌≤◌, ◌+◌, ◌%◌, ◌∙◌, inl, inr, ap, arith, length-set, mod-lt, refl, set, slice_index}
+use Rattle.std.proofs.lemmas.Bool.{cases_lt}
+use Rattle.dense_finish.specs.Block.{block_row, entry_of}
+use Rattle.dense_finish.specs.Products.{products_of}
+use Rattle.dense_finish.proofs.AddingEach.{four_kept, four_more, plus_eight}
 use Rattle.dense_finish.proofs.products.add_run.Goals as goal
 
-pub loop-t-init : goal.loop-t-init
-loop-t-init c = record { done = λ t l. absurd (omega arith); ahead = λ t l. refl }
+pub loop-row-init : goal.loop-row-init
+loop-row-init c = record { fours = refl; long = c.requires.long; residues = c.requires.residues; done = λ t k l lk. absurd (omega arith); ahead = λ t l. refl }
 
-pub add_sums-requires-clause-residues : goal.add_sums-requires-clause-residues
-add_sums-requires-clause-residues c =
-    let t = c.loop-t.t in
-    let rows = c.loop-t.rows in
-    let here = read_row rows t c.index-rows-t.result (omega (arith, c.loop-t.auto.rows, c.loop-t-test.true)) ∙ c.loop-t.invariant.ahead t (omega arith) in
-    let vector : IsVector c.args.folding.now.p c.args.width (block_row c.args.rows.now t) = c.requires.residues t c.loop-t-test.true in
-    rw (here, vector.len) vector
+pub plus_joined-first-requires : goal.plus_joined-first-requires
+plus_joined-first-requires c = λ k l. c.loop-row.invariant.residues c.loop-row.row k (omega (arith, c.requires.few)) l
 
-pub add_sums-requires-clause-inside : goal.add_sums-requires-clause-inside
-add_sums-requires-clause-inside c =
-    let t = c.loop-t.t in
-    let rows = c.loop-t.rows in
-    let here = read_row rows t c.index-rows-t.result (omega (arith, c.loop-t.auto.rows, c.loop-t-test.true)) ∙ c.loop-t.invariant.ahead t (omega arith) in
-    omega (arith, ap length here, (c.requires.residues t c.loop-t-test.true).len, c.requires.inside)
+pub plus_joined-second-requires : goal.plus_joined-second-requires
+plus_joined-second-requires c = λ k l. c.loop-row.invariant.residues (c.loop-row.row + 1) k (omega (arith, c.loop-row.invariant.fours, c.requires.few)) l
 
-pub add_sums-requires-clause-olds : goal.add_sums-requires-clause-olds
-add_sums-requires-clause-olds c = λ k l.
-    let t = c.loop-t.t in
-    let rows = c.loop-t.rows in
-    let here = read_row rows t c.index-rows-t.result (omega (arith, c.loop-t.auto.rows, c.loop-t-test.true)) ∙ c.loop-t.invariant.ahead t (omega arith) in
-    c.tile_of-olds.ensures.tile t k c.loop-t-test.true l ∙ ap (λ v. slice_index v (c.args.columns.start + k)) (sym here)
+pub plus_joined-third-requires : goal.plus_joined-third-requires
+plus_joined-third-requires c = λ k l. c.loop-row.invariant.residues (c.loop-row.row + 2) k (omega (arith, c.loop-row.invariant.fours, c.requires.few)) l
 
-pub loop-t-preserved : goal.loop-t-preserved
-loop-t-preserved c =
-    let p = c.args.folding.now.p in
-    let columns = c.args.columns in
-    let start = columns.start in
-    let t = c.loop-t.t in
-    let rows = c.loop-t.rows in
-    let olds = c.args.rows.now in
-    let v = c.add_sums.new.self in
-    let g : ℕ → ℕ → ℕ = tile_products c.args.by.now c.args.tile.now c.args.run start in
-    let inside : t < length rows = omega (arith, c.loop-t.auto.rows, c.loop-t-test.true) in
-    let here = read_row rows t c.index-rows-t.result inside ∙ c.loop-t.invariant.ahead t (omega arith) in
-    let added : AddsBetween p columns (g t) (slice_index_or rows t c.index-rows-t.result) v =
-    adds_equal (λ j from less. c.tile_sums-sums.ensures t (j - start) c.loop-t-test.true (omega (arith, c.requires.narrow))) c.add_sums.ensures in
-    let one : AddsBetween p columns (g t) (block_row olds t) v = subst (λ u. AddsBetween p columns (g t) u v) here added in
+pub plus_joined-fourth-requires : goal.plus_joined-fourth-requires
+plus_joined-fourth-requires c = λ k l. c.loop-row.invariant.residues (c.loop-row.row + 3) k (omega (arith, c.loop-row.invariant.fours, c.requires.few)) l
+
+pub loop-row-preserved : goal.loop-row-preserved
+loop-row-preserved c =
+    let p : ℕ = c.args.folding.now.p in
+    let olds = c.args.entries.now in
+    let entries = c.loop-row.entries in
+    let f : ℕ → ℕ → ℕ = products_of c.args.by.now c.args.tile.now c.args.run in
+    let row : ℕ = c.loop-row.row in
+    let low : row + 4 ≤ 32 = omega (arith, c.loop-row.invariant.fours, c.requires.few) in
+    let left = c.sums_at-left in
+    let right = c.sums_at-right in
+    let v1 = c.plus_joined-first in
+    let v2 = c.plus_joined-second in
+    let v3 = c.plus_joined-third in
+    let v4 = c.plus_joined-fourth in
+    let one = set entries row v1.result in
+    let two = set one (row + 1) v2.result in
+    let three = set two (row + 2) v3.result in
+    let four = set three (row + 3) v4.result in
+    let done : (t : ℕ) → t < row + 4 → (k : ℕ) → k < 8 → slice_index (block_row four t) k ≡ (entry_of olds t k + f t k) % p =
+    four_more (λ t v. (k : ℕ) → k < 8 → slice_index v k ≡ (entry_of olds t k + f t k) % p) entries row v1.result v2.result v3.result v4.result (omega (arith, c.loop-row.invariant.long))
+    (λ t l k lk. c.loop-row.invariant.done t k l lk)
+    (plus_eight p (block_row olds row) left.result.first right.result.first v1.result (f row) (c.loop-row.invariant.ahead row (omega arith)) v1.ensures.left v1.ensures.right left.ensures.first right.ensures.first)
+    (plus_eight p (block_row olds (row + 1)) left.result.second right.result.second v2.result (f (row + 1)) (c.loop-row.invariant.ahead (row + 1) (omega arith)) v2.ensures.left v2.ensures.right left.ensures.second right.ensures.second)
+    (plus_eight p (block_row olds (row + 2)) left.result.third right.result.third v3.result (f (row + 2)) (c.loop-row.invariant.ahead (row + 2) (omega arith)) v3.ensures.left v3.ensures.right left.ensures.third right.ensures.third)
+    (plus_eight p (block_row olds (row + 3)) left.result.fourth right.result.fourth v4.result (f (row + 3)) (c.loop-row.invariant.ahead (row + 3) (omega arith)) v4.ensures.left v4.ensures.right left.ensures.fourth right.ensures.fourth) in
+    let kept : (t : ℕ) → row + 4 ≤ t → block_row four t ≡ block_row entries t = λ t le. four_kept entries row v1.result v2.result v3.result v4.result t le in
+    let positive : 0 < p = omega (arith, c.loop-row.invariant.residues 0 0 (omega arith) (omega arith)) in
     record {
-      done = below_more (λ t. AddsBetween p columns (g t) (block_row olds t) (block_row (set rows c.loop-t.t v) t)) t
-          (λ x l. subst (AddsBetween p columns (g x) (block_row olds x)) (sym (get_or-set_other rows t x v [] (omega arith))) (c.loop-t.invariant.done x l))
-          (subst (AddsBetween p columns (g t) (block_row olds t)) (sym (get_or-set_same rows t v [] inside)) one);
-      ahead = λ x l. get_or-set_other rows t x v [] (omega arith) ∙ c.loop-t.invariant.ahead x (omega arith);
+      fours = omega (arith, c.loop-row.invariant.fours);
+      long = length-set three (row + 3) v4.result ∙ length-set two (row + 2) v3.result ∙ length-set one (row + 1) v2.result ∙ length-set entries row v1.result ∙ c.loop-row.invariant.long;
+      residues = λ t k l lk. elim (cases_lt t (row + 4)) [
+        | inl less ↦ omega (arith, done t less k lk, mod-lt (entry_of olds t k + f t k) positive)
+        | inr le ↦ omega (arith, ap (λ v. slice_index v k) (kept t le), c.loop-row.invariant.residues t k l lk)
+      ];
+      done = λ t k l lk. done t l k lk;
+      ahead = λ t le. kept t le ∙ c.loop-row.invariant.ahead t (omega arith);
     }
 
-pub returns : goal.returns
-returns c = record { long = c.loop-t.auto.rows; each = λ t l. c.loop-t.invariant.done t (omega arith) }
+pub returns-clause-added : goal.returns-clause-added
+returns-clause-added c = λ t k l lk. c.loop-row.invariant.done t k (omega arith) lk

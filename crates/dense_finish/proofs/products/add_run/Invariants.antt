@@ -1,10 +1,16 @@
-use Rattle.std.proofs.Common.{ℕ, ◌≡◌, ◌<◌, ◌≤◌}
-use Rattle.dense_finish.specs.Block.{block_row}
-use Rattle.dense_finish.specs.Products.{AddsBetween, tile_products}
+use Rattle.std.proofs.Common.{ℕ, ◌≡◌, ◌<◌, ◌≤◌, ◌+◌, ◌-◌, ◌%◌, length}
+use Rattle.dense_finish.specs.Block.{block_row, entry_of}
+use Rattle.dense_finish.specs.Products.{products_of}
 use Rattle.dense_finish.proofs.products.add_run.Given as goal
 
-abbrev pub invariant-loop-t : goal.invariant-loop-t
-invariant-loop-t l = record {
-  done : (t : ℕ) → t < l.t → AddsBetween l.folding.p l.columns (tile_products l.by l.tile l.fn.run l.columns.start t) (block_row l.fn.rows t) (block_row l.rows t);
-  ahead : (t : ℕ) → l.t ≤ t → block_row l.rows t ≡ block_row l.fn.rows t;
+abbrev pub invariant-loop-row : goal.invariant-loop-row
+invariant-loop-row l = record {
+  fours : l.row % 4 ≡ 0;
+  long : length l.entries ≡ 64;
+  residues : (t k : ℕ) → t < 32 → k < 8 → entry_of l.entries t k < l.folding.p;
+  done : (t k : ℕ) → t < l.row → k < 8 → entry_of l.entries t k ≡ (entry_of l.fn.entries t k + products_of l.by l.tile l.run t k) % l.folding.p;
+  ahead : (t : ℕ) → l.row ≤ t → block_row l.entries t ≡ block_row l.fn.entries t;
 }
+
+abbrev pub decreases-loop-row : goal.decreases-loop-row
+decreases-loop-row l = l.height - l.row

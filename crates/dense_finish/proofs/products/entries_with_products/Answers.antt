@@ -1,0 +1,58 @@
+use Rattle.std.proofs.Common.{ℕ, ◌≡◌, ◌<◌, ◌+◌, ◌%◌, ◌∙◌, inl, inr, ap, arith, length, mod-eq_of_lt, sym}
+use Rattle.std.proofs.lemmas.Bool.{cases_lt}
+use Rattle.dense_finish.specs.Block.{block_row, entry_of}
+use Rattle.dense_finish.specs.Products.{products_of, run_of}
+use Rattle.dense_finish.proofs.AddingEach.{plus_then, products_small, products_split}
+use Rattle.dense_finish.proofs.ProductSums.{products_none}
+use Rattle.dense_finish.proofs.products.entries_with_products.Goals as goal
+
+pub loop-first-init : goal.loop-first-init
+loop-first-init c =
+    let f = c.args.folding.now in
+    let p : ℕ = f.p in
+    let rows = c.args.rows.now in
+    let start = c.args.start in
+    let small : (t k : ℕ) → t < length rows → k < 8 → entry_of rows t (start + k) < p = λ t k l lk. (c.requires.residues t l).residues (start + k) (omega (arith, c.requires.inside)) in
+    record {
+      within = omega arith;
+      long = c.tile_of-entries.ensures.long;
+      residues = λ t k l lk. elim (cases_lt t (length rows)) [
+        | inl inside ↦ omega (arith, c.tile_of-entries.ensures.tile t k inside lk, small t k inside lk)
+        | inr past ↦ omega (arith, c.tile_of-entries.ensures.rest t k past, f.one.residue, f.one_factor, f.one_modulus)
+      ];
+      added = λ t k l lk.
+          let x = entry_of rows t (start + k) in
+          let plain : x + products_of c.args.by.now c.args.tile.now (run_of 0 0) t k ≡ x = omega (arith, products_none (block_row c.args.by.now t) c.args.tile.now 0 k) in
+          c.tile_of-entries.ensures.tile t k l lk ∙ sym (ap (λ y. y % p) plain ∙ mod-eq_of_lt (small t k l lk));
+    }
+
+pub add_run-requires-clause-small : goal.add_run-requires-clause-small
+add_run-requires-clause-small c =
+    let f = c.args.folding.now in
+    let low : f.p < 2147483648 = omega (arith, f.one.in_range, f.one_modulus) in
+    record {
+      long = c.requires.long;
+      inside = omega (arith, c.loop-first.invariant.within, c.requires.high);
+      coefficients = λ t k l. omega (arith, c.requires.coefficients t k l, low);
+      sums = λ t j l lj. products_small f.p f.most (block_row c.args.by.now t) c.args.tile.now _ j f.room (omega arith) (λ k. c.requires.coefficients t k l)
+          (λ k lk. c.requires.tile k j (omega (arith, c.loop-first.invariant.within, lk)) lj);
+    }
+
+pub loop-first-preserved : goal.loop-first-preserved
+loop-first-preserved c =
+    let by = c.args.by.now in
+    let tile = c.args.tile.now in
+    let first = c.loop-first.first in
+    let count = c.min-count.result in
+    record {
+      within = omega (arith, c.loop-first.invariant.within);
+      long = c.add_run.ensures.long;
+      residues = c.add_run.ensures.residues;
+      added = λ t k l lk. plus_then c.args.folding.now.p (entry_of c.args.rows.now t (c.args.start + k)) (products_of by tile (run_of 0 first) t k) (products_of by tile (run_of first count) t k)
+          (products_of by tile (run_of 0 (first + count)) t k) (c.loop-first.invariant.added t k l lk) (c.add_run.ensures.added t k l lk) (products_split (block_row by t) tile first count k);
+    }
+
+pub returns-clause-added : goal.returns-clause-added
+returns-clause-added c = λ t k l lk.
+    let all : c.loop-first.first ≡ c.args.height = omega (arith, c.loop-first.invariant.within, c.loop-first-test.false) in
+    c.loop-first.invariant.added t k l lk ∙ ap (λ n. (entry_of c.args.rows.now t (c.args.start + k) + products_of c.args.by.now c.args.tile.now (run_of 0 n) t k) % c.args.folding.now.p) all
