@@ -45,9 +45,9 @@ renamed_here f (c ∷ cs) (v ∷ vs) j rising apart = elim (cases_eq c j) [
   | inl e ↦
       let here : cond (eqb (f c) (f j)) v 0 ≡ v = cond-true (eqb (f c) (f j)) v 0 (eq-eqb (f c) (f j) (ap f e)) in
       let rest = renamed_away f cs vs (f j) (λ k l same.
-          let less : c < slice_index cs k = rising 0 (suc k) (omega arith) (omega arith) in
-          let equal : slice_index cs k ≡ j = apart (suc k) (omega arith) same in
-          omega (arith, e, less, equal)) in
+      let less : c < slice_index cs k = rising 0 (suc k) (omega arith) (omega arith) in
+      let equal : slice_index cs k ≡ j = apart (suc k) (omega arith) same in
+      omega (arith, e, less, equal)) in
       let last : entry_at (c ∷ cs) (v ∷ vs) j ≡ v = ap (entry_at (c ∷ cs) (v ∷ vs)) (sym e) ∙ entry_head c cs v vs in
       omega (arith, here, rest, last)
   | inr d ↦

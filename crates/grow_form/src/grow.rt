@@ -103,7 +103,12 @@ impl Grow {
         let p = self.kept.modulus();
         let row = self.numbering.row_by_numbers(self.alloc, cols, vals, &p)?;
         let _ = row.height();
-        Ok(self.kept.rest(self.alloc, row.cols(0), row.vals(0))?.cols().is_empty())
+        Ok(
+            self.kept
+                .rest(self.alloc, row.cols(0), row.vals(0))?
+                .cols()
+                .is_empty(),
+        )
     }
 
     /// The reduced echelon form of the rows: for a prime modulus the one form of all rows that were appended. The

@@ -12,13 +12,13 @@ mod scripts;
 mod tests;
 mod writing;
 
+ghost use Rattle.grow_form.specs.Example.{IsWorkedScript};
+
 pub use answering::{Answer, answer_line};
 pub use grow::Grow;
 pub use script::{ScriptLine, script_line};
 pub use scripts::answer_script;
 pub use writing::write_answers;
-
-ghost use Rattle.grow_form.specs.Example.{IsWorkedScript};
 
 /// A small script worked: what its lines are answered.
 pub fn script_is_worked()

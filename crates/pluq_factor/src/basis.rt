@@ -31,7 +31,7 @@ pub fn row_basis<R: Threads + Sync, G: Gate>(
     requires few { plan.workers ≤ 64 }
     ensures { IfOk result (IsBasis rows.now.modulus rows.now.matrix) }
 {
-    if plan.rounds == 0 {
+    if plan.rounds == 0 || Extent::of(alloc, rows)?.is_full() {
         let basis = dense_basis(rt, alloc, rows, plan.workers)?;
         return Ok(basis);
     }

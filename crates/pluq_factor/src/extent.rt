@@ -9,6 +9,9 @@ const LARGEST_BLOCK: u64 = 1 << 26;
 // A block is made where one place of so many holds an entry.
 const BLOCK_SHARE: u64 = 10;
 
+// A matrix of fewer places is not worth a choice.
+const SMALLEST_FULL: u64 = 1 << 16;
+
 // A dense basis of more places than this isn't made: 128 MB of them where the modulus is below 2^31.
 const LARGEST_BASIS: u64 = 1 << 25;
 
@@ -55,6 +58,11 @@ impl Extent {
     // Whether a dense elimination is cheaper, in memory that is at most some constant times that of the entries.
     pub(crate) fn is_block(&self) -> bool {
         self.places <= LARGEST_BLOCK && self.places / BLOCK_SHARE <= self.entries
+    }
+
+    // Whether no round is worth beginning: a matrix of some size that is a block from the start.
+    pub(crate) fn is_full(&self) -> bool {
+        SMALLEST_FULL <= self.places && self.is_block()
     }
 
     // Whether a round would cost more than it saves the finish.

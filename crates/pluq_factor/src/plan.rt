@@ -1,9 +1,10 @@
 // How a matrix is taken apart.
 ghost use Rattle.std.specs.Prelude.{◌≡◌, ◌≤◌, length, map, IfOk};
+ghost use Rattle.pivot_table.specs.Order.{Triangular};
 ghost use Rattle.pivot_table.specs.Selected.{Selected};
 
 use fl_pivots::leftmost;
-use optimistic_search::{Gate, search};
+use optimistic_search::{Gate, search, search_counted};
 use pivot_table::Pair;
 use sparse_rows::Rows;
 use std::alloc::{AllocError, Global};
@@ -35,6 +36,34 @@ pub(crate) fn select_pivots<'a, R: Threads + Sync, G: Gate>(
     let book = search(rt, alloc, leftmost(alloc, rows)?, workers, gate)?;
     let triangle = Triangle::of(alloc, &book)?;
     Ok(triangle)
+}
+
+// Pivots of one round, in triangular order, where nobody is told which: by one worker too they are found from the last row to the first.
+pub(crate) fn any_pivots<'a, R: Threads + Sync, G: Gate>(
+    rt: &R,
+    alloc: Global,
+    rows: &'a Rows,
+    workers: u32,
+    gate: &G,
+) -> Result<Triangle<'a>, AllocError>
+    requires some { 1 ≤ workers }
+    requires few { workers ≤ 64 }
+    ensures rows { IfOk result (λ t. t.rows ≡ rows.now) }
+    ensures triangular { IfOk result (λ t. Triangular rows.now.matrix t.pairs) }
+{
+    if has_few_entries(rows) {
+        return select_pivots(rt, alloc, rows, workers, gate);
+    }
+    let (book, _steps) = search_counted(rt, alloc, leftmost(alloc, rows)?, workers, gate)?;
+    let triangle = Triangle::of(alloc, &book)?;
+    // The call's contract tells that the pivots are triangular.
+    let _ = triangle.pairs().len();
+    Ok(triangle)
+}
+
+// Whether a board, which takes memory by rows and columns, would take much more than the entries do.
+fn has_few_entries(rows: &Rows) -> bool {
+    rows.entries() < u64::from(rows.height().max(rows.width()) / 4)
 }
 
 // The rows of the pairs.

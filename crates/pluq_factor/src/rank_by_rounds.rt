@@ -18,9 +18,11 @@ use std::thread::Threads;
 /// The pivots of each round are counted, and the complement that they leave is all that is kept for the next one. The rounds
 /// end with the last one of the plan, with one that finds no pivot, or before one where a twentieth of what is left, in the
 /// rows and columns that have an entry, is not 0. What is left then is eliminated densely where it is small and dense, and
-/// else row by row in time and memory of the entries that this makes. With no round there is the dense elimination alone.
+/// else row by row in time and memory of the entries that this makes. With no round there is the dense elimination alone, and so it
+/// is for a matrix of some size that is a tenth full from the start.
 ///
-/// One complement is held at a time, beside the one that it is made of, and no coefficients are. The method is that of
+/// Which pivots a round has nobody is told, so one worker too takes them as several do, from the last row to the first: on
+/// boundary maps they are found sooner than the greedy ones, and leave less behind. One complement is held at a time, beside the one that it is made of, and no coefficients are. The method is that of
 /// Bouillaguet, Delaplace and Voge, PASCO 2017.
 pub fn rank<R: Threads + Sync, G: Gate>(
     rt: &R,
@@ -51,7 +53,7 @@ pub fn rank<R: Threads + Sync, G: Gate>(
     Ok(rank)
 }
 
-// The pivots of at least one round and what they leave; None where the first finds none.
+// The pivots of at least one round and what they leave; None where the first finds none, or where a dense block is made at once.
 fn count_rounds<R: Threads + Sync, G: Gate>(
     rt: &R,
     alloc: Global,
@@ -63,6 +65,9 @@ fn count_rounds<R: Threads + Sync, G: Gate>(
     requires few { plan.workers ≤ 64 }
     ensures { IfOk result (λ r. IfSome r (LeavesRank rows.now)) }
 {
+    if Extent::of(alloc, rows)?.is_full() {
+        return Ok(None);
+    }
     let most = rows.height().min(rows.width());
     let Some(first) = count_round(rt, alloc, rows, plan.workers, gate)? else {
         return Ok(None);

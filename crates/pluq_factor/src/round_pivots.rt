@@ -6,7 +6,7 @@ ghost use Rattle.pluq_factor.specs.Counted.{LeavesRank};
 ghost use Rattle.pluq_factor.specs.RoundPivots.{IsLeftBy, IsRestOf, IsRoundTaken};
 
 use crate::extent::Extent;
-use crate::plan::{rows_of, select_pivots};
+use crate::plan::{any_pivots, rows_of, select_pivots};
 use optimistic_search::Gate;
 use pivot_table::Pair;
 use schur_rows::{RowReducer, SchurRows, complement, left_basis, schur};
@@ -84,7 +84,7 @@ pub(crate) fn take_left<R: Threads + Sync, G: Gate>(
 {
     // The call's contract tells that the entries are residues.
     let _ = rows.height();
-    let triangle = select_pivots(rt, alloc, rows, workers, gate)?;
+    let triangle = any_pivots(rt, alloc, rows, workers, gate)?;
     let pairs = triangle.pairs();
     if pairs.is_empty() {
         return Ok(None);
@@ -138,7 +138,7 @@ pub(crate) fn count_round<R: Threads + Sync, G: Gate>(
     schur_rows::round_rank();
     // The call's contract tells that the entries are residues.
     let _ = rows.height();
-    let triangle = select_pivots(rt, alloc, rows, workers, gate)?;
+    let triangle = any_pivots(rt, alloc, rows, workers, gate)?;
     let count = triangle.pairs().len() as u32;
     if count == 0 {
         return Ok(None);

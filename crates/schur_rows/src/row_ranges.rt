@@ -106,12 +106,7 @@ pub(crate) fn next_left(reducer: &RowReducer, pivot_rows: &PivotNumbers, from: u
 }
 
 // Behind so many of these rows from `from` on, or behind all rows.
-pub(crate) fn end_of(
-    reducer: &RowReducer,
-    pivot_rows: &PivotNumbers,
-    from: u32,
-    count: u32,
-) -> u32
+pub(crate) fn end_of(reducer: &RowReducer, pivot_rows: &PivotNumbers, from: u32, count: u32) -> u32
     requires from { from < reducer.now.rows.matrix.height }
     requires some { 1 ≤ count }
     requires numbers { HasNumbers reducer.now.pairs pivot_rows.now }

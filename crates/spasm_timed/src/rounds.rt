@@ -3,7 +3,7 @@ ghost use Rattle.std.specs.Prelude.{◌≡◌, ◌≤◌};
 
 use crate::texts::matrix;
 use fl_pivots::leftmost;
-use optimistic_search::{Open, search};
+use optimistic_search::{Open, search_counted};
 use pluq_factor::{Plan, rank};
 use residue_words::Modulus;
 use schur_rows::{RowReducer, complement};
@@ -74,6 +74,6 @@ fn pivots<'a, R: Threads + Sync>(
     requires some { 1 ≤ workers }
     requires few { workers ≤ 64 }
 {
-    let book = search(rt, alloc, leftmost(alloc, rows)?, workers, &Open)?;
+    let (book, _steps) = search_counted(rt, alloc, leftmost(alloc, rows)?, workers, &Open)?;
     Triangle::of(alloc, &book)
 }

@@ -14,9 +14,9 @@ pub returns-clause-rank : goal.returns-clause-rank
 returns-clause-rank c =
     subst (λ (g : ResidueMatrix). IsPrime g.modulus → HasRank g.modulus g.matrix c.height.result) c.self.view_is
     (λ prime.
-        let A : Matrix = rows_at_columns c.self.inside.numbering.arrivals c.self.inside.kept.matrix in
-        let m : IsMatrix c.self.inside.kept.modulus A =
-        moved_matrix (length c.self.inside.numbering.arrivals) (number_of c.self.inside.numbering.arrivals) (omega (arith, c.height.ensures.sound.two_or_more)) c.height.ensures.sound.matrix in
-        subst (HasRank c.self.inside.kept.modulus A) (sym c.height.ensures.value)
-        (rank_of_independent c.rref_exists.ensures c.span_fixes_height.ensures c.self.inside.kept.modulus A A prime
-        m m refl (seen_independent c.height.ensures.sound c.width.ensures.sound c.self.invariant) (λ v. ((λ x. x), (λ x. x)))))
+    let A : Matrix = rows_at_columns c.self.inside.numbering.arrivals c.self.inside.kept.matrix in
+    let m : IsMatrix c.self.inside.kept.modulus A =
+    moved_matrix (length c.self.inside.numbering.arrivals) (number_of c.self.inside.numbering.arrivals) (omega (arith, c.height.ensures.sound.two_or_more)) c.height.ensures.sound.matrix in
+    subst (HasRank c.self.inside.kept.modulus A) (sym c.height.ensures.value)
+    (rank_of_independent c.rref_exists.ensures c.span_fixes_height.ensures c.self.inside.kept.modulus A A prime
+    m m refl (seen_independent c.height.ensures.sound c.width.ensures.sound c.self.invariant) (λ v. ((λ x. x), (λ x. x)))))
