@@ -1,5 +1,5 @@
 // Factors of small matrices, multiplied out.
-ghost use Rattle.std.specs.Prelude.{◌≡◌, ◌≢◌, ◌≤◌, IfOk};
+ghost use Rattle.std.specs.Prelude.{◌≡◌, ◌≢◌, ◌<◌, ◌≤◌, IfOk};
 ghost use Rattle.sparse_rows.specs.declared.rows.TheConstants.{LARGEST_SIZE};
 
 use crate::{Factors, finish};
@@ -153,6 +153,136 @@ fn panels_follow_one_another(rt: HostRuntime) -> Result<(), Fail> {
     let alloc = rt.alloc();
     let a = triangular(alloc, Modulus::new(42013), 67)?;
     assert_factors(&rt, alloc, &a, 67)
+}
+
+// A residue that looks random, of a place.
+fn drawn(i: u32, j: u32, p: u64) -> u64
+    requires { 2 ≤ p }
+    ensures { result < p }
+{
+    let mut x = u64::from(i)
+        .wrapping_mul(0x9E37_79B9_7F4A_7C15)
+        .wrapping_add(u64::from(j));
+    for _ in 0..3 {
+        x = x
+            .wrapping_mul(6364136223846793005)
+            .wrapping_add(1442695040888963407);
+    }
+    (x >> 13) % p
+}
+
+// A matrix of so many drawn rows, and under them rows that are each a multiple of one of them and another.
+fn drawn_matrix(alloc: Global, p: Modulus, m: u32, n: u32, rank: u32) -> Result<Rows, AllocError>
+    requires height { m ≤ LARGEST_SIZE }
+    requires width { n ≤ LARGEST_SIZE }
+    requires some { 1 ≤ rank }
+{
+    let modulus = p.p();
+    let mut builder = RowsBuilder::new(alloc, m, n, p)?;
+    for i in 0..m {
+        let factor = if i < rank { 1 } else { drawn(i, n, modulus) };
+        for j in 0..n {
+            let first = p.mul(factor % modulus, drawn(i % rank, j, modulus));
+            let second = if i < rank {
+                0
+            } else {
+                drawn(i / rank % rank, j, modulus)
+            };
+            builder.push(i, j, p.add(first, second))?;
+        }
+    }
+    builder.finish()
+}
+
+// The rows with zeros.
+fn plain_rows(alloc: Global, a: &Rows) -> Result<Vec<Vec<u64>>, AllocError> {
+    let mut rows = Vec::new(alloc);
+    for i in 0..a.height() {
+        let mut row = Vec::new(alloc);
+        for j in 0..a.width() {
+            row.push(entry(a, i, j))?;
+        }
+        rows.push(row)?;
+    }
+    Ok(rows)
+}
+
+// Makes x the residues of b x - a y, where a and b are their entries at j.
+fn take_off(x: &mut [u64], y: &[u64], j: usize, p: u64)
+    requires { p ≢ 0 }
+{
+    let a = x.get(j).copied().unwrap_or(0) % p;
+    let b = y.get(j).copied().unwrap_or(0);
+    for k in 0..x.len() {
+        let own = u128::from(x[k]).wrapping_mul(u128::from(b));
+        let other = u128::from(y.get(k).copied().unwrap_or(0)).wrapping_mul(u128::from(p - a));
+        x[k] = (own.wrapping_add(other) % u128::from(p)) as u64;
+    }
+}
+
+fn take_off_each(rows: &mut [Vec<u64>], y: &[u64], j: usize, p: u64)
+    requires { p ≢ 0 }
+{
+    for k in 0..rows.len() {
+        take_off(&mut rows[k], y, j, p);
+    }
+}
+
+// The rank by elimination in the plainest way, for a prime modulus.
+fn plain_rank(mut rows: Vec<Vec<u64>>, p: u64) -> usize
+    requires { p ≢ 0 }
+{
+    let mut rank = 0usize;
+    for _ in 0..rows.len() {
+        let Some(row) = rows.pop() else {
+            return rank;
+        };
+        if let Some(j) = row.iter().position(|v| *v != 0) {
+            rank = rank.wrapping_add(1);
+            take_off_each(&mut rows, &row, j, p);
+        }
+    }
+    rank
+}
+
+const MODULI: [u64; 9] = [
+    2,
+    3,
+    7,
+    251,
+    65521,
+    42013,
+    2147483647,
+    2147483659,
+    140737488355213,
+];
+
+// Heights, widths, and how many rows the others come from.
+const SIZES: [(u32, u32, u32); 9] = [
+    (1, 1, 1),
+    (3, 5, 3),
+    (7, 9, 7),
+    (64, 64, 64),
+    (65, 70, 65),
+    (130, 40, 130),
+    (40, 130, 40),
+    (200, 20, 3),
+    (20, 200, 3),
+];
+
+#[test]
+fn ranks_agree_with_plain_elimination(rt: HostRuntime) -> Result<(), Fail> {
+    let alloc = rt.alloc();
+    for p in MODULI {
+        for (m, n, rank) in SIZES {
+            assert!(rt;
+                2 <= p && p < MODULUS_BOUND && m <= LARGEST_SIZE && n <= LARGEST_SIZE && 1 <= rank
+            );
+            let a = drawn_matrix(alloc, Modulus::new(p), m, n, rank)?;
+            assert_factors(&rt, alloc, &a, plain_rank(plain_rows(alloc, &a)?, p))?;
+        }
+    }
+    Ok(())
 }
 
 const HUGE: u32 = 2_147_483_647;
