@@ -177,7 +177,7 @@ fn sums_at(
     }
 }
 
-// The entries of the rows at the eight columns from `start` on, one row behind the other, and zeros behind them.
+// The entries of the rows at the eight columns from `start` on, one row behind the other, and zeros behind.
 fn tile_of(rows: &[Dense<u32>], start: usize) -> [[u32; TILE_COLUMNS]; PANEL]
     requires high { length rows.now ≤ PANEL }
     requires wide { (k : ℕ) → k < length rows.now → start + TILE_COLUMNS ≤ length (block_row rows.now k) }
@@ -222,10 +222,12 @@ fn add_run(
 )
     requires few { height ≤ BLOCK_ROWS }
     requires long { length entries.old ≡ PANEL }
-    requires residues { (t l : ℕ) → t < BLOCK_ROWS → l < TILE_COLUMNS → entry_of entries.old t l < folding.now.p }
+    requires residues { (t l : ℕ) → t < BLOCK_ROWS → l < TILE_COLUMNS
+        → entry_of entries.old t l < folding.now.p }
     requires small { AreSmall by.now tile.now run }
     ensures long { length entries.new ≡ PANEL }
-    ensures residues { (t l : ℕ) → t < BLOCK_ROWS → l < TILE_COLUMNS → entry_of entries.new t l < folding.now.p }
+    ensures residues { (t l : ℕ) → t < BLOCK_ROWS → l < TILE_COLUMNS
+        → entry_of entries.new t l < folding.now.p }
     ensures added { (t l : ℕ) → t < height → l < TILE_COLUMNS → entry_of entries.new t l
         ≡ (entry_of entries.old t l + products_of by.now tile.now run t l) % folding.now.p }
 {
@@ -245,9 +247,9 @@ fn add_run(
     }
 }
 
-// The entries of the rows of a block at the eight columns from `start` on, with the sums of the products with a tile of so many rows
-// added, as many products at a time as a sum takes. The entries are read before any product, all at once: the rows lie far apart in
-// memory, and a processor waits for many of them at a time.
+// The entries of the rows of a block at the eight columns from `start` on, with the sums of the products with a
+// tile of so many rows added, as many products at a time as a sum takes. The entries are read before any product,
+// all at once: the rows lie far apart in memory, and a processor waits for many of them at a time.
 fn entries_with_products(
     rows: &[Dense<u32>],
     by: &[[u64; PANEL]; BLOCK_ROWS],
@@ -267,7 +269,8 @@ fn entries_with_products(
     ensures long { length result ≡ PANEL }
     ensures residues { (t l : ℕ) → t < BLOCK_ROWS → l < TILE_COLUMNS → entry_of result t l < folding.now.p }
     ensures added { (t l : ℕ) → t < length rows.now → l < TILE_COLUMNS → entry_of result t l
-        ≡ (entry_of rows.now t (start + l) + products_of by.now tile.now (run_of 0 height) t l) % folding.now.p }
+        ≡ (entry_of rows.now t (start + l) + products_of by.now tile.now (run_of 0 height) t l)
+        % folding.now.p }
 {
     let mut entries = tile_of(rows, start);
     let mut first = 0;
@@ -292,7 +295,8 @@ fn write_entries(
     requires few { length rows.old ≤ PANEL }
     requires wide { (t : ℕ) → t < length rows.old → length (block_row rows.old t) ≡ width }
     requires long { length entries.now ≡ PANEL }
-    requires residues { (t l : ℕ) → t < length rows.old → l < TILE_COLUMNS → entry_of entries.now t l < p.now }
+    requires residues { (t l : ℕ) → t < length rows.old → l < TILE_COLUMNS
+        → entry_of entries.now t l < p.now }
     requires order { columns.start ≤ columns.end }
     requires narrow { columns.end ≤ columns.start + TILE_COLUMNS }
     requires inside { columns.start + TILE_COLUMNS ≤ width }
@@ -304,7 +308,8 @@ fn write_entries(
     }
 }
 
-// Adds the sums of the products with a tile of so many rows to the rows of a block at its columns, or at the first of them.
+// Adds the sums of the products with a tile of so many rows to the rows of a block at its columns, or at the
+// first of them.
 fn add_columns(
     rows: &mut [Dense<u32>],
     by: &[[u64; PANEL]; BLOCK_ROWS],
