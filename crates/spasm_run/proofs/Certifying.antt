@@ -29,7 +29,7 @@ use Rattle.row_space.proofs.Counting.{spanned_back}
 use Rattle.row_space.proofs.FactorLaws.{rank_of_factors}
 use Rattle.row_space.proofs.Spans.{place_coefficient, places_independent}
 use Rattle.row_space.proofs.Unique.{rank_unique}
-use Rattle.pluq_factor.proofs.Bases.{factor_rows_independent, factor_rows_span}
+use Rattle.schur_rows.proofs.FactorRows.{factor_rows_independent, factor_rows_span}
 
 module _ (p : ℕ) (A : Matrix) (m : IsMatrix p A) (pivots : List Pair) (L U : Matrix) (prime : IsPrime p) (f : AreFactors p A pivots L U) where
   -- the echelon form has a row for each pivot
