@@ -1,4 +1,5 @@
 // How large a dense block a matrix would make.
+use crate::plan::has_few_entries;
 use schur_rows::{RowReducer, mean_left};
 use sparse_rows::Rows;
 use std::alloc::{AllocError, Global};
@@ -43,9 +44,13 @@ impl Extent {
     }
 
     // Whether what pivots leave is better taken into a basis of its row space than stored: there are several rows for each column that
-    // is left, a dense basis on these columns is small, and samples say that a round would be no gain.
+    // is left, a dense basis on these columns is small, and samples say that a round would be no gain. A chunk stores all of its
+    // rows, so those without an entry must not be many.
     pub(crate) fn is_streamed(alloc: Global, reducer: &RowReducer) -> Result<bool, AllocError> {
         let rows = reducer.rows();
+        if has_few_entries(rows) {
+            return Ok(false);
+        }
         let pivots = reducer.pairs().len();
         let height = rows.filled(alloc)?.len().saturating_sub(pivots) as u64;
         let width = rows.occupied(alloc)?.len().saturating_sub(pivots) as u64;

@@ -61,8 +61,8 @@ pub(crate) fn any_pivots<'a, R: Threads + Sync, G: Gate>(
     Ok(triangle)
 }
 
-// Whether a board, which takes memory by rows and columns, would take much more than the entries do.
-fn has_few_entries(rows: &Rows) -> bool {
+// Whether what takes memory by rows and columns, as a board does, would take much more than the entries do.
+pub(crate) fn has_few_entries(rows: &Rows) -> bool {
     rows.entries() < u64::from(rows.height().max(rows.width()) / 4)
 }
 
