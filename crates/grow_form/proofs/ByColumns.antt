@@ -11,7 +11,7 @@ use Rattle.triangular_solve.specs.Leads.{Inserts, IsSettled, IsSound, KeptRows, 
 use Rattle.echelon_form.specs.Settling.{AreSettled, IsOrderOfLeads}
 use Rattle.echelon_form.proofs.Keeping.{IsKeeping, keeping_more}
 use Rattle.echelon_form.proofs.Settled.{settled_span}
-use Rattle.grow_form.specs.Numbering.{AreKeptByNumbers, AreUsed, IsByNumbers, IsNumbering, IsRowAtColumns, NumberedColumns, at_columns, column_of, number_of, rows_at_columns}
+use Rattle.grow_form.specs.Numbering.{AreKeptByNumbers, AreUsed, IsByNumbers, IsNumbering, IsRowAtColumns, NumberedColumns, at_columns, column_numbered, number_of, rows_at_columns}
 use Rattle.grow_form.proofs.Growing.{no_support}
 use Rattle.grow_form.proofs.Moved.{entry_moved, moved_matrix, moved_span, row_moved}
 use Rattle.grow_form.proofs.Numbers.{combination_zero, kept_zero, number_back, used_support}
@@ -63,11 +63,11 @@ module _ {kept : KeptRows} {N : NumberedColumns} {order : List (ℕ × ℕ)} {E 
         let lead : ℕ = slice_index kept.leads k in
         let low : lead < length N.arrivals = omega (arith, sound.leads.inside k inside, by.width) in
         let back = number_back h lead low (by.come k inside) in
-        let one : entry (rows_at_columns N.arrivals E) i (column_of N lead) ≡ 1 =
-        entry_moved (length N.arrivals) (number_of N.arrivals) E i (column_of N lead) (omega (arith, l, s.matrix.len)) back.0 ∙ ap (entry E i) back.2 ∙ (settled_at i l).one in
-        let zero : entry (rows_at_columns N.arrivals E) i (column_of N lead) ≡ 0 =
-        ap (λ u. slice_index u (column_of N lead)) ((no_support (length N.arrivals) (row (rows_at_columns N.arrivals E) i) (settled_matrix.each i l).len).0 none)
-        ∙ at_zeros (length N.arrivals) (column_of N lead) back.0 in
+        let one : entry (rows_at_columns N.arrivals E) i (column_numbered N lead) ≡ 1 =
+        entry_moved (length N.arrivals) (number_of N.arrivals) E i (column_numbered N lead) (omega (arith, l, s.matrix.len)) back.0 ∙ ap (entry E i) back.2 ∙ (settled_at i l).one in
+        let zero : entry (rows_at_columns N.arrivals E) i (column_numbered N lead) ≡ 0 =
+        ap (λ u. slice_index u (column_numbered N lead)) ((no_support (length N.arrivals) (row (rows_at_columns N.arrivals E) i) (settled_matrix.each i l).len).0 none)
+        ∙ at_zeros (length N.arrivals) (column_numbered N lead) back.0 in
         absurd (omega (arith, one, zero))
     | inr some ↦ omega (arith, some)
   ]

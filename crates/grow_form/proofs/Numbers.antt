@@ -16,7 +16,7 @@ use Rattle.sparse_rows.specs.Stored.{IsSparse, entry_at, spread, with_row}
 use Rattle.sparse_rows.proofs.Loops.{row_before, row_last}
 use Rattle.sparse_rows.proofs.Spread.{at_spread, entry_cover, entry_here, entry_support, spread_vector}
 use Rattle.triangular_solve.specs.Leads.{Appends, Inserts, IsSound, KeptRows}
-use Rattle.grow_form.specs.Numbering.{AreKeptByNumbers, AreUsed, ComesBehind, HasNumber, HaveCome, IsByNumbers, IsNumbering, IsRowAtColumns, IsRowByNumbers, NumberedColumns, at_columns, column_of, no_columns, number_of, rows_at_columns, seen_rows}
+use Rattle.grow_form.specs.Numbering.{AreKeptByNumbers, AreUsed, ComesBehind, HasNumber, HaveCome, IsByNumbers, IsNumbering, IsRowAtColumns, IsRowByNumbers, NumberedColumns, at_columns, column_numbered, no_columns, number_of, rows_at_columns, seen_rows}
 use Rattle.grow_form.proofs.Moved.{combination_back, combination_beyond, combination_there, map_equal}
 use Rattle.grow_form.proofs.OneRow.{renamed_away, renamed_fit, renamed_here}
 
@@ -35,7 +35,7 @@ abbrev pub IsUnused : NumberedColumns → ℕ → Type 0
 IsUnused N s = s + N.count < length N.arrivals
 
 pub number_back : {N : NumberedColumns} → IsNumbering N → (s : ℕ) → s < length N.arrivals → length N.arrivals ≤ s + N.count →
-    (column_of N s < length N.arrivals) × (slice_index N.arrivals (column_of N s) ≡ length N.arrivals - s) × (number_of N.arrivals (column_of N s) ≡ s)
+    (column_numbered N s < length N.arrivals) × (slice_index N.arrivals (column_numbered N s) ≡ length N.arrivals - s) × (number_of N.arrivals (column_numbered N s) ≡ s)
 number_back {N} h s l used =
     let k : ℕ = length N.arrivals - 1 - s in
     let less : k < N.count = omega (arith, l, used) in
@@ -45,12 +45,12 @@ number_back {N} h s l used =
 pub named : {N : NumberedColumns} → IsNumbering N → (s : ℕ) → s < length N.arrivals → ((j : ℕ) × (j < length N.arrivals) × (number_of N.arrivals j ≡ s)) ⊎ IsUnused N s
 named {N} h s l = elim (cases_lt (s + N.count) (length N.arrivals)) [
   | inl off ↦ inr off
-  | inr used ↦ let b = number_back h s l used in inl (column_of N s, b.0, b.2)
+  | inr used ↦ let b = number_back h s l used in inl (column_numbered N s, b.0, b.2)
 ]
 
 -- the number of a column that has come, and the column with this number
 pub number_there : {N : NumberedColumns} → IsNumbering N → (j : ℕ) → j < length N.arrivals → slice_index N.arrivals j ≢ 0 →
-    (number_of N.arrivals j < length N.arrivals) × (length N.arrivals ≤ number_of N.arrivals j + N.count) × (column_of N (number_of N.arrivals j) ≡ j)
+    (number_of N.arrivals j < length N.arrivals) × (length N.arrivals ≤ number_of N.arrivals j + N.count) × (column_numbered N (number_of N.arrivals j) ≡ j)
 number_there {N} h j l come =
     let at = h.come j l come in
     let few = columns_few h in
@@ -356,7 +356,7 @@ module _ {N : NumberedColumns} (h : IsNumbering N) where
 
   -- and back
   pub built_at_columns : {p : ℕ} {numbers vals : List ℕ} {r : ResidueMatrix} → 0 < p → IsSparse p (length N.arrivals) numbers vals → AreUsed N numbers → r.modulus ≡ p →
-      r.matrix ≡ built p 1 (length N.arrivals) (map triple (row_triples 0 (map (column_of N) numbers) vals)) → IsRowAtColumns N p numbers vals r
+      r.matrix ≡ built p 1 (length N.arrivals) (map triple (row_triples 0 (map (column_numbered N) numbers) vals)) → IsRowAtColumns N p numbers vals r
   built_at_columns {p} {numbers} {vals} {r} pos sparse used modulus matrix = record {
     modulus = modulus;
     height = ap (λ (A : Matrix). A.height) matrix;
@@ -374,21 +374,21 @@ module _ {N : NumberedColumns} (h : IsNumbering N) where
       vector = spread_vector pos sparse
 
       sums : ℕ → ℕ
-      sums j = sum_at 0 j (map triple (row_triples 0 (map (column_of N) numbers) vals)) % p
+      sums j = sum_at 0 j (map triple (row_triples 0 (map (column_numbered N) numbers) vals)) % p
 
       is_row : row r.matrix 0 ≡ list_of n sums
-      is_row = ap (λ A. row A 0) matrix ∙ row_matrix_of 1 n (λ i s. sum_at i s (map triple (row_triples 0 (map (column_of N) numbers) vals)) % p) 0 (omega arith)
+      is_row = ap (λ A. row A 0) matrix ∙ row_matrix_of 1 n (λ i s. sum_at i s (map triple (row_triples 0 (map (column_numbered N) numbers) vals)) % p) 0 (omega arith)
 
       at : (j : ℕ) → j < n → sums j ≡ slice_index w (number_of N.arrivals j)
       at j l = elim (cases_eq (slice_index N.arrivals j) 0) [
         | inl none ↦
-            ap (λ x. x % p) (renamed_away (column_of N) numbers vals j (λ k lk e.
+            ap (λ x. x % p) (renamed_away (column_numbered N) numbers vals j (λ k lk e.
             let b = number_back h (slice_index numbers k) (sparse.below k lk) (used k lk) in omega (arith, b.1, ap (slice_index N.arrivals) e, none, sparse.below k lk)))
             ∙ zero-mod p ∙ sym (get_or_past w (number_of N.arrivals j) 0 (omega (arith, none, vector.len)))
         | inr some ↦
             let t = number_there h j l some in
-            ap (λ c. sum_at 0 c (map triple (row_triples 0 (map (column_of N) numbers) vals)) % p) (sym t.2)
-            ∙ ap (λ x. x % p) (renamed_here (column_of N) numbers vals (number_of N.arrivals j) sparse.rising (λ k lk e.
+            ap (λ c. sum_at 0 c (map triple (row_triples 0 (map (column_numbered N) numbers) vals)) % p) (sym t.2)
+            ∙ ap (λ x. x % p) (renamed_here (column_numbered N) numbers vals (number_of N.arrivals j) sparse.rising (λ k lk e.
             let b = number_back h (slice_index numbers k) (sparse.below k lk) (used k lk) in
             let c = number_back h (number_of N.arrivals j) t.0 t.1 in
             sym b.2 ∙ ap (number_of N.arrivals) e ∙ c.2) ∙ sym (at_spread n numbers vals (number_of N.arrivals j) t.0))
@@ -404,8 +404,8 @@ module _ {N : NumberedColumns} (h : IsNumbering N) where
       omega (arith, get_or-map (number_of N.arrivals) cols k 0 0 less, (number_there h (slice_index cols k) (sparse.below k less) (come k less)).0)) sparse.residues
 
   pub fit_at_columns : {p : ℕ} {numbers vals : List ℕ} → IsSparse p (length N.arrivals) numbers vals → AreUsed N numbers →
-      All (FitsMatrix 1 (length N.arrivals) p) (row_triples 0 (map (column_of N) numbers) vals)
+      All (FitsMatrix 1 (length N.arrivals) p) (row_triples 0 (map (column_numbered N) numbers) vals)
   fit_at_columns {p} {numbers} {vals} sparse used =
-      renamed_fit p (length N.arrivals) (map (column_of N) numbers) vals (length-map numbers (column_of N) ∙ sparse.long)
-      (λ k l. let less : k < length numbers = omega (arith, length-map numbers (column_of N)) in
-      omega (arith, get_or-map (column_of N) numbers k 0 0 less, (number_back h (slice_index numbers k) (sparse.below k less) (used k less)).0)) sparse.residues
+      renamed_fit p (length N.arrivals) (map (column_numbered N) numbers) vals (length-map numbers (column_numbered N) ∙ sparse.long)
+      (λ k l. let less : k < length numbers = omega (arith, length-map numbers (column_numbered N)) in
+      omega (arith, get_or-map (column_numbered N) numbers k 0 0 less, (number_back h (slice_index numbers k) (sparse.below k less) (used k less)).0)) sparse.residues

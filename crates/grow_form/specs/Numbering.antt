@@ -25,8 +25,8 @@ abbrev pub number_of : List ℕ → ℕ → ℕ
 number_of arrivals j = length arrivals - slice_index arrivals j
 
 -- the column that has this number
-abbrev pub column_of : NumberedColumns → ℕ → ℕ
-column_of N s = slice_index N.columns (length N.arrivals - 1 - s)
+abbrev pub column_numbered : NumberedColumns → ℕ → ℕ
+column_numbered N s = slice_index N.columns (length N.arrivals - 1 - s)
 
 -- the columns that have come, and their places, belong to each other
 pub record IsNumbering (N : NumberedColumns) : Type 0 where
