@@ -43,7 +43,8 @@ IsBatchAnswered words limit input text =
 
 -- the answer of a batch to the same words and bytes is one text, for a prime modulus
 abbrev pub IsOneBatchAnswer : Type 0
-IsOneBatchAnswer = (words : List (List ℕ)) (limit : ℕ) (input : Input) (c : BatchCommand) (text other : List ℕ) →
+IsOneBatchAnswer = (words : List (List ℕ)) (limit : ℕ) (input : Input) (c : BatchCommand) →
+    (text other : List ℕ) →
     AcceptedBatch words c → IsPrime c.modulus →
     IsBatchAnswered words limit input text → IsBatchAnswered words limit input other → text ≡ other
 

@@ -80,6 +80,7 @@ impl Grow {
         let _ = self.numbering.width();
         let p = self.kept.modulus();
         let row = self.numbering.row_by_numbers(self.alloc, cols, vals, &p)?;
+        // The call tells that the entries are residues.
         let _ = row.height();
         let lead = self.kept.insert(row.cols(0), row.vals(0))?;
         // For a prime modulus the lead is the number of a column, and no other column comes.
@@ -102,6 +103,7 @@ impl Grow {
         }
         let p = self.kept.modulus();
         let row = self.numbering.row_by_numbers(self.alloc, cols, vals, &p)?;
+        // The call tells that the entries are residues.
         let _ = row.height();
         Ok(
             self.kept

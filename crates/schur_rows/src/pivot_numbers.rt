@@ -40,6 +40,7 @@ impl PivotNumbers {
         requires { HasNumbers pairs.now self.now }
         ensures { MatchOption result (¬ IsPivotRow pairs.now i) (IsRowOfPair pairs.now i) }
     {
+        // The contract alone needs the pairs.
         let _ = pairs;
         let Ok(t) = self.rows.binary_search(&i) else {
             return None;

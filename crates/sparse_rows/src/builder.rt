@@ -49,6 +49,7 @@ impl RowsBuilder {
         requires width { n ≤ LARGEST_SIZE }
         ensures { IfOk result (λ b. b ≡ record { modulus = p; height = m; width = n; pushed = [] }) }
     {
+        // The call tells the range of the modulus.
         let _ = p.p();
         Ok(RowsBuilder {
             alloc,

@@ -81,6 +81,7 @@ impl Rows {
         ensures matrix { OnOk result (self.new.matrix ≡ with_sparse_row self.old.matrix cols.now vals.now) }
         ensures err { OnErr result (self.new.matrix ≡ self.old.matrix) }
     {
+        // The call tells that the stored rows are a matrix of residues.
         let _ = self.stored.height();
         if self.every_row {
             self.stored.append_slices(cols, vals)?;
@@ -117,6 +118,7 @@ impl Rows {
         ensures matrix { OnOk result (self.new.matrix ≡ with_zeros self.old.matrix count) }
         ensures err { OnErr result (self.new.matrix ≡ self.old.matrix) }
     {
+        // The call tells that the stored rows are a matrix of residues.
         let _ = self.stored.height();
         if self.every_row {
             self.stored.append_zeros(count)?;

@@ -38,6 +38,7 @@ impl Sparse {
         ensures modulus { result.modulus ≡ p }
         ensures row { result.row ≡ zeros n }
     {
+        // The call tells the range of the modulus.
         let _ = p.p();
         Sparse {
             modulus: p,

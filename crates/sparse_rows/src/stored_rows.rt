@@ -55,6 +55,7 @@ impl StoredRows {
         ensures modulus { IfOk result (λ rows. rows.modulus ≡ modulus) }
         ensures matrix { IfOk result (λ rows. rows.matrix ≡ record { height = 0; width = width; rows = [] }) }
     {
+        // The call tells the range of the modulus.
         let _ = modulus.p();
         let mut starts = Vec::with_capacity(alloc, height as usize + 1)?;
         starts.push(0)?;
@@ -110,6 +111,7 @@ impl StoredRows {
         ensures modulus { IfOk result (λ rows. rows.modulus ≡ modulus) }
         ensures matrix { IfOk result (λ rows. rows.matrix ≡ matrix_of_cells height width cells.now) }
     {
+        // The call tells the range of the modulus.
         let _ = modulus.p();
         Ok(StoredRows {
             modulus,

@@ -116,6 +116,7 @@ fn count_pivots<R: Threads + Sync>(
     requires few { command.workers ≤ 64 }
     ensures { ComesOf (asking task.Rank a.now.modulus command) (a.now.matrix ∷ []) result }
 {
+    // The law's contract: the rank is the number of the pivots of factors. The call tells that the entries are residues.
     row_space::factors_give_rank();
     let _ = a.height();
     let factors = finish(rt, alloc, a, command.workers)?;
@@ -230,6 +231,7 @@ fn find_inverse<R: Threads + Sync, G: Gate>(
     requires few { command.workers ≤ 64 }
     ensures { ComesOf (asking task.Inverse a.now.modulus command) (a.now.matrix ∷ []) result }
 {
+    // The law's contract: a matrix that takes a vector other than zero to zero has no inverse.
     row_space::inverse_excludes_null();
     let height = a.height();
     let width = a.width();
@@ -452,6 +454,7 @@ fn refutation<R: Threads + Sync, G: Gate>(
         → ((x : List ℕ) → ¬ IsSolution a.now.modulus a.now.matrix (column b.now.matrix) x)
         → IsRefutingCombination a.now.modulus a.now.matrix (column b.now.matrix) (row y.matrix 0)) }
 {
+    // The laws' contracts: where A x = b has no solution the refuting system has one, and it refutes.
     row_space::refuting_is_solvable();
     row_space::refuting_system_refutes();
     match solve(rt, alloc, refuting_system(alloc, a, b)?, plan, gate)? {

@@ -164,6 +164,7 @@ pub fn rank_of(
     for row in rows {
         keep(p, &mut kept, &mut leads, row)?;
     }
+    // The laws' contracts: there is an echelon form, and independent rows of one space are as many.
     row_space::rref_exists();
     row_space::span_fixes_height();
     Ok(kept.len())
