@@ -12,7 +12,8 @@ use std::thread::Threads;
 
 // The matrix with the rows (2, 4, 1), (1, 2, 0) and (3, 6, 1), and the columns (1, 0, 1), (0, 0, 1) and (0, 0, 0) behind it.
 const THREE: &str =
-    "3 3 M\n1 1 2\n1 2 4\n1 3 1\n2 1 1\n2 2 2\n3 1 3\n3 2 6\n3 3 1\n0 0 0\n3 1 M\n1 1 1\n3 1 1\n0 0 0\n3 1 M\n3 1 1\n0 0 0\n3 1 M\n0 0 0\n";
+    "3 3 M\n1 1 2\n1 2 4\n1 3 1\n2 1 1\n2 2 2\n3 1 3\n3 2 6\n3 3 1\n0 0 0\n3 1 M\n1 1 1\n3 1 1\n0 0 0\n\
+     3 1 M\n3 1 1\n0 0 0\n3 1 M\n0 0 0\n";
 
 const THREE_ANSWERS: &str =
     "solution\n3 1 M\n3 1 1\n0 0 0\nno solution\n1 3 M\n1 1 6\n1 2 6\n1 3 1\n0 0 0\nsolution\n3 1 M\n0 0 0\n";

@@ -83,7 +83,8 @@ fn perform<R: Threads + Sync + Clock + Print + Eprint, I: Read + Drop, O: Write 
             time_writing(rt, alloc, input, output, &Modulus::new(p))
         }
         _ => println!(rt;
-            "spasm_timed lanes | factors P WORKERS | pivots WORKERS | walks | board WORKERS | rounds WORKERS | certified | read P | write P"
+            "spasm_timed lanes | factors P WORKERS | pivots WORKERS | walks | board WORKERS | \
+             rounds WORKERS | certified | read P | write P"
         ),
     }
 }

@@ -8,7 +8,8 @@ use std::test::Fail;
 
 // X, and a certificate behind it that isn't valid.
 const X_FORGED: &str =
-    "3 3 M\n1 1 2\n1 2 4\n1 3 1\n2 1 1\n2 2 2\n3 1 3\n3 2 6\n3 3 1\n0 0 0\ncertificate rank 7 0\n3 0 M\n0 0 0\n0 3 M\n0 0 0\n";
+    "3 3 M\n1 1 2\n1 2 4\n1 3 1\n2 1 1\n2 2 2\n3 1 3\n3 2 6\n3 3 1\n0 0 0\ncertificate rank 7 0\n\
+     3 0 M\n0 0 0\n0 3 M\n0 0 0\n";
 
 // Commands with texts, and answers of which an output takes first bytes alone.
 const CUT_SHORT: &[(&str, &str, &[u8])] = &[
