@@ -7,6 +7,7 @@ pub mod Filling
 pub mod Gathering
 pub mod Growing
 pub mod Indexing
+pub mod LeftThere
 pub mod Parts
 pub mod ProductSums
 pub mod Progress

@@ -4,7 +4,9 @@ use Rattle.residue_words.specs.Residues.{IsPrime}
 use Rattle.residue_words.specs.Matrix.{Matrix, IsMatrix, entry}
 use Rattle.row_space.specs.Factors.{AreFactors, FitAsFactors}
 use Rattle.dense_finish.specs.Block.{entry_of}
+use Rattle.sparse_rows.specs.Rows.{ResidueMatrix}
 use Rattle.dense_finish.specs.declared.factors.Factors.{Factors}
+use Rattle.dense_finish.specs.declared.right_factor.RightFactor.{RightFactor}
 
 -- factors of A modulo p: sizes, residues and places of pivots for every modulus, and valid ones for a prime one
 pub record IsFactored (p : ℕ) (A : Matrix) (f : Factors) : Type 0 where
@@ -12,6 +14,10 @@ pub record IsFactored (p : ℕ) (A : Matrix) (f : Factors) : Type 0 where
   pub right_modulus : f.u.modulus ≡ p
   pub fit : FitAsFactors p A f.pivots f.l.matrix f.u.matrix
   pub factors : IsPrime p → AreFactors p A f.pivots f.l.matrix f.u.matrix
+
+-- with some left factor they are factors of A
+abbrev pub IsRightFactored : ℕ → Matrix → RightFactor → Type 0
+IsRightFactored p A r = (L : ResidueMatrix) × IsFactored p A (record { pivots = r.pivots; l = L; u = r.u })
 
 -- the left factor: at each of these rows the coefficients of a row of the block, and zeros at the others
 pub record IsLeftFactor (m : ℕ) (rows columns : List ℕ) (block : List (List ℕ)) (L : Matrix) : Type 0 where

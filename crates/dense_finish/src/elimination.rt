@@ -82,7 +82,7 @@ fn finish_in<R: Threads + Sync, W: Reducing>(
 }
 
 // Eliminates the block, panel by panel.
-fn eliminate<R: Threads + Sync, W: Reducing>(
+pub(crate) fn eliminate<R: Threads + Sync, W: Reducing>(
     rt: &R,
     alloc: Global,
     block: &mut [Dense<W>],

@@ -12,10 +12,12 @@ mod pivots;
 mod products;
 mod reducing;
 mod residue;
+mod right_factor;
 mod row_addition;
 #[cfg(test)]
 mod tests;
 
 pub use elimination::finish;
 pub use factors::Factors;
+pub use right_factor::{RightFactor, finish_right};
 pub use row_addition::{axpy, axpy_plainly};

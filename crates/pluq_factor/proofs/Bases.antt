@@ -9,8 +9,8 @@ use Rattle.sparse_rows.specs.Rows.{ResidueMatrix}
 use Rattle.sparse_rows.specs.declared.rows.TheConstants.{LARGEST_SIZE}
 use Rattle.triangular_solve.specs.Reduced.{IsComplement}
 use Rattle.triangular_solve.specs.Triangle.{TriangleState}
-use Rattle.dense_finish.specs.declared.factors.Factors.{Factors}
-use Rattle.dense_finish.specs.Factors.{IsFactored}
+use Rattle.dense_finish.specs.Factors.{IsRightFactored}
+use Rattle.dense_finish.specs.declared.right_factor.RightFactor.{RightFactor}
 use Rattle.echelon_form.specs.Form.{Form, IsFormOf}
 use Rattle.schur_rows.specs.Round.{FitsComplement, above, pivot_rows}
 use Rattle.schur_rows.specs.Streamed.{IsBasisLeft}
@@ -21,8 +21,8 @@ use Rattle.pluq_factor.specs.RoundPivots.{IsLeftBy, IsRestOf}
 use Rattle.pluq_factor.specs.declared.round_pivots.Left.{Left}
 
 -- the rows of the right factor are a basis
-pub basis_finished : {p : ℕ} {A : Matrix} {f : Factors} → IsMatrix p A → IsFactored p A f → IsBasis p A f.u
-basis_finished m h = record {
+pub basis_finished : {p : ℕ} {A : Matrix} {f : RightFactor} → IsMatrix p A → IsRightFactored p A f → IsBasis p A f.u
+basis_finished m (L, h) = record {
   modulus = h.right_modulus;
   width = h.fit.right_width;
   independent = λ prime. factor_rows_independent prime m (h.factors prime);

@@ -7,7 +7,7 @@ ghost use Rattle.pluq_factor.specs.Basis.{IsBasis};
 use crate::extent::Extent;
 use crate::plan::Plan;
 use crate::round_pivots::{Left, Rest, take_left};
-use dense_finish::{Factors, finish};
+use dense_finish::{RightFactor, finish_right};
 use echelon_form::Echelon;
 use optimistic_search::Gate;
 use schur_rows::append_all;
@@ -31,11 +31,11 @@ pub fn row_basis<R: Threads + Sync, G: Gate>(
     requires few { plan.workers ≤ 64 }
     ensures { IfOk result (IsBasis rows.now.modulus rows.now.matrix) }
 {
+    let copy = rows.copy(alloc)?;
     if plan.rounds == 0 || Extent::of(alloc, rows)?.is_full() {
-        let basis = dense_basis(rt, alloc, rows, plan.workers)?;
+        let basis = dense_basis(rt, alloc, copy, plan.workers)?;
         return Ok(basis);
     }
-    let copy = rows.copy(alloc)?;
     let basis = basis_from(rt, alloc, copy, plan.workers, plan.rounds, gate)?;
     Ok(basis)
 }
@@ -44,17 +44,17 @@ pub fn row_basis<R: Threads + Sync, G: Gate>(
 fn finished<R: Threads + Sync>(
     rt: &R,
     alloc: Global,
-    rows: &Rows,
+    rows: Rows,
     workers: u32,
 ) -> Result<Rows, AllocError>
     requires some { 1 ≤ workers }
     requires few { workers ≤ 64 }
-    ensures { IfOk result (IsBasis rows.now.modulus rows.now.matrix) }
+    ensures { IfOk result (IsBasis rows.modulus rows.matrix) }
 {
-    if Extent::of(alloc, rows)?.is_block() {
+    if Extent::of(alloc, &rows)?.is_block() {
         dense_basis(rt, alloc, rows, workers)
     } else {
-        form_basis(rt, alloc, rows, workers)
+        form_basis(rt, alloc, &rows, workers)
     }
 }
 
@@ -62,16 +62,16 @@ fn finished<R: Threads + Sync>(
 fn dense_basis<R: Threads + Sync>(
     rt: &R,
     alloc: Global,
-    rows: &Rows,
+    rows: Rows,
     workers: u32,
 ) -> Result<Rows, AllocError>
     requires some { 1 ≤ workers }
     requires few { workers ≤ 64 }
-    ensures { IfOk result (IsBasis rows.now.modulus rows.now.matrix) }
+    ensures { IfOk result (IsBasis rows.modulus rows.matrix) }
 {
     // The call's contract tells that the entries are residues.
     let _ = rows.height();
-    let Factors { u, .. } = finish(rt, alloc, rows, workers)?;
+    let RightFactor { u, .. } = finish_right(rt, alloc, rows, workers)?;
     Ok(u)
 }
 
@@ -118,11 +118,11 @@ fn basis_from<R: Threads + Sync, G: Gate>(
     // The calls' contracts tell that the entries are residues.
     let _ = (rows.height(), rows.width());
     if rounds == 0 {
-        let basis = finished(rt, alloc, &rows, workers)?;
+        let basis = finished(rt, alloc, rows, workers)?;
         return Ok(basis);
     }
     let Some(left) = take_left(rt, alloc, &rows, workers, gate)? else {
-        let basis = finished(rt, alloc, &rows, workers)?;
+        let basis = finished(rt, alloc, rows, workers)?;
         return Ok(basis);
     };
     drop(rows);

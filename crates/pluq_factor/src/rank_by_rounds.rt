@@ -7,7 +7,7 @@ ghost use Rattle.pluq_factor.specs.Counted.{LeavesRank};
 use crate::extent::Extent;
 use crate::plan::Plan;
 use crate::round_pivots::{Counted, count_round};
-use dense_finish::finish;
+use dense_finish::finish_right;
 use optimistic_search::Gate;
 use sparse_rows::Rows;
 use std::alloc::{AllocError, Global};
@@ -38,18 +38,21 @@ pub fn rank<R: Threads + Sync, G: Gate>(
     ensures at_most_width { IfOk result (λ r. r ≤ rows.now.matrix.width) }
 {
     if plan.rounds == 0 {
-        let rank = dense_rank(rt, alloc, rows, plan.workers)?;
+        let copy = rows.copy(alloc)?;
+        let rank = dense_rank(rt, alloc, copy, plan.workers)?;
         return Ok(rank);
     }
     let Some(counted) = count_rounds(rt, alloc, rows, plan, gate)? else {
-        let rank = rank_of_rest(rt, alloc, rows, plan.workers)?;
+        let copy = rows.copy(alloc)?;
+        let rank = rank_of_rest(rt, alloc, copy, plan.workers)?;
         return Ok(rank);
     };
-    let below = rank_of_rest(rt, alloc, &counted.rest, plan.workers)?;
+    let Counted { count, rest } = counted;
+    let below = rank_of_rest(rt, alloc, rest, plan.workers)?;
     // The call's contract tells that the entries are residues.
     let most = rows.height().min(rows.width());
     // Less only where the modulus isn't prime.
-    let rank = counted.count + below.min(most - counted.count);
+    let rank = count + below.min(most - count);
     Ok(rank)
 }
 
@@ -90,23 +93,23 @@ fn count_rounds<R: Threads + Sync, G: Gate>(
     Ok(Some(left))
 }
 
-// The rank without a round.
+// The rank without a round, of a matrix that nobody wants any more.
 fn rank_of_rest<R: Threads + Sync>(
     rt: &R,
     alloc: Global,
-    rows: &Rows,
+    rows: Rows,
     workers: u32,
 ) -> Result<u32, AllocError>
     requires some { 1 ≤ workers }
     requires few { workers ≤ 64 }
-    ensures rank { IfOk result (λ r. IsPrime rows.now.modulus → HasRank rows.now.modulus rows.now.matrix r) }
-    ensures at_most_height { IfOk result (λ r. r ≤ rows.now.matrix.height) }
-    ensures at_most_width { IfOk result (λ r. r ≤ rows.now.matrix.width) }
+    ensures rank { IfOk result (λ r. IsPrime rows.modulus → HasRank rows.modulus rows.matrix r) }
+    ensures at_most_height { IfOk result (λ r. r ≤ rows.matrix.height) }
+    ensures at_most_width { IfOk result (λ r. r ≤ rows.matrix.width) }
 {
-    if Extent::of(alloc, rows)?.is_block() {
+    if Extent::of(alloc, &rows)?.is_block() {
         dense_rank(rt, alloc, rows, workers)
     } else {
-        echelon_form::rank(alloc, rows)
+        echelon_form::rank(alloc, &rows)
     }
 }
 
@@ -114,20 +117,20 @@ fn rank_of_rest<R: Threads + Sync>(
 fn dense_rank<R: Threads + Sync>(
     rt: &R,
     alloc: Global,
-    rows: &Rows,
+    rows: Rows,
     workers: u32,
 ) -> Result<u32, AllocError>
     requires some { 1 ≤ workers }
     requires few { workers ≤ 64 }
-    ensures rank { IfOk result (λ r. IsPrime rows.now.modulus → HasRank rows.now.modulus rows.now.matrix r) }
-    ensures at_most_height { IfOk result (λ r. r ≤ rows.now.matrix.height) }
-    ensures at_most_width { IfOk result (λ r. r ≤ rows.now.matrix.width) }
+    ensures rank { IfOk result (λ r. IsPrime rows.modulus → HasRank rows.modulus rows.matrix r) }
+    ensures at_most_height { IfOk result (λ r. r ≤ rows.matrix.height) }
+    ensures at_most_width { IfOk result (λ r. r ≤ rows.matrix.width) }
 {
     // The law's contract: the rank is the number of the pivots of factors.
     row_space::factors_give_rank();
     // The calls' contracts tell that the entries are residues, and how many rows and columns there are at most.
     let _ = (rows.height(), rows.width());
-    let factors = finish(rt, alloc, rows, workers)?;
-    let rank = factors.pivots.items().len() as u32;
+    let right = finish_right(rt, alloc, rows, workers)?;
+    let rank = right.pivots.items().len() as u32;
     Ok(rank)
 }

@@ -106,7 +106,7 @@ fn rest_of<R: Threads + Sync>(
     requires few { workers ≤ 64 }
     ensures { IfOk result (IsRestOf triangle.now) }
 {
-    let reducer = RowReducer::of(alloc, triangle)?;
+    let reducer = RowReducer::of(alloc, triangle, workers)?;
     if Extent::is_streamed(alloc, &reducer)? {
         let basis = left_basis(rt, alloc, &reducer, workers)?;
         return Ok(Rest {
@@ -143,7 +143,7 @@ pub(crate) fn count_round<R: Threads + Sync, G: Gate>(
     if count == 0 {
         return Ok(None);
     }
-    let reducer = RowReducer::of(alloc, &triangle)?;
+    let reducer = RowReducer::of(alloc, &triangle, workers)?;
     if Extent::is_streamed(alloc, &reducer)? {
         let counted = count_left(rt, alloc, rows, &reducer, workers, count)?;
         return Ok(Some(counted));

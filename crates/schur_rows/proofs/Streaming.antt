@@ -1,5 +1,6 @@
 -- A basis of what a round leaves, made chunk by chunk.
-use Rattle.std.proofs.Common.{ℕ, ◌≡◌, ◌+◌, ◌<◌, ◌≤◌, ◌∙◌, false, List, [], length, sym, refl, ap, subst, arith}
+use Rattle.std.proofs.Common.{ℕ, ◌≡◌, ◌+◌, ◌<◌, ◌≤◌, ◌∙◌, false, List, [], ◌++◌, length, sym, refl, ap, subst, arith}
+use Rattle.std.proofs.lemmas.List.{nil_from_length}
 use Rattle.residue_words.specs.Residues.{IsPrime}
 use Rattle.residue_words.specs.Matrix.{Matrix, IsCombination, IsMatrix, row, zeros}
 use Rattle.residue_words.proofs.Vectors.{combination_through, row_combination, vector_equal, zeros_vector}
@@ -11,8 +12,9 @@ use Rattle.row_space.proofs.Spans.{same_span_chained, same_span_of_rows}
 use Rattle.sparse_rows.specs.Rows.{ResidueMatrix}
 use Rattle.pivot_table.specs.Order.{Triangular}
 use Rattle.triangular_solve.specs.Triangle.{TriangleState}
-use Rattle.dense_finish.specs.Factors.{IsFactored}
+use Rattle.dense_finish.specs.Factors.{IsFactored, IsRightFactored}
 use Rattle.dense_finish.specs.declared.factors.Factors.{Factors}
+use Rattle.dense_finish.specs.declared.right_factor.RightFactor.{RightFactor}
 use Rattle.schur_rows.specs.Parts.{IsPartTo}
 use Rattle.schur_rows.specs.Round.{above}
 use Rattle.schur_rows.specs.Streamed.{IsBasisLeft, IsBasisUpTo}
@@ -47,6 +49,14 @@ below_same {p} {P} {Q} {L} two mp mq ml wide below same =
     (rows_within two mp mq ml (below ∙ sym wide) (λ v. (same v).0))
     (rows_within two mq mp ml below (λ v. (same v).1))
 
+-- the rows below none
+pub below_none : {p : ℕ} {T U : Matrix} → IsMatrix p T → T.height ≡ 0 → U.width ≡ T.width → U ≡ above T U
+below_none {p} {T} {U} m none wide =
+    let empty : T.rows ≡ [] = nil_from_length T.rows (m.len ∙ none) in
+    let height : U.height ≡ T.height + U.height = omega (arith, none) in
+    let rows : U.rows ≡ T.rows ++ U.rows = sym (ap (λ r. r ++ U.rows) empty) in
+    λ k. record { height = height k; width = wide k; rows = rows k }
+
 -- no row is left of no row
 pub basis_none : {t : TriangleState} {b : ResidueMatrix} {p n : ℕ} → 2 ≤ p → p ≡ t.rows.modulus → n ≡ t.rows.matrix.width → b.modulus ≡ p → b.matrix ≡ record { height = 0; width = n; rows = [] } → IsBasisUpTo t 0 b
 basis_none {t} {b} {p} {n} two modulus width sound is =
@@ -71,12 +81,13 @@ basis_none {t} {b} {p} {n} two modulus width sound is =
     }
 
 -- one chunk more
-pub basis_more : {t : TriangleState} {from to : ℕ} {old stacked : ResidueMatrix} {left : SchurRows} {f : Factors} → IsBasisUpTo t from old → IsPartTo t false from to left → stacked.modulus ≡ old.modulus →
-    stacked.matrix ≡ above old.matrix left.rows.matrix → IsFactored stacked.modulus stacked.matrix f → IsBasisUpTo t to f.u
+pub basis_more : {t : TriangleState} {from to : ℕ} {old stacked : ResidueMatrix} {left : SchurRows} {f : RightFactor} → IsBasisUpTo t from old → IsPartTo t false from to left → stacked.modulus ≡ old.modulus →
+    stacked.matrix ≡ above old.matrix left.rows.matrix → IsRightFactored stacked.modulus stacked.matrix f → IsBasisUpTo t to f.u
 basis_more {t} {from} {to} {old} {stacked} {left} {f} h g modulus is factored =
     let p : ℕ = t.rows.modulus in
     let N : Matrix = above old.matrix left.rows.matrix in
-    let at : IsFactored p N f = subst (λ p. IsFactored p N f) (modulus ∙ h.modulus) (subst (λ N. IsFactored stacked.modulus N f) is factored) in
+    let whole : Factors = record { pivots = f.pivots; l = factored.0; u = f.u } in
+    let at : IsFactored p N whole = subst (λ p. IsFactored p N whole) (modulus ∙ h.modulus) (subst (λ N. IsFactored stacked.modulus N whole) is factored.1) in
     let mn : IsMatrix p N = above_matrix h.matrix g.0.rest (g.0.width ∙ sym h.width) in
     let both : SchurRows = record {
       rows = record { modulus = h.part.rows.modulus; matrix = above h.part.rows.matrix left.rows.matrix };

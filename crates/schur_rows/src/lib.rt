@@ -12,6 +12,8 @@ mod row_reducer;
 mod sampling;
 mod stacking;
 mod streamed;
+#[cfg(test)]
+mod tests;
 mod workers;
 
 ghost use Rattle.schur_rows.specs.Laws.{ComplementIsOne, RoundJoins, RoundRank, RoundSpans};

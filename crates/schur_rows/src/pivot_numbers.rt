@@ -35,6 +35,11 @@ impl PivotNumbers {
         Ok(PivotNumbers { rows, numbers })
     }
 
+    // How many rows have an entry.
+    pub(crate) fn len(&self) -> usize {
+        self.rows.len()
+    }
+
     // The number of the pair to which the row belongs, if there is one, in time logarithmic in the rows.
     pub(crate) fn find(&self, i: u32, pairs: &[Pair]) -> Option<u32>
         requires { HasNumbers pairs.now self.now }

@@ -14,12 +14,13 @@ use sparse_rows::{Rows, Sparse};
 use std::alloc::{AllocError, Global};
 use triangular_solve::Work;
 
-// No row, with room for about as many entries as so many rows of the matrix have.
+// No row, with room for so many rows and entries.
 pub(crate) fn no_rows(
     alloc: Global,
     reducer: &RowReducer,
     kept: bool,
     height: u32,
+    entries: usize,
 ) -> Result<SchurRows, AllocError>
     requires { height ≤ LARGEST_SIZE }
     ensures { IfOk result (λ part. (from : ℕ) → IsPartTo reducer.now kept from from part) }
@@ -28,7 +29,6 @@ pub(crate) fn no_rows(
     // The call's contract tells how high a matrix is; a triangle has no more pivots.
     let _ = rows.height();
     let pivots = reducer.pairs().len() as u32;
-    let entries = entries_in(rows, height);
     let coefficients = if kept { entries } else { 0 };
     Ok(SchurRows {
         rows: Rows::with_room(alloc, rows.modulus(), rows.width(), height, entries)?,
@@ -36,18 +36,19 @@ pub(crate) fn no_rows(
     })
 }
 
-// How many entries so many rows of a matrix have on average.
-fn entries_in(rows: &Rows, height: u32) -> usize {
-    let mean = rows.entries() / u64::from(rows.height()).max(1);
-    (mean as usize).saturating_mul(height as usize)
+// How many entries so many rows have on average, where all rows of the matrix have so many.
+pub(crate) fn share_of_rows(rows: &Rows, total: u64, height: u32) -> usize {
+    let share = total.saturating_mul(u64::from(height)) / u64::from(rows.height().max(1));
+    share as usize
 }
 
-// What is left of the rows from `from` up to `to`; the coefficients are zeros where they aren't kept.
+// What is left of the rows from `from` up to `to`, of so many entries in all rows; the coefficients are zeros where they aren't kept.
 pub(crate) fn part_of(
     alloc: Global,
     reducer: &RowReducer,
     pivot_rows: &PivotNumbers,
     kept: bool,
+    total: u64,
     from: u32,
     to: u32,
     work: &mut Work,
@@ -62,7 +63,8 @@ pub(crate) fn part_of(
     let rows = reducer.rows();
     // The calls' contracts tell how high a matrix of residues is, and that the pivots are triangular.
     let _ = (rows.modulus(), rows.height(), reducer.pairs().len());
-    let mut part = no_rows(alloc, reducer, kept, to - from)?;
+    let entries = share_of_rows(rows, total, to - from);
+    let mut part = no_rows(alloc, reducer, kept, to - from, entries)?;
     let mut rest = Sparse::new(alloc, rows.width(), rows.modulus());
     let mut next = from;
     while let Some(i) = next_below(rows, next, to) {

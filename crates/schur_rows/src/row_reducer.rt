@@ -34,11 +34,16 @@ impl<'t, 'a> Model for RowReducer<'t, 'a> {
 }
 
 impl<'t, 'a> RowReducer<'t, 'a> {
-    /// Chooses the way for this triangle by trying some rows; flat rows are made where they are cheaper for all rows.
-    pub fn of(alloc: Global, triangle: &'t Triangle<'a>) -> Result<Self, AllocError>
+    /// Chooses the way for this triangle and so many workers by trying some rows; flat rows are made where they are cheaper for all
+    /// rows.
+    pub fn of(
+        alloc: Global,
+        triangle: &'t Triangle<'a>,
+        workers: u32,
+    ) -> Result<Self, AllocError>
         ensures { IfOk result (λ r. r ≡ triangle.now) }
     {
-        let flat = FlatTriangle::where_cheaper(alloc, triangle)?;
+        let flat = FlatTriangle::where_cheaper(alloc, triangle, workers)?;
         Ok(RowReducer { triangle, flat })
     }
 
@@ -50,6 +55,15 @@ impl<'t, 'a> RowReducer<'t, 'a> {
             triangle,
             flat: None,
         }
+    }
+
+    // By flat rows, whatever they cost.
+    #[cfg(test)]
+    pub(crate) fn by_flat_rows(alloc: Global, triangle: &'t Triangle<'a>) -> Result<Self, AllocError>
+        ensures { IfOk result (λ r. r ≡ triangle.now) }
+    {
+        let flat = FlatTriangle::of(alloc, triangle, u64::MAX)?;
+        Ok(RowReducer { triangle, flat })
     }
 
     /// The triangle.

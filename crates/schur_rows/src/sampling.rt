@@ -11,20 +11,54 @@ use sparse_rows::Sparse;
 use std::alloc::{AllocError, Global};
 use triangular_solve::Work;
 
+// How many rows are reduced to see how much room they take.
+const SAMPLES: u32 = 16;
+
+// Room for more entries than these isn't asked for at once: 192 MB.
+const MOST: u64 = 1 << 24;
+
 /// How many entries the pivots leave of a row, on average of so many rows: these are spread over the matrix, have an entry and are
 /// no pivot's.
 pub fn mean_left(alloc: Global, reducer: &RowReducer, samples: u32) -> Result<u64, AllocError>
     requires { 1 ≤ samples }
 {
+    let pivot_rows = PivotNumbers::of(alloc, reducer)?;
+    mean_of(alloc, reducer, &pivot_rows, samples)
+}
+
+// How many entries the pivots leave in all, by samples: a quarter more, so that room for so many is seldom too small; and no more
+// than `MOST`, whatever the samples say.
+pub(crate) fn total_left(
+    alloc: Global,
+    reducer: &RowReducer,
+    pivot_rows: &PivotNumbers,
+) -> Result<u64, AllocError>
+    requires { HasNumbers reducer.now.pairs pivot_rows.now }
+{
+    let mean = mean_of(alloc, reducer, pivot_rows, SAMPLES)?;
+    let others = pivot_rows.len().saturating_sub(reducer.pairs().len()) as u64;
+    let total = mean.saturating_add(1).saturating_mul(others);
+    Ok(total.saturating_add(total / 4).min(MOST))
+}
+
+// The mean where the pivots' rows are known.
+fn mean_of(
+    alloc: Global,
+    reducer: &RowReducer,
+    pivot_rows: &PivotNumbers,
+    samples: u32,
+) -> Result<u64, AllocError>
+    requires some { 1 ≤ samples }
+    requires numbers { HasNumbers reducer.now.pairs pivot_rows.now }
+{
     let rows = reducer.rows();
     let height = u64::from(rows.height());
-    let pivot_rows = PivotNumbers::of(alloc, reducer)?;
     let mut work = reducer.work(alloc)?;
     let mut rest = Sparse::new(alloc, rows.width(), rows.modulus());
     let mut left: u64 = 0;
     for k in 0..samples {
         let from = (u64::from(k) * height / u64::from(samples)) as u32;
-        let count = entries_left(alloc, reducer, &pivot_rows, from, &mut work, &mut rest)?;
+        let count = entries_left(alloc, reducer, pivot_rows, from, &mut work, &mut rest)?;
         left = left.saturating_add(count as u64);
     }
     Ok(left / u64::from(samples))

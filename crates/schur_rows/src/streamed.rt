@@ -1,14 +1,18 @@
 // A basis of what a round leaves, without storing it.
-ghost use Rattle.std.specs.Prelude.{◌≡◌, ◌<◌, ◌≤◌, IfOk};
+ghost use Rattle.std.specs.Prelude.{◌≡◌, ◌<◌, ◌≤◌, ◌+◌, IfOk};
+ghost use Rattle.sparse_rows.specs.declared.rows.TheConstants.{LARGEST_SIZE};
+ghost use Rattle.schur_rows.specs.Round.{above};
 ghost use Rattle.schur_rows.specs.PivotNumbers.{HasNumbers};
 ghost use Rattle.schur_rows.specs.Streamed.{IsBasisLeft, IsBasisUpTo};
 
 use crate::pivot_numbers::PivotNumbers;
 use crate::row_ranges::end_of;
+use crate::round::SchurRows;
 use crate::row_reducer::RowReducer;
+use crate::sampling::total_left;
 use crate::stacking::append_all;
 use crate::workers::left_between;
-use dense_finish::{Factors, finish};
+use dense_finish::{RightFactor, finish_right};
 use sparse_rows::Rows;
 use std::alloc::{AllocError, Global};
 use std::thread::Threads;
@@ -48,7 +52,7 @@ impl ChunkSize {
 /// workers. For a modulus that is not prime they are some rows of its width, no more than it has.
 ///
 /// What is left is never stored whole. The rows are reduced chunk by chunk; each chunk is put below the basis of those before it,
-/// and both are eliminated densely (`dense_finish::finish`): the right factor is the next basis. The memory is that of a chunk,
+/// and both are eliminated densely (`dense_finish::finish_right`): the right factor is the next basis. The memory is that of a chunk,
 /// of some 2^21 to 2^24 places in the columns that are left. Where these are few a chunk has four times the rows of the basis, so that
 /// eliminating the basis again takes an eighth of the time.
 pub fn left_basis<R: Threads + Sync>(
@@ -80,16 +84,35 @@ pub(crate) fn basis_by<R: Threads + Sync>(
     let height = rows.height();
     let pivots = reducer.pairs().len();
     let pivot_rows = PivotNumbers::of(alloc, reducer)?;
+    let total = total_left(alloc, reducer, &pivot_rows)?;
     let columns = rows.occupied(alloc)?.len().saturating_sub(pivots);
     let mut basis = Rows::with_room(alloc, rows.modulus(), rows.width(), 0, 0)?;
     let mut from = 0;
     while from < height {
         let count = size.rows_below(basis.height(), columns);
         let to = end_of(reducer, &pivot_rows, from, count);
-        basis = basis_with(rt, alloc, reducer, &pivot_rows, workers, basis, from, to)?;
+        basis = basis_with(
+            rt, alloc, reducer, &pivot_rows, workers, total, basis, from, to,
+        )?;
         from = to;
     }
     Ok(basis)
+}
+
+// The rows below those of a basis, which are the rows alone where the basis has none.
+fn stacked(alloc: Global, basis: Rows, below: Rows) -> Result<Rows, AllocError>
+    requires modulus { below.modulus ≡ basis.modulus }
+    requires width { below.matrix.width ≡ basis.matrix.width }
+    requires height { basis.matrix.height + below.matrix.height ≤ LARGEST_SIZE }
+    ensures modulus { IfOk result (λ rows. rows.modulus ≡ basis.modulus) }
+    ensures matrix { IfOk result (λ rows. rows.matrix ≡ above basis.matrix below.matrix) }
+{
+    if basis.height() == 0 {
+        return Ok(below);
+    }
+    let mut rows = basis;
+    append_all(alloc, &mut rows, &below)?;
+    Ok(rows)
 }
 
 // A basis of what is left of the rows up to `to`, from one of what is left of those up to `from`.
@@ -99,6 +122,7 @@ fn basis_with<R: Threads + Sync>(
     reducer: &RowReducer,
     pivot_rows: &PivotNumbers,
     workers: u32,
+    total: u64,
     basis: Rows,
     from: u32,
     to: u32,
@@ -113,10 +137,9 @@ fn basis_with<R: Threads + Sync>(
 {
     // The call's contract tells how high a matrix is.
     let _ = reducer.rows().height();
-    let left = left_between(rt, alloc, reducer, pivot_rows, workers, false, from, to)?;
-    let mut stacked = basis;
-    append_all(alloc, &mut stacked, &left.rows)?;
-    drop(left);
-    let Factors { u, .. } = finish(rt, alloc, &stacked, workers)?;
+    let left = left_between(rt, alloc, reducer, pivot_rows, workers, false, total, from, to)?;
+    let SchurRows { rows: below, .. } = left;
+    let stacked = stacked(alloc, basis, below)?;
+    let RightFactor { u, .. } = finish_right(rt, alloc, stacked, workers)?;
     Ok(u)
 }

@@ -6,8 +6,9 @@ ghost use Rattle.schur_rows.specs.PivotNumbers.{HasNumbers};
 
 use crate::pivot_numbers::PivotNumbers;
 use crate::round::SchurRows;
-use crate::row_ranges::{no_rows, part_of};
+use crate::row_ranges::{no_rows, part_of, share_of_rows};
 use crate::row_reducer::RowReducer;
+use crate::sampling::total_left;
 use crate::stacking::append_all;
 use std::alloc::{AllocError, Global};
 use std::thread;
@@ -24,6 +25,8 @@ type Share = Result<Vec<SchurRows>, AllocError>;
 pub(crate) struct Deal {
     // Whether the coefficients are kept.
     kept: bool,
+    // About how many entries all rows have.
+    total: u64,
     from: u32,
     to: u32,
     size: usize,
@@ -56,10 +59,15 @@ pub(crate) fn left_by<R: Threads + Sync>(
 {
     let height = reducer.rows().height();
     let pivot_rows = PivotNumbers::of(alloc, reducer)?;
-    left_between(rt, alloc, reducer, &pivot_rows, workers, kept, 0, height)
+    let total = if kept {
+        reducer.rows().entries()
+    } else {
+        total_left(alloc, reducer, &pivot_rows)?
+    };
+    left_between(rt, alloc, reducer, &pivot_rows, workers, kept, total, 0, height)
 }
 
-// What it leaves of the rows from `from` up to `to`.
+// What it leaves of the rows from `from` up to `to`, of about so many entries in all rows.
 pub(crate) fn left_between<R: Threads + Sync>(
     rt: &R,
     alloc: Global,
@@ -67,6 +75,7 @@ pub(crate) fn left_between<R: Threads + Sync>(
     pivot_rows: &PivotNumbers,
     workers: u32,
     kept: bool,
+    total: u64,
     from: u32,
     to: u32,
 ) -> Result<SchurRows, AllocError>
@@ -81,11 +90,12 @@ pub(crate) fn left_between<R: Threads + Sync>(
     let _ = reducer.rows().height();
     if workers == 1 {
         let mut work = reducer.work(alloc)?;
-        return part_of(alloc, reducer, pivot_rows, kept, from, to, &mut work);
+        return part_of(alloc, reducer, pivot_rows, kept, total, from, to, &mut work);
     }
     let count = PARTS * workers as usize;
     let deal = Deal {
         kept,
+        total,
         from,
         to,
         size: (to - from) as usize / count + 1,
@@ -140,7 +150,9 @@ fn share_of(
     while j < deal.count {
         let from = deal.cut(j);
         let to = deal.cut(j + 1);
-        parts.push(part_of(alloc, reducer, pivot_rows, deal.kept, from, to, &mut work)?)?;
+        parts.push(part_of(
+            alloc, reducer, pivot_rows, deal.kept, deal.total, from, to, &mut work,
+        )?)?;
         j += deal.workers;
     }
     Ok(parts)
@@ -161,7 +173,8 @@ fn merged(
 {
     // The call's contract tells how high a matrix is.
     let _ = reducer.rows().height();
-    let mut made = no_rows(alloc, reducer, deal.kept, deal.to - deal.from)?;
+    let entries = share_of_rows(reducer.rows(), deal.total, deal.to - deal.from);
+    let mut made = no_rows(alloc, reducer, deal.kept, deal.to - deal.from, entries)?;
     for j in 0..deal.count {
         match &shares[j % deal.workers] {
             Ok(parts) => join(alloc, &mut made, &parts[j / deal.workers])?,

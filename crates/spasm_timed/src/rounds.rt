@@ -55,7 +55,8 @@ fn time_round<R: Threads + Sync + Clock + Print>(
     let search = start.elapsed(rt)?.as_micros();
     let found = triangle.pairs().len();
     let start = Instant::now(rt)?;
-    let rest = complement(rt, alloc, &RowReducer::of(alloc, &triangle)?, workers)?;
+    let reducer = RowReducer::of(alloc, &triangle, workers)?;
+    let rest = complement(rt, alloc, &reducer, workers)?;
     let elimination = start.elapsed(rt)?.as_micros();
     let height = rest.filled(alloc)?.len();
     let width = rest.occupied(alloc)?.len();

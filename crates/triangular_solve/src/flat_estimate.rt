@@ -15,7 +15,7 @@ const MET_AN_ENTRY: u64 = 6;
 const MET_A_ROW: u64 = 8;
 
 // Flat rows may have so many times the entries of the matrix and one for each pivot.
-const TIMES_THE_MATRIX: u64 = 64;
+const TIMES_THE_MATRIX: u64 = 16;
 
 // What walks from all rows would meet, and how many entries flat rows would have.
 #[derive(Clone, Copy, Debug)]
@@ -53,16 +53,23 @@ impl FlatEstimate {
         })
     }
 
-    // Whether flat rows are cheaper.
-    pub(crate) fn is_cheaper(&self) -> bool {
+    // Whether flat rows are cheaper, which one worker makes, while so many would share the walks; and small enough.
+    pub(crate) fn is_cheaper(&self, workers: u32) -> bool {
         let rows = self.pivots.saturating_mul(MET_A_ROW);
         let entries = self.flat.saturating_mul(MET_AN_ENTRY);
-        self.met >= rows.saturating_add(entries)
+        self.met_by_each(workers) >= rows.saturating_add(entries)
+            && self.flat <= self.most(workers)
     }
 
     // How many entries flat rows may have before they are given up.
-    pub(crate) fn most(&self) -> u64 {
+    pub(crate) fn most(&self, workers: u32) -> u64 {
         let matrix = self.entries.saturating_add(self.pivots);
-        matrix.saturating_mul(TIMES_THE_MATRIX).min(self.met / 4)
+        let by_each = self.met_by_each(workers) / 4;
+        matrix.saturating_mul(TIMES_THE_MATRIX).min(by_each)
+    }
+
+    // How many entries each of so many workers would meet by walks.
+    fn met_by_each(&self, workers: u32) -> u64 {
+        self.met / u64::from(workers.max(1))
     }
 }

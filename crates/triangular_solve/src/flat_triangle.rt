@@ -59,18 +59,19 @@ impl<'t, 'a> FlatTriangle<'t, 'a> {
         }
     }
 
-    /// The flat rows of a triangle, where they are cheaper than walks to all rows of the matrix; else None. Some rows are reduced by
-    /// walks to see what that costs; and the flat rows are given up once they have too many entries, of which a row of the matrix
-    /// would have to take a part.
+    /// The flat rows of a triangle, where making them is cheaper than that so many workers go to all rows of the matrix by walks; else
+    /// None. Some rows are reduced by walks to see what that costs; and the flat rows are given up once they have too many entries, of
+    /// which a row of the matrix would have to take a part.
     pub fn where_cheaper(
         alloc: Global,
         triangle: &'t Triangle<'a>,
+        workers: u32,
     ) -> Result<Option<Self>, AllocError>
         ensures { IfOk result (λ r. IfSome r (λ f. f ≡ triangle.now)) }
     {
         let estimate = FlatEstimate::of(alloc, triangle)?;
-        if estimate.is_cheaper() {
-            FlatTriangle::of(alloc, triangle, estimate.most())
+        if estimate.is_cheaper(workers) {
+            FlatTriangle::of(alloc, triangle, estimate.most(workers))
         } else {
             Ok(None)
         }

@@ -5,13 +5,14 @@ use Rattle.pluq_factor.proofs.rank_by_rounds.dense_rank.Goals as goal
 
 pub returns-clause-rank : goal.returns-clause-rank
 returns-clause-rank g c =
-    let A = c.args.rows.now in
-    let factors = c.in_ok-factors.factors in λ prime.
+    let A = c.args.rows in
+    let right = c.in_ok-right.right in
+    let factored = c.in_ok-right.ensures in λ prime.
     subst (HasRank A.modulus A.matrix) (sym (ap length c.items.ensures))
-    (c.factors_give_rank.ensures A.modulus A.matrix factors.pivots factors.l.matrix factors.u.matrix prime c.height.ensures.sound (c.in_ok-factors.ensures.factors prime))
+    (c.factors_give_rank.ensures A.modulus A.matrix right.pivots factored.0.matrix right.u.matrix prime c.height.ensures.sound (factored.1.factors prime))
 
 pub returns-clause-at_most_height : goal.returns-clause-at_most_height
-returns-clause-at_most_height g c = subst (λ n. n ≤ c.args.rows.now.matrix.height) (sym (ap length c.items.ensures)) (fit_few c.in_ok-factors.ensures.fit)
+returns-clause-at_most_height g c = subst (λ n. n ≤ c.args.rows.matrix.height) (sym (ap length c.items.ensures)) (fit_few c.in_ok-right.ensures.1.fit)
 
 pub returns-clause-at_most_width : goal.returns-clause-at_most_width
-returns-clause-at_most_width g c = subst (λ n. n ≤ c.args.rows.now.matrix.width) (sym (ap length c.items.ensures)) (fit_narrow c.in_ok-factors.ensures.fit)
+returns-clause-at_most_width g c = subst (λ n. n ≤ c.args.rows.matrix.width) (sym (ap length c.items.ensures)) (fit_narrow c.in_ok-right.ensures.1.fit)

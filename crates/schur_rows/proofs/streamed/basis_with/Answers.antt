@@ -2,4 +2,4 @@ use Rattle.schur_rows.proofs.Streaming.{basis_more}
 use Rattle.schur_rows.proofs.streamed.basis_with.Goals as goal
 
 pub returns : goal.returns
-returns g c = basis_more c.requires.basis c.in_ok-left.ensures c.append_all.ensures.modulus c.in_ok-append_all.ensures.matrix c.in_ok-u.ensures
+returns g c = basis_more c.requires.basis c.in_ok-left.ensures c.in_ok-stacked.ensures.modulus c.in_ok-stacked.ensures.matrix c.in_ok-u.ensures

@@ -1,6 +1,6 @@
 use Rattle.std.proofs.Common.{◌≡◌, length}
 use Rattle.triangular_solve.specs.Reduced.{workspace_of}
-use Rattle.schur_rows.proofs.sampling.mean_left.Given as goal
+use Rattle.schur_rows.proofs.sampling.mean_of.Given as goal
 
 abbrev pub invariant-loop-k : goal.invariant-loop-k
 invariant-loop-k l = record {

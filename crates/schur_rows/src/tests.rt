@@ -1,0 +1,134 @@
+// What the leftmost pivots leave of scattered matrices: by flat rows as by walks, and by chunks as at once.
+ghost use Rattle.std.specs.Prelude.{◌≡◌, ◌<◌, ◌≤◌};
+ghost use Rattle.sparse_rows.specs.declared.rows.TheConstants.{LARGEST_SIZE};
+
+use crate::row_reducer::RowReducer;
+use crate::streamed::{ChunkSize, basis_by};
+use crate::complement;
+use dense_finish::finish;
+use fl_pivots::leftmost;
+use residue_words::Modulus;
+use sparse_rows::{LARGEST_SIZE, Rows, RowsBuilder};
+use std::alloc::{AllocError, Global};
+use std::test::Fail;
+use std::thread::Threads;
+use triangular_solve::Triangle;
+
+// So many values for each row, at places that a generator scatters over the columns.
+fn places(alloc: Global, m: u32, n: u32, per: u32) -> Result<Vec<(u32, u32, u64)>, AllocError>
+    requires { 0 < n }
+{
+    let mut places = Vec::new(alloc);
+    let mut state: u32 = 1;
+    for i in 0..m {
+        for _ in 0..per {
+            state = state.wrapping_mul(1103515245).wrapping_add(12345);
+            places.push((i, (state >> 8) % n, u64::from((state >> 4) % 7)))?;
+        }
+    }
+    Ok(places)
+}
+
+// The matrix modulo 7 with these values.
+fn built(alloc: Global, m: u32, n: u32, places: &[(u32, u32, u64)]) -> Result<Rows, AllocError>
+    requires height { m ≤ LARGEST_SIZE }
+    requires width { n ≤ LARGEST_SIZE }
+{
+    let mut builder = RowsBuilder::new(alloc, m, n, Modulus::new(7))?;
+    for (i, j, v) in places {
+        if *i < m && *j < n && *v < 7 {
+            builder.push(*i, *j, *v)?;
+        }
+    }
+    builder.finish()
+}
+
+// Whether two matrices have the same entries.
+fn are_same(alloc: Global, a: &Rows, b: &Rows) -> Result<bool, AllocError> {
+    let (left, right) = (a.triples(alloc)?, b.triples(alloc)?);
+    Ok(left.as_slice() == right.as_slice())
+}
+
+// Whether what so many workers leave by this reducer is known.
+fn leaves<R: Threads + Sync>(
+    rt: &R,
+    alloc: Global,
+    reducer: &RowReducer,
+    workers: u32,
+    known: &Rows,
+) -> Result<bool, AllocError>
+    requires some { 1 ≤ workers }
+    requires few { workers ≤ 64 }
+{
+    let left = complement(rt, alloc, reducer, workers)?;
+    are_same(alloc, &left, known)
+}
+
+// Whether chunks of so many rows give a basis of so many.
+fn has_basis<R: Threads + Sync>(
+    rt: &R,
+    alloc: Global,
+    reducer: &RowReducer,
+    workers: u32,
+    rows: u32,
+    rank: usize,
+) -> Result<bool, AllocError>
+    requires some { 1 ≤ workers }
+    requires few { workers ≤ 64 }
+{
+    let size = ChunkSize { rows, places: 1 };
+    let basis = basis_by(rt, alloc, reducer, workers, size)?;
+    Ok(basis.height() as usize == rank)
+}
+
+// Whether a reducer leaves what is known by one worker and by several, and a basis of the rank by chunks of one row, of some and of all.
+fn agrees<R: Threads + Sync>(
+    rt: &R,
+    alloc: Global,
+    reducer: &RowReducer,
+    known: &Rows,
+    rank: usize,
+) -> Result<bool, AllocError> {
+    let alone = leaves(rt, alloc, reducer, 1, known)?;
+    let shared = leaves(rt, alloc, reducer, 3, known)?;
+    let single = has_basis(rt, alloc, reducer, 1, 1, rank)?;
+    let some = has_basis(rt, alloc, reducer, 3, 7, rank)?;
+    let whole = has_basis(rt, alloc, reducer, 2, 1000, rank)?;
+    Ok(alone && shared && single && some && whole)
+}
+
+// Whether walks and flat rows agree on what the leftmost pivots leave.
+fn ways_agree<R: Threads + Sync>(rt: &R, alloc: Global, rows: &Rows) -> Result<bool, AllocError> {
+    let triangle = Triangle::of(alloc, &leftmost(alloc, rows)?)?;
+    let walks = RowReducer::by_walks(&triangle);
+    let known = complement(rt, alloc, &walks, 1)?;
+    let rank = finish(rt, alloc, &known, 1)?.pivots.items().len();
+    let flat = RowReducer::by_flat_rows(alloc, &triangle)?;
+    let by_walks = agrees(rt, alloc, &walks, &known, rank)?;
+    let by_flat_rows = agrees(rt, alloc, &flat, &known, rank)?;
+    Ok(by_walks && by_flat_rows)
+}
+
+// Heights, widths and values a row: a complement of few rows, tall ones, one of full rank, a dense matrix, and sizes where a row costs
+// nothing.
+const SCATTERED: &[(u32, u32, u32)] = &[
+    (5, 1, 1),
+    (3, 3, 3),
+    (60, 20, 3),
+    (200, 12, 4),
+    (40, 60, 3),
+    (30, 30, 9),
+    (20, 2147483648, 2),
+];
+
+#[test]
+fn ways_and_chunks_agree(rt: HostRuntime) -> Result<(), Fail> {
+    let alloc = rt.alloc();
+    for (m, n, per) in SCATTERED {
+        assert!(rt; *m <= LARGEST_SIZE && 0 < *n && *n <= LARGEST_SIZE);
+        let places = places(alloc, *m, *n, *per)?;
+        let rows = built(alloc, *m, *n, places.as_slice())?;
+        assert!(rt; ways_agree(&rt, alloc, &rows)?, "at {m} {n} {per}");
+    }
+    Ok(())
+}
