@@ -31,7 +31,9 @@ pub(crate) fn prepare<R: Threads + Sync>(
         rounds: ROUNDS,
     };
     let factors = factor(rt, alloc, a, plan, &Open)?;
-    let null = kernel(alloc, &form_of_basis(rt, alloc, &factors.u, workers)?)?;
+    let rows_form = form_of_basis(rt, alloc, &factors.u, workers)?;
+    let null = kernel(alloc, &rows_form)?;
+    drop(rows_form);
     let columns = a.transpose(alloc)?;
     let columns_form = form(rt, alloc, &columns, plan, &Open)?;
     drop(columns);
