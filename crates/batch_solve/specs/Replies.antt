@@ -9,8 +9,8 @@ use Rattle.batch_solve.specs.declared.worker.Worker.{Worker}
 
 -- a column as high as the prepared matrix, over its modulus
 pub record IsQuestion (q : Preparation) (b : ResidueMatrix) : Type 0 where
-  pub modulus : b.modulus ≡ q.transformation.modulus
-  pub height : b.matrix.height ≡ q.transformation.matrix.width
+  pub modulus : b.modulus ≡ q.modulus
+  pub height : b.matrix.height ≡ q.height
   pub column : b.matrix.width ≡ 1
 
 -- a reply to question k

@@ -14,10 +14,11 @@ ghost use Rattle.batch_solve.specs.BatchWords.{AcceptedBatch, AskForNoBatch};
 use crate::batch_status::BatchStatus;
 use crate::batch_texts::{misfit_of, read_texts};
 use crate::batch_words::{BatchCommand, read_batch_words};
+use crate::preparing::prepare;
 use crate::together::answer_all;
 use crate::watch::Watch;
 use crate::written_replies::write_replies;
-use kernel_solve::{Prepared, Reply};
+use kernel_solve::Reply;
 use residue_words::Modulus;
 use sms_text::{LARGEST_INPUT, Sink, Source};
 use sparse_rows::Rows;
@@ -215,6 +216,6 @@ fn replies_to<R: Threads + Wait + Sync, W: Watch>(
     let a = &texts[0];
     // The proof wants that A is a matrix of residues.
     let _ = a.height();
-    let prepared = Prepared::of(rt, alloc, a, workers)?;
+    let prepared = prepare(rt, alloc, a, workers)?;
     answer_all(rt, alloc, &prepared, &texts[1..], workers, watch)
 }

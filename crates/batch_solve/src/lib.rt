@@ -11,6 +11,7 @@ mod desk;
 mod desk_rule;
 mod hand;
 mod laws;
+mod preparing;
 mod slip;
 mod taker;
 #[cfg(test)]

@@ -10,9 +10,10 @@ use Rattle.sparse_rows.specs.Rows.{AreBelow, AreRising, Triple, built, nonzeros,
 use Rattle.sparse_rows.specs.Stored.{IsSparse, entry_at, spread}
 use Rattle.sparse_rows.proofs.Loops.{IsCopiedSoFar}
 use Rattle.sparse_rows.proofs.Spread.{at_spread, entry_beyond, entry_cover, entry_here, entry_push_other, entry_push_same, entry_support, spread_support, spread_vector}
+use Rattle.row_space.specs.Kernel.{EndsAt}
 use Rattle.kernel_solve.specs.Column.{column}
 use Rattle.kernel_solve.specs.ReadOff.{IsAtLeads, IsBasisRow}
-use Rattle.kernel_solve.specs.Refuted.{AreZeroBehind, IsLastEntry}
+use Rattle.kernel_solve.specs.Refuted.{AreZeroBehind}
 
 -- an entry of the values' images is the entry's image
 pub entry_map : (f : ℕ → ℕ) → f 0 ≡ 0 → (cs vs : List ℕ) (j : ℕ) → entry_at cs (map f vs) j ≡ f (entry_at cs vs j)
@@ -234,29 +235,16 @@ module _ (v cs vs : List ℕ) (columns : cs ≡ support v) (values : vs ≡ nonz
   pub stored_last : (t : ℕ) → ((k : ℕ) → k < length cs → slice_index cs k < t) → slice_index v t ≡ 0
   stored_last t before = sym (entry_absent v t (λ k l e. let low : slice_index cs k < t = before k (omega (arith, ap length columns)) in omega (arith, low, ap (λ xs. slice_index xs k) columns, e)))
 
-  -- the last one from n on
-  pub last_stored : (n : ℕ) → AreBelow (length v) cs → 0 < length cs → n ≤ slice_index cs (length cs - 1) → IsLastEntry v n (slice_index cs (length cs - 1), slice_index vs (length cs - 1))
-  last_stored n inside some high =
+  -- it ends at its last column
+  pub last_stored : AreBelow (length v) cs → 0 < length cs → EndsAt (length v) v (slice_index cs (length cs - 1))
+  last_stored inside some =
       let k : ℕ = length cs - 1 in
-      let l : k < length cs = omega (arith, some) in (
-        record {
-          high = high;
-          inside = inside k l;
-          nonzero = λ z. omega (arith, positive k (omega (arith, long, l)), stored k l, z);
-          behind = λ t a b. stored_last t (λ s ls. elim (cases_eq s k) [
-            | inl e ↦ omega (arith, a, ap (slice_index cs) e)
-            | inr d ↦ omega (arith, a, rising s k (omega (arith, ls, d)) l)
-          ]);
-        },
-        stored k l,
-      )
-
-  -- there is none where the last column is before n
-  pub none_stored : (n : ℕ) → (0 < length cs → slice_index cs (length cs - 1) < n) → AreZeroBehind v n
-  none_stored n low t a b = stored_last t (λ s ls.
-      let k : ℕ = length cs - 1 in
-      let below : slice_index cs k < n = low (omega (arith, ls)) in
-      elim (cases_eq s k) [
-        | inl e ↦ omega (arith, a, below, ap (slice_index cs) e)
-        | inr d ↦ omega (arith, a, below, rising s k (omega (arith, ls, d)) (omega (arith, ls)))
-      ])
+      let l : k < length cs = omega (arith, some) in
+      record {
+        inside = inside k l;
+        nonzero = λ z. omega (arith, positive k (omega (arith, long, l)), stored k l, z);
+        last = λ t a b. stored_last t (λ s ls. elim (cases_eq s k) [
+          | inl e ↦ omega (arith, a, ap (slice_index cs) e)
+          | inr d ↦ omega (arith, a, rising s k (omega (arith, ls, d)) l)
+        ]);
+      }

@@ -1,13 +1,12 @@
 pub mod AtLeads
 pub mod Basis
-pub mod Exchange
 pub mod Free
 pub mod Inverting
 pub mod Matrices
 pub mod Preparing
-pub mod Products
 pub mod Read
+pub mod Reducing
 pub mod Refuting
 pub mod RightHalf
-pub mod Transforming
-pub mod Turning
+pub mod RowEnds
+pub mod Substituting

@@ -1,90 +1,25 @@
--- What is kept of a matrix answers each right-hand side.
-use Rattle.std.proofs.Common.{ℕ, ◌≡◌, ◌≢◌, ◌+◌, ◌*◌, ◌%◌, ◌<◌, ◌≤◌, inl, inr, List, [], ◌∷◌, length, slice_index, slice_set, sym, refl, ap, subst, ◌∙◌, arith, mul-zero, zero-mul, mul-one, mod-eq_of_lt}
-use Rattle.std.proofs.lemmas.List.{get_or-set_other, get_or-set_same, length-set}
-use Rattle.std.proofs.lemmas.Bool.{cases_eq, cases_lt}
-use Rattle.residue_words.specs.Residues.{sum_below}
+-- What is kept of a matrix answers each right-hand side; and vectors beside matrices of one row or column.
+use Rattle.std.proofs.Common.{ℕ, ◌≡◌, ◌≢◌, ◌+◌, ◌*◌, ◌%◌, ◌<◌, ◌≤◌, inl, inr, List, [], ◌∷◌, length, replicate, slice_index, slice_set, sym, refl, ap, subst, ◌∙◌, arith, mul-one, zero-add, mod-eq_of_lt}
+use Rattle.std.proofs.lemmas.List.{get_or-replicate, get_or-set_other, get_or-set_same, length-replicate, length-set}
+use Rattle.std.proofs.lemmas.Bool.{cases_eq}
+use Rattle.residue_words.specs.declared.plain.Pair.{Pair}
+use Rattle.residue_words.specs.Residues.{IsPrime, inverse, sum_below}
 use Rattle.residue_words.specs.Matrix.{Matrix, IsMatrix, IsVector, apply, dot, entry, row, zeros}
 use Rattle.residue_words.proofs.Sums.{sum_single}
-use Rattle.residue_words.proofs.Vectors.{at_apply, at_list_of, at_zeros, dot_combine, entry_residue, length_list_of, list_equal, list_of_equal, row_combination}
-use Rattle.row_space.specs.Kernel.{EndsAt, IsNull}
-use Rattle.row_space.specs.Solution.{IsReducedSolution, IsSolution}
-use Rattle.row_space.proofs.KernelLaws.{null_orthogonal}
-use Rattle.kernel_solve.specs.Column.{column, column_at}
-use Rattle.kernel_solve.specs.Refuted.{multiple}
-use Rattle.kernel_solve.specs.Prepared.{Transforms}
-use Rattle.kernel_solve.specs.ReadOff.{IsAtLeads}
-use Rattle.kernel_solve.proofs.AtLeads.{lead_or_none}
-
--- where A x = b has a solution, T b at the leads and 0 elsewhere is the reduced one
-module _ (p : ℕ) (A T : Matrix) (leads b x : List ℕ) (two : 2 ≤ p) (m : IsMatrix p A) (v : IsVector p A.height b) (wide : T.width ≡ A.height) (tall : length leads ≡ T.height)
-    (t : Transforms p A T leads) (vx : IsVector p A.width x) (at : IsAtLeads leads (apply p T b) x) where
-  abbrev E : Matrix
-  E = t.form
-
-  n_same : E.width ≡ A.width
-  n_same = t.rref.width
-
-  -- row k of the form times x is x at its lead
-  form_times : (k : ℕ) → k < E.height → dot p A.width (row E k) x ≡ slice_index x (slice_index leads k)
-  form_times k l =
-      let inside : slice_index leads k < A.width = omega (arith, t.has.1.inside k l, n_same) in
-      ap (λ s. s % p) (sum_single A.width (λ j. entry E k j * slice_index x j) (slice_index leads k) inside (λ j lj d. elim (lead_or_none leads j) [
-        | inl w ↦
-            let none : entry E k j ≡ 0 = ap (entry E k) (sym w.2) ∙ t.has.1.alone w.0 k (omega (arith, w.1, t.has.0)) l (λ q. d (sym w.2 ∙ ap (slice_index leads) (sym q))) in
-            ap (λ y. y * slice_index x j) none ∙ zero-mul (slice_index x j)
-        | inr free ↦ ap (λ y. entry E k j * y) (at.elsewhere j (omega (arith, vx.len)) free) ∙ mul-zero (entry E k j)
-      ])
-      ∙ ap (λ y. y * slice_index x (slice_index leads k)) (t.has.1.one k l) ∙ one-times (slice_index x (slice_index leads k)))
-      ∙ mod-eq_of_lt (vx.residues (slice_index leads k) inside)
-    where
-      one-times : (y : ℕ) → 1 * y ≡ y
-      one-times y = omega arith
-
-  module _ (x0 : List ℕ) (s : IsSolution p A b x0) where
-    -- and so is it times a solution
-    form_times_solution : (k : ℕ) → k < E.height → dot p A.width (row E k) x0 ≡ slice_index x (slice_index leads k)
-    form_times_solution k l =
-        let lk : k < length leads = omega (arith, t.has.0) in
-        ap (λ u. dot p A.width u x0) (sym (t.rows k l)) ∙ dot_combine p (row T k) A x0 ∙ ap (λ u. dot p A.height (row T k) u) s.1
-        ∙ ap (λ n. dot p n (row T k) b) (sym wide) ∙ sym (at_apply p T b k (omega (arith, tall))) ∙ sym (at.at_lead k lk)
-
-    agree : (i : ℕ) → i < A.height → slice_index (apply p A x) i ≡ slice_index b i
-    agree i l =
-        let c = (t.rref.span (row A i)).0 (row_combination p A i two m l) in
-        let same : apply p E x ≡ apply p E x0 = list_equal E.height _ _ (length_list_of E.height _) (length_list_of E.height _) (λ k lk.
-        at_apply p E x k lk ∙ ap (λ n. dot p n (row E k) x) n_same ∙ form_times k lk ∙ sym (form_times_solution k lk) ∙ ap (λ n. dot p n (row E k) x0) (sym n_same) ∙ sym (at_apply p E x0 k lk)) in
-        let turned : (z : List ℕ) → dot p A.width (row A i) z ≡ dot p E.height c.0 (apply p E z) = λ z.
-        ap (λ n. dot p n (row A i) z) (sym n_same) ∙ ap (λ u. dot p E.width u z) c.2 ∙ dot_combine p c.0 E z in
-        at_apply p A x i l ∙ turned x ∙ ap (dot p E.height c.0) same ∙ sym (turned x0) ∙ sym (at_apply p A x0 i l) ∙ ap (λ u. slice_index u i) s.1
-
-  solves : (((x0 : List ℕ) → ¬ IsSolution p A b x0) → ⊥) → IsSolution p A b x
-  solves solvable = (
-    vx,
-    list_equal A.height (apply p A x) b (length_list_of A.height _) v.len (λ i l. elim (cases_eq (slice_index (apply p A x) i) (slice_index b i)) [
-      | inl same ↦ same
-      | inr d ↦ absurd (solvable (λ x0 s. d (agree x0 s i l)))
-    ]),
-  )
-
-  -- no null vector ends at a lead
-  free_end : (z : List ℕ) (j : ℕ) → IsNull p A z → EndsAt A.width z j → (k : ℕ) → k < length leads → slice_index leads k ≢ j
-  free_end z j null e k l q =
-      let lk : k < E.height = omega (arith, t.has.0) in
-      let c = (t.rref.span (row E k)).1 (row_combination p E k two t.rref.matrix lk) in
-      let none : dot p A.width z (row E k) ≡ 0 = null_orthogonal p A z (row E k) null c in
-      let one : dot p A.width z (row E k) ≡ slice_index z j =
-      ap (λ s. s % p) (sum_single A.width (λ i. slice_index z i * entry E k i) j e.inside (λ i li d. elim (cases_lt i j) [
-        | inl low ↦ ap (λ y. slice_index z i * y) (t.has.1.past k i lk (omega (arith, n_same)) (omega (arith, q))) ∙ mul-zero (slice_index z i)
-        | inr high ↦ ap (λ y. y * entry E k i) (e.last i (omega arith) li) ∙ zero-mul (entry E k i)
-      ]) ∙ ap (λ y. slice_index z j * y) (ap (entry E k) (sym q) ∙ t.has.1.one k lk) ∙ mul-one (slice_index z j))
-      ∙ mod-eq_of_lt (null.0.residues j e.inside) in
-      e.nonzero (sym one ∙ none)
-
-  pub transformed_solves : (((x0 : List ℕ) → ¬ IsSolution p A b x0) → ⊥) → IsReducedSolution p A b x
-  transformed_solves solvable = record {
-    solves = solves solvable;
-    reduced = λ z j null e. at.elsewhere j (omega (arith, e.inside, vx.len)) (free_end z j null e);
-  }
+use Rattle.residue_words.proofs.Vectors.{at_apply, at_list_of, at_zeros, entry_residue, length_list_of, list_equal, list_of_equal}
+use Rattle.sparse_rows.specs.Rows.{ResidueMatrix, transposed}
+use Rattle.row_space.specs.Factors.{AreFactors, row_at}
+use Rattle.row_space.specs.Kernel.{IsKernel}
+use Rattle.row_space.specs.Solution.{IsReducedSolution, IsRefutingCombination, IsSolution}
+use Rattle.kernel_solve.specs.declared.prepared.Reply.{Reply}
+use Rattle.kernel_solve.specs.declared.prepared.Reply.TheVariants.{Solution, Refuted}
+use Rattle.kernel_solve.specs.Column.{column}
+use Rattle.kernel_solve.specs.Prepared.{FitTogether, IsPreparedFor, IsReply, Preparation, preparation}
+use Rattle.kernel_solve.specs.Refuted.{AreZeroBehind, IsFirstHit, IsFirstNonzero, divided, multiple}
+use Rattle.kernel_solve.specs.Substituted.{AddsTimes, InvertEach, IsLower, IsUpper, left_pivot, right_pivot}
+use Rattle.kernel_solve.proofs.Matrices.{column_vector, transposed_entry}
+use Rattle.kernel_solve.proofs.Refuting.{first_hit_holds, unsolvable_hit_holds}
+use Rattle.kernel_solve.proofs.Substituting.{factors_solve, is_lower, is_upper}
 
 -- a matrix of one column times 1
 pub times_one : (p : ℕ) (B : Matrix) → IsMatrix p B → B.width ≡ 1 → apply p B (1 ∷ []) ≡ column B
@@ -130,11 +65,87 @@ copied_none values to e = record {
   behind = λ j b l. ap (slice_index to) refl ∙ ap (λ xs. slice_index xs j) e ∙ at_zeros (length values) j (omega (arith, ap length e, length_list_of (length values) (λ j. 0)));
 }
 
--- a multiple of a column
-pub multiple_long : (p f : ℕ) (M : Matrix) (k : ℕ) → length (multiple p f (column_at M k)) ≡ M.height
-multiple_long p f M k = length_list_of (length (column_at M k)) _ ∙ length_list_of M.height _
+-- a vector by equal modulus, length and entries
+pub vector_moved : {p q n m : ℕ} {u v : List ℕ} → IsVector p n u → p ≡ q → n ≡ m → u ≡ v → IsVector q m v
+vector_moved {p} {q} {n} {m} {u} {v} h modulus long same = subst (IsVector q m) same (subst (λ n. IsVector q n u) long (subst (λ p. IsVector p n u) modulus h))
 
-pub multiple_entry : (p f : ℕ) (M : Matrix) (k i : ℕ) → i < M.height → slice_index (multiple p f (column_at M k)) i ≡ f * entry M i k % p
-multiple_entry p f M k i l =
-    at_list_of (length (column_at M k)) (λ j. f * slice_index (column_at M k) j % p) i (omega (arith, length_list_of M.height (λ i. entry M i k)))
-    ∙ ap (λ x. f * x % p) (at_list_of M.height (λ i. entry M i k) i l)
+-- a row turned to a column
+pub turned_column : (M : Matrix) → M.height ≡ 1 → length (row M 0) ≡ M.width → column (transposed M) ≡ row M 0
+turned_column M low long = list_equal M.width _ (row M 0) (length_list_of M.width _) long (λ i l.
+    at_list_of M.width (λ i. entry (transposed M) i 0) i l ∙ transposed_entry M i 0 l (omega (arith, low)))
+
+-- a multiple added to zeros is a multiple
+pub multiple_added : (p by n : ℕ) (v old new : List ℕ) → length v ≡ n → length new ≡ n → old ≡ replicate n 0 → AddsTimes p by v old new → new ≡ multiple p by v
+multiple_added p by n v old new long whole e adds = list_equal n new _ whole (length_list_of (length v) _ ∙ long) (λ j l.
+    let zero_there : slice_index old j ≡ 0 = ap (λ u. slice_index u j) e ∙ get_or-replicate {A = ℕ} n j 0 0 l in
+    adds j (omega (arith, ap length e, length-replicate {A = ℕ} n 0, l)) ∙ ap (λ x. (x + by * slice_index v j) % p) zero_there ∙ ap (λ x. x % p) (zero-add (by * slice_index v j)) ∙ sym (at_list_of (length v) (λ j. by * slice_index v j % p) j (omega (arith, long))))
+
+-- what the passes find is the reduced solution, if there is one
+pub solution_holds : (pivots : List Pair) (L U N R : ResidueMatrix) → FitTogether pivots L U N R → {lefts rights b z x y : List ℕ} →
+    InvertEach L.modulus (length pivots) (left_pivot L.matrix pivots) lefts → InvertEach L.modulus (length pivots) (right_pivot U.matrix pivots) rights →
+    IsVector L.modulus L.matrix.height b → IsVector L.modulus L.matrix.width z →
+    (IsLower L.modulus L.matrix pivots lefts → (k : ℕ) → k < length pivots → dot L.modulus L.matrix.width (row L.matrix (row_at pivots k)) z ≡ slice_index b (row_at pivots k)) → IsVector U.modulus U.matrix.width x →
+    (IsUpper U.modulus U.matrix pivots rights → (k : ℕ) → k < length pivots → dot U.modulus U.matrix.width (row U.matrix k) x ≡ slice_index z k) →
+    ((A : Matrix) (b : List ℕ) → IsKernel N.modulus A N.matrix → IsSolution N.modulus A b x → IsReducedSolution N.modulus A b y) →
+    (p : ℕ) (A : Matrix) → IsPrime p → IsMatrix p A → IsPreparedFor p A (preparation pivots L U N R) → (((v : List ℕ) → ¬ IsSolution p A b v) → ⊥) → IsReducedSolution p A b y
+solution_holds pivots L U N R fit {lefts} {rights} {b} {z} {x} {y} inverts_left inverts_right vb vz at vx above reduces p A prime m prepared solvable =
+    let is : L.modulus ≡ p = prepared.modulus in
+    let is_right : U.modulus ≡ p = fit.right_modulus ∙ is in
+    let f : AreFactors p A pivots L.matrix U.matrix = prepared.factors prime in
+    let lower : IsLower p L.matrix pivots lefts = is_lower prime f (subst (λ n. InvertEach n (length pivots) (left_pivot L.matrix pivots) lefts) is inverts_left) in
+    let upper : IsUpper p U.matrix pivots rights = is_upper prime f (subst (λ n. InvertEach n (length pivots) (right_pivot U.matrix pivots) rights) is inverts_right) in
+    let solution : IsSolution p A b x = factors_solve p A pivots L.matrix U.matrix b z x prime m f (vector_moved vb is prepared.height refl) (vector_moved vz is refl refl) (vector_moved vx is_right refl refl)
+    (subst (λ n. IsLower n L.matrix pivots lefts → (k : ℕ) → k < length pivots → dot n L.matrix.width (row L.matrix (row_at pivots k)) z ≡ slice_index b (row_at pivots k)) is at lower)
+    (subst (λ n. IsUpper n U.matrix pivots rights → (k : ℕ) → k < length pivots → dot n U.matrix.width (row U.matrix k) x ≡ slice_index z k) is_right above upper) solvable in
+    subst (λ n. (A : Matrix) (b : List ℕ) → IsKernel n A N.matrix → IsSolution n A b x → IsReducedSolution n A b y) (fit.null_modulus ∙ is) reduces A b (prepared.null prime) solution
+
+-- the replies to a column b of residues as high as what is kept
+module _ (pivots : List Pair) (L U N R : ResidueMatrix) (fit : FitTogether pivots L U N R) (B : Matrix) (sound : IsMatrix L.modulus B) (narrow : B.width ≡ 1) (high : B.height ≡ L.matrix.height)
+    (products : List ℕ) (are : products ≡ apply R.modulus R.matrix (column B)) where
+  abbrev q : Preparation
+  q = preparation pivots L U N R
+
+  vector : IsVector L.modulus B.height (column B)
+  vector = column_vector sound (omega (arith, narrow))
+
+  product_at : (t : ℕ) → t < R.matrix.height → slice_index products t ≡ dot R.modulus R.matrix.width (row R.matrix t) (column B)
+  product_at t l = ap (λ u. slice_index u t) are ∙ at_apply R.modulus R.matrix (column B) t l
+
+  many : length products ≡ R.matrix.height
+  many = ap length are ∙ length_list_of R.matrix.height _
+
+  pub refuted_is : (k : ℕ) (y : ResidueMatrix) → IsFirstNonzero products k → y.modulus ≡ R.modulus → IsMatrix y.modulus y.matrix → y.matrix.height ≡ 1 → y.matrix.width ≡ R.matrix.width →
+      row y.matrix 0 ≡ multiple R.modulus (inverse R.modulus (slice_index products k)) (row R.matrix k) → IsReply q B (Refuted y)
+  refuted_is k y first modulus matrix tall wide is =
+      let below : k < R.matrix.height = omega (arith, first.inside, many) in
+      let same : y.modulus ≡ L.modulus = modulus ∙ fit.relations_modulus in
+      let hit : IsFirstHit R.modulus R.matrix (column B) k = record {
+        below = below;
+        hit = λ z. first.nonzero (product_at k below ∙ z);
+        before = λ t l. sym (product_at t (omega (arith, below))) ∙ first.before t l;
+      } in
+      let divided_is : row y.matrix 0 ≡ divided R.modulus R.matrix (column B) k = is ∙ ap (λ d. multiple R.modulus (inverse R.modulus d) (row R.matrix k)) (product_at k below) in
+      record {
+        shape = (same, subst (λ n. IsMatrix n y.matrix) same matrix, tall, wide ∙ fit.relations_width);
+        right = λ p A prime m prepared. (
+          wide ∙ fit.relations_width ∙ prepared.height,
+          subst (IsRefutingCombination p A (column B)) (sym divided_is ∙ refl)
+              (subst (λ n. IsRefutingCombination p A (column B) (divided n R.matrix (column B) k)) (sym (fit.relations_modulus ∙ prepared.modulus))
+              (first_hit_holds p A (column B) R.matrix k prime m (subst (λ h. IsVector p h (column B)) (high ∙ prepared.height) (subst (λ n. IsVector n B.height (column B)) prepared.modulus vector))
+              (prepared.relations prime) (subst (λ n. IsFirstHit n R.matrix (column B) k) (fit.relations_modulus ∙ prepared.modulus) hit))),
+        );
+      }
+
+  pub solved_is : (x : ResidueMatrix) → AreZeroBehind products 0 → x.modulus ≡ L.modulus → IsMatrix x.modulus x.matrix → x.matrix.height ≡ U.matrix.width → x.matrix.width ≡ 1 →
+      ((p : ℕ) (A : Matrix) → IsPrime p → IsMatrix p A → IsPreparedFor p A q → (((v : List ℕ) → ¬ IsSolution p A (column B) v) → ⊥) → IsReducedSolution p A (column B) (column x.matrix)) → IsReply q B (Solution x)
+  solved_is x none modulus matrix tall thin solves = record {
+    shape = (modulus, subst (λ n. IsMatrix n x.matrix) modulus matrix, tall, thin);
+    right = λ p A prime m prepared. (
+      tall ∙ prepared.width,
+      solves p A prime m prepared (λ unsolvable.
+          let vb : IsVector p A.height (column B) = subst (λ h. IsVector p h (column B)) (high ∙ prepared.height) (subst (λ n. IsVector n B.height (column B)) prepared.modulus vector) in
+          let w = unsolvable_hit_holds p A (column B) R.matrix prime m vb (prepared.relations prime) unsolvable in
+          let hit : IsFirstHit R.modulus R.matrix (column B) w.0 = subst (λ n. IsFirstHit n R.matrix (column B) w.0) (sym (fit.relations_modulus ∙ prepared.modulus)) w.1 in
+          hit.hit (sym (product_at w.0 hit.below) ∙ none w.0 (omega arith) (omega (arith, hit.below, many)))),
+    );
+  }

@@ -12,10 +12,10 @@ use Rattle.residue_words.proofs.Vectors.{at_apply, at_combine, at_mix, at_zeros,
 use Rattle.row_space.specs.Kernel.{EndsAt, HasEnds, IsKernel, IsNull}
 use Rattle.row_space.specs.Solution.{Annuls, IsRefutingCombination, IsSolution}
 use Rattle.row_space.proofs.Solvable.{alternative_holds}
-use Rattle.row_space.proofs.Spans.{place_coefficient}
 use Rattle.sparse_rows.specs.Rows.{transposed}
 use Rattle.kernel_solve.specs.Refuted.{FirstHitRefutes, IsFirstHit, UnsolvableIsHit, divided, multiple}
 use Rattle.kernel_solve.proofs.Matrices.{transposed_entry}
+use Rattle.kernel_solve.proofs.RowEnds.{coefficient, end_found, none_behind}
 
 -- A transposed times y is y A
 annulled : (p : ℕ) (A : Matrix) (y : List ℕ) → apply p (transposed A) y ≡ combine p y A
@@ -98,19 +98,11 @@ module _ (p : ℕ) (A : Matrix) (b : List ℕ) (K : Matrix) (prime : IsPrime p) 
     apart : (z : List ℕ) (j : ℕ) → Annuls p A b 0 z → EndsAt A.height z j → slice_index first j ≡ 0
     apart z j a e =
         let c = spanned z a.0 a.1 in
-        let at : (x : ℕ) → x < K.width → slice_index z x ≡ sum_below K.height (λ t. slice_index c.0 t * entry K t x) % p = λ x l. ap (λ u. slice_index u x) c.2 ∙ at_combine p c.0 K x l in
-        let coefficient : (t : ℕ) → t < K.height → slice_index z (slice_index ends t) ≡ slice_index c.0 t = λ t l.
-        ap (λ u. slice_index u (slice_index ends t)) c.2 ∙ place_coefficient p (λ j end. end < j) K (slice_index ends) has.1 c.0 c.1 t l in
-        let inside : j < K.width = omega (arith, e.inside, wide) in
-        let w = sum_has K.height (λ t. slice_index c.0 t * entry K t j) (λ s. e.nonzero (at j inside ∙ ap (λ x. x % p) s ∙ zero-mod p)) in
-        let none_behind : (t : ℕ) → t < K.height → j < slice_index ends t → slice_index c.0 t ≡ 0 = λ t l b. sym (coefficient t l) ∙ e.last (slice_index ends t) b (omega (arith, has.1.inside t l, wide)) in
-        let end : slice_index ends w.0 ≡ j = elim (cases_lt (slice_index ends w.0) j) [
-          | inl l ↦ absurd (w.2 (ap (λ x. slice_index c.0 w.0 * x) (has.1.past w.0 j w.1 inside l) ∙ mul-zero (slice_index c.0 w.0)))
-          | inr l ↦ elim (cases_eq (slice_index ends w.0) j) [
-            | inl same ↦ same
-            | inr o ↦ absurd (w.2 (ap (λ x. x * entry K w.0 j) (none_behind w.0 w.1 (omega arith)) ∙ zero-mul (entry K w.0 j)))
-          ]
-        ] in
+        let inside : EndsAt K.width z j = subst (λ n. EndsAt n z j) (sym wide) e in
+        let read = coefficient p K ends c.0 z j has c.1 c.2 inside in
+        let past = none_behind p K ends c.0 z j has c.1 c.2 inside in
+        let w = end_found p K ends c.0 z j has c.1 c.2 inside in
+        let end : slice_index ends w.0 ≡ j = w.2 in
         elim (cases_eq w.0 k) [
           | inr o ↦ ap (slice_index first) (sym end) ∙ has.1.alone w.0 k w.1 hit.below (λ q. o (sym q))
           | inl same ↦
@@ -118,13 +110,13 @@ module _ (p : ℕ) (A : Matrix) (b : List ℕ) (K : Matrix) (prime : IsPrime p) 
               let rest : (t : ℕ) → t < K.height → t ≢ k → slice_index c.0 t * slice_index (apply p K b) t ≡ 0 = λ t l o.
               elim (cases_lt t k) [
                 | inl q ↦ ap (λ x. slice_index c.0 t * x) (product_at t l ∙ hit.before t q) ∙ mul-zero (slice_index c.0 t)
-                | inr q ↦ ap (λ x. x * slice_index (apply p K b) t) (none_behind t l (omega (arith, at_k, has.1.rising k t (omega arith) l))) ∙ zero-mul (slice_index (apply p K b) t)
+                | inr q ↦ ap (λ x. x * slice_index (apply p K b) t) (past t l (omega (arith, at_k, has.1.rising k t (omega arith) l))) ∙ zero-mul (slice_index (apply p K b) t)
               ] in
               let total : dot p K.width z b ≡ (slice_index c.0 k * d) % p =
               ap (λ u. dot p K.width u b) c.2 ∙ through c.0
               ∙ ap (λ x. x % p) (sum_single K.height (λ t. slice_index c.0 t * slice_index (apply p K b) t) k hit.below rest ∙ ap (λ x. slice_index c.0 k * x) (product_at k hit.below)) in
               let zero_product : (slice_index c.0 k * d) % p ≡ 0 = sym total ∙ ap (λ n. dot p n z b) wide ∙ a.2 in
-              let nonzero : slice_index c.0 k ≢ 0 = λ q. e.nonzero (ap (slice_index z) (sym at_k) ∙ coefficient k hit.below ∙ q) in
+              let nonzero : slice_index c.0 k ≢ 0 = λ q. e.nonzero (ap (slice_index z) (sym at_k) ∙ read k hit.below ∙ q) in
               let lower : slice_index c.0 k < p = c.1.residues k hit.below in
               elim (no_divisors p (slice_index c.0 k) d prime zero_product) [
                 | inl q ↦ absurd (nonzero (sym (mod-eq_of_lt lower) ∙ q))

@@ -4,3 +4,4 @@ pub mod Inverted
 pub mod Prepared
 pub mod ReadOff
 pub mod Refuted
+pub mod Substituted

@@ -14,16 +14,11 @@ multiple p c v = list_of (length v) (λ j. c * slice_index v j % p)
 abbrev pub AreZeroBehind : List ℕ → ℕ → Type 0
 AreZeroBehind xs from = (t : ℕ) → from ≤ t → t < length xs → slice_index xs t ≡ 0
 
--- the last number of the list that isn't 0 stands at k, which is `from` or behind it
-pub record IsLastNonzero (xs : List ℕ) (from k : ℕ) : Type 0 where
-  pub high : from ≤ k
+-- the first number of the list that isn't 0 stands at k
+pub record IsFirstNonzero (xs : List ℕ) (k : ℕ) : Type 0 where
   pub inside : k < length xs
   pub nonzero : slice_index xs k ≢ 0
-  pub behind : (t : ℕ) → k < t → t < length xs → slice_index xs t ≡ 0
-
--- where it stands, and what it is
-abbrev pub IsLastEntry : List ℕ → ℕ → ℕ × ℕ → Type 0
-IsLastEntry xs from found = IsLastNonzero xs from found.0 × (found.1 ≡ slice_index xs found.0)
+  pub before : (t : ℕ) → t < k → slice_index xs t ≡ 0
 
 -- row k of K is the first whose product with b isn't 0
 pub record IsFirstHit (p : ℕ) (K : Matrix) (b : List ℕ) (k : ℕ) : Type 0 where

@@ -10,14 +10,17 @@ mod columns;
 mod inverses;
 mod outcome;
 mod prepared;
+mod reduction;
 mod refutations;
+mod substitution;
 mod systems;
 #[cfg(test)]
 mod tests;
+mod vectors;
 
 pub use bases::{kernel, left_kernel};
 pub use inverses::{doubled, inverse, inverse_in, null_row};
 pub use outcome::Inverse;
-pub use prepared::{Prepared, Reply, beside_exchange};
+pub use prepared::{Prepared, Reply};
 pub use refutations::{first_hit_refutes, unsolvable_is_hit};
 pub use systems::{Found, refuting_system, solution};

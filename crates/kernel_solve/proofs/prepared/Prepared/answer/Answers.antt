@@ -1,106 +1,89 @@
-use Rattle.std.proofs.Common.{ℕ, ◌≡◌, ◌<◌, ◌∙◌, List, ap, arith, length, slice_index, sym, subst}
-use Rattle.residue_words.specs.Matrix.{Matrix, IsMatrix, IsVector, combine}
+use Rattle.std.proofs.Common.{◌≡◌, ℕ, List, length, slice_index, sym, refl, ap, subst, ◌∙◌, arith}
+use Rattle.std.proofs.lemmas.Grind.{get_or_default_zero}
 use Rattle.residue_words.specs.Residues.{inverse}
-use Rattle.residue_words.proofs.Vectors.{combine_vector}
+use Rattle.residue_words.specs.Matrix.{Matrix, IsMatrix, IsVector, apply, row}
+use Rattle.residue_words.proofs.Vectors.{apply_vector, length_list_of}
+use Rattle.row_space.specs.Solution.{IsReducedSolution, IsSolution}
 use Rattle.sparse_rows.specs.Rows.{ResidueMatrix}
-use Rattle.kernel_solve.specs.Column.{column, column_at}
-use Rattle.kernel_solve.specs.Prepared.{AgreeFrom, IsReply, Preparation}
-use Rattle.kernel_solve.specs.ReadOff.{IsAtLeads}
-use Rattle.kernel_solve.specs.Refuted.{AreZeroBehind, IsLastNonzero, multiple}
 use Rattle.kernel_solve.specs.declared.prepared.Reply.TheVariants.{Solution, Refuted}
-use Rattle.kernel_solve.proofs.Products.{agree_all, agree_last, agree_none, combine_long, kept_vector, refuted_is, solved_is}
+use Rattle.kernel_solve.specs.Column.{column}
+use Rattle.kernel_solve.specs.Prepared.{IsPreparedFor, IsReply, Preparation}
+use Rattle.kernel_solve.specs.Refuted.{AreZeroBehind, IsFirstNonzero, multiple}
+use Rattle.kernel_solve.proofs.Matrices.{column_vector}
+use Rattle.kernel_solve.proofs.Preparing.{refuted_is, solved_is, vector_moved}
 use Rattle.kernel_solve.proofs.prepared.Prepared.answer.Goals as goal
 
-pub combined_from-requires : goal.combined_from-requires
-combined_from-requires c =
-    let C : ResidueMatrix = c.self.inside.columns in
+pub times-requires : goal.times-requires
+times-requires c =
+    let fit = c.self.invariant.0 in
     let B : Matrix = c.args.b.now.matrix in
-    let sound : IsMatrix C.modulus B = subst (λ m. IsMatrix m B) (c.requires.modulus ∙ sym (ap (λ (q : Preparation). q.transformation.modulus) c.self.view_is)) c.modulus.ensures.sound in
-    let high : B.height ≡ C.matrix.height = c.requires.height ∙ sym (ap (λ (q : Preparation). q.transformation.matrix.width) c.self.view_is) in
-    subst (IsVector C.modulus C.matrix.height) (sym (c.deref.ensures.value ∙ c.in_ok-side.ensures))
-    (kept_vector c.self.inside.width c.self.inside.leads.items C B c.self.invariant.few sound c.requires.column high)
+    vector_moved (column_vector c.modulus.ensures.sound (omega (arith, c.requires.column)))
+    (c.requires.modulus ∙ sym (ap (λ (q : Preparation). q.modulus) c.self.view_is) ∙ sym fit.relations_modulus)
+    (c.requires.height ∙ sym (ap (λ (q : Preparation). q.height) c.self.view_is) ∙ sym fit.relations_width)
+    (sym (c.deref.ensures.value ∙ c.in_ok-side.ensures))
 
-pub combined_from-requires-2 : goal.combined_from-requires-2
-combined_from-requires-2 c =
-    let C : ResidueMatrix = c.self.inside.columns in
-    let B : Matrix = c.args.b.now.matrix in
-    let sound : IsMatrix C.modulus B = subst (λ m. IsMatrix m B) (c.requires.modulus ∙ sym (ap (λ (q : Preparation). q.transformation.modulus) c.self.view_is)) c.modulus.ensures.sound in
-    let high : B.height ≡ C.matrix.height = c.requires.height ∙ sym (ap (λ (q : Preparation). q.transformation.matrix.width) c.self.view_is) in
-    subst (IsVector C.modulus C.matrix.height) (sym (c.deref-2.ensures.value ∙ c.in_ok-side.ensures))
-    (kept_vector c.self.inside.width c.self.inside.leads.items C B c.self.invariant.few sound c.requires.column high)
+pub overflow_cast-k : goal.overflow_cast-k
+overflow_cast-k c =
+    let R : ResidueMatrix = c.self.inside.relations in
+    let first : IsFirstNonzero c.in_ok-products.products.items c.in-Some.k = subst (λ xs. IsFirstNonzero xs c.in-Some.k) c.deref-2.ensures.value c.in-Some.ensures in
+    let many : length c.in_ok-products.products.items ≡ R.matrix.height = ap length c.in_ok-products.ensures ∙ length_list_of R.matrix.height _ in
+    record { fits = omega (arith, first.inside, many, c.height.ensures.value, c.height.ensures.bound) }
 
-pub refuting-requires-clause-column : goal.refuting-requires-clause-column
-refuting-requires-clause-column c =
-    let C : ResidueMatrix = c.self.inside.columns in
-    let P : List ℕ = combine C.modulus c.deref.result.now C.matrix in
-    let last = agree_last P c.in_ok-related.related.row c.len-rank.result (c.in-Some.k, c.in-Some.product) c.in_ok-related.ensures.row c.in-Some.ensures in
-    omega (arith, last.0.inside, combine_long C.modulus c.deref.result.now C.matrix)
+pub refuting-requires-clause-row : goal.refuting-requires-clause-row
+refuting-requires-clause-row c =
+    let R : ResidueMatrix = c.self.inside.relations in
+    let first : IsFirstNonzero c.in_ok-products.products.items c.in-Some.k = subst (λ xs. IsFirstNonzero xs c.in-Some.k) c.deref-2.ensures.value c.in-Some.ensures in
+    let many : length c.in_ok-products.products.items ≡ R.matrix.height = ap length c.in_ok-products.ensures ∙ length_list_of R.matrix.height _ in
+    omega (arith, first.inside, many)
 
 pub refuting-requires-clause-nonzero : goal.refuting-requires-clause-nonzero
-refuting-requires-clause-nonzero c =
-    let C : ResidueMatrix = c.self.inside.columns in
-    let P : List ℕ = combine C.modulus c.deref.result.now C.matrix in
-    let last = agree_last P c.in_ok-related.related.row c.len-rank.result (c.in-Some.k, c.in-Some.product) c.in_ok-related.ensures.row c.in-Some.ensures in
-    λ z. last.0.nonzero (sym last.1 ∙ z)
+refuting-requires-clause-nonzero c = λ z.
+    let first : IsFirstNonzero c.in_ok-products.products.items c.in-Some.k = subst (λ xs. IsFirstNonzero xs c.in-Some.k) c.deref-2.ensures.value c.in-Some.ensures in
+    first.nonzero (sym (c.index.ensures ∙ get_or_default_zero c.in_ok-products.products.items c.in-Some.k c.index.result.now first.inside) ∙ z)
 
 pub refuting-requires-clause-residue : goal.refuting-requires-clause-residue
 refuting-requires-clause-residue c =
-    let C : ResidueMatrix = c.self.inside.columns in
-    let P : List ℕ = combine C.modulus c.deref.result.now C.matrix in
-    let last = agree_last P c.in_ok-related.related.row c.len-rank.result (c.in-Some.k, c.in-Some.product) c.in_ok-related.ensures.row c.in-Some.ensures in
-    let inside : c.in-Some.k < C.matrix.width = omega (arith, last.0.inside, combine_long C.modulus c.deref.result.now C.matrix) in
-    omega (arith, last.1, (combine_vector C.modulus c.deref.result.now C.matrix (omega (arith, c.modulus-2.ensures.two_or_more, c.modulus-2.ensures.value))).residues c.in-Some.k inside)
+    let R : ResidueMatrix = c.self.inside.relations in
+    let first : IsFirstNonzero c.in_ok-products.products.items c.in-Some.k = subst (λ xs. IsFirstNonzero xs c.in-Some.k) c.deref-2.ensures.value c.in-Some.ensures in
+    let many : length c.in_ok-products.products.items ≡ R.matrix.height = ap length c.in_ok-products.ensures ∙ length_list_of R.matrix.height _ in
+    let positive = c.height.ensures.sound in
+    let vector : IsVector R.modulus R.matrix.height c.in_ok-products.products.items =
+    subst (IsVector R.modulus R.matrix.height) (sym c.in_ok-products.ensures) (apply_vector R.modulus R.matrix c.deref.result.now
+    (omega (arith, c.modulus.ensures.two_or_more, c.modulus.ensures.value, c.requires.modulus, ap (λ (q : Preparation). q.modulus) c.self.view_is, c.self.invariant.0.relations_modulus))) in
+    omega (arith, c.index.ensures, get_or_default_zero c.in_ok-products.products.items c.in-Some.k c.index.result.now first.inside, vector.residues c.in-Some.k (omega (arith, first.inside, many)))
 
-pub at_leads-requires-clause-few : goal.at_leads-requires-clause-few
-at_leads-requires-clause-few c =
-    let C : ResidueMatrix = c.self.inside.columns in
-    omega (arith, ap length c.deref-3.ensures.value, c.self.invariant.few, c.in_ok-products.ensures.row.long, combine_long C.modulus c.deref-2.result.now C.matrix)
-
-pub at_leads-requires-clause-behind : goal.at_leads-requires-clause-behind
-at_leads-requires-clause-behind c =
-    let C : ResidueMatrix = c.self.inside.columns in
-    let B : Matrix = c.args.b.now.matrix in
-    let P : List ℕ = combine C.modulus (column B) C.matrix in
-    let related : List ℕ = c.in_ok-related.related.row in
-    let products : List ℕ = c.in_ok-products.products.row in
-    let few : c.len-rank.result ≡ length c.deref-3.result.now = c.len-rank.ensures ∙ c.self.inside.leads.ok.0 ∙ sym (ap length c.deref-3.ensures.value) in
-    let agree : AgreeFrom c.len-rank.result P related = subst (λ s. AgreeFrom c.len-rank.result (combine C.modulus s C.matrix) related) (c.deref.ensures.value ∙ c.in_ok-side.ensures) c.in_ok-related.ensures.row in
-    let all : products ≡ P = agree_all P products (subst (λ s. AgreeFrom 0 (combine C.modulus s C.matrix) products) (c.deref-2.ensures.value ∙ c.in_ok-side.ensures) c.in_ok-products.ensures.row) in
-    let none : AreZeroBehind P c.len-rank.result = agree_none P related c.len-rank.result agree c.in_default.ensures in
-    subst (λ xs. AreZeroBehind xs (length c.deref-3.result.now)) (sym all) (subst (AreZeroBehind P) few none)
+pub solution-requires : goal.solution-requires
+solution-requires c =
+    vector_moved (column_vector c.modulus.ensures.sound (omega (arith, c.requires.column))) c.requires.modulus c.requires.height (sym (c.deref-3.ensures.value ∙ c.in_ok-side.ensures))
 
 pub returns-in-Some : goal.returns-in-Some
 returns-in-Some c =
-    let C : ResidueMatrix = c.self.inside.columns in
-    let leads : List ℕ = c.self.inside.leads.items in
+    let s = c.self.inside in
+    let R : ResidueMatrix = s.relations in
     let B : Matrix = c.args.b.now.matrix in
-    let k : ℕ = c.in-Some.k in
-    let sound : IsMatrix C.modulus B = subst (λ m. IsMatrix m B) (c.requires.modulus ∙ sym (ap (λ (q : Preparation). q.transformation.modulus) c.self.view_is)) c.modulus.ensures.sound in
-    let high : B.height ≡ C.matrix.height = c.requires.height ∙ sym (ap (λ (q : Preparation). q.transformation.matrix.width) c.self.view_is) in
-    let P : List ℕ = combine C.modulus (column B) C.matrix in
-    let related : List ℕ = c.in_ok-related.related.row in
-    let agree : AgreeFrom c.len-rank.result P related = subst (λ s. AgreeFrom c.len-rank.result (combine C.modulus s C.matrix) related) (c.deref.ensures.value ∙ c.in_ok-side.ensures) c.in_ok-related.ensures.row in
-    let found : IsLastNonzero P c.len-rank.result k × (c.in-Some.product ≡ slice_index P k) = agree_last P related c.len-rank.result (k, c.in-Some.product) agree c.in-Some.ensures in
-    let last : IsLastNonzero P (length leads) k = subst (λ n. IsLastNonzero P n k) (c.len-rank.ensures ∙ c.self.inside.leads.ok.0) found.0 in
+    let products : List ℕ = c.in_ok-products.products.items in
+    let first : IsFirstNonzero products c.in-Some.k = subst (λ xs. IsFirstNonzero xs c.in-Some.k) c.deref-2.ensures.value c.in-Some.ensures in
+    let sound : IsMatrix s.left.modulus B = subst (λ n. IsMatrix n B) (c.requires.modulus ∙ sym (ap (λ (q : Preparation). q.modulus) c.self.view_is)) c.modulus.ensures.sound in
+    let high : B.height ≡ s.left.matrix.height = c.requires.height ∙ sym (ap (λ (q : Preparation). q.height) c.self.view_is) in
+    let are : products ≡ apply R.modulus R.matrix (column B) = c.in_ok-products.ensures ∙ ap (apply R.modulus R.matrix) (c.deref.ensures.value ∙ c.in_ok-side.ensures) in
+    let value : c.index.result.now ≡ slice_index products c.in-Some.k = c.index.ensures ∙ get_or_default_zero products c.in-Some.k c.index.result.now first.inside in
     subst (λ q. IsReply q B (Refuted c.in_ok-y.y)) c.self.view_is
-    (refuted_is c.self.inside.width leads C B c.self.invariant.few sound c.requires.column high k c.in_ok-y.y last c.in_ok-y.ensures.modulus c.in_ok-y.ensures.sound c.in_ok-y.ensures.height c.in_ok-y.ensures.width
-    (c.in_ok-y.ensures.row ∙ ap (λ v. multiple C.modulus (inverse C.modulus v) (column_at C.matrix k)) found.1))
+    (refuted_is s.pivots s.left s.right s.null R c.self.invariant.0 B sound c.requires.column high products are c.in-Some.k c.in_ok-y.y first c.in_ok-y.ensures.modulus c.in_ok-y.ensures.sound c.in_ok-y.ensures.height c.in_ok-y.ensures.width
+    (c.in_ok-y.ensures.row ∙ ap (λ v. multiple R.modulus (inverse R.modulus v) (row R.matrix c.in-Some.k)) value))
 
 pub returns : goal.returns
 returns c =
-    let C : ResidueMatrix = c.self.inside.columns in
-    let leads : List ℕ = c.self.inside.leads.items in
+    let s = c.self.inside in
+    let R : ResidueMatrix = s.relations in
     let B : Matrix = c.args.b.now.matrix in
-    let sound : IsMatrix C.modulus B = subst (λ m. IsMatrix m B) (c.requires.modulus ∙ sym (ap (λ (q : Preparation). q.transformation.modulus) c.self.view_is)) c.modulus.ensures.sound in
-    let high : B.height ≡ C.matrix.height = c.requires.height ∙ sym (ap (λ (q : Preparation). q.transformation.matrix.width) c.self.view_is) in
-    let P : List ℕ = combine C.modulus (column B) C.matrix in
-    let related : List ℕ = c.in_ok-related.related.row in
-    let products : List ℕ = c.in_ok-products.products.row in
-    let agree : AgreeFrom c.len-rank.result P related = subst (λ s. AgreeFrom c.len-rank.result (combine C.modulus s C.matrix) related) (c.deref.ensures.value ∙ c.in_ok-side.ensures) c.in_ok-related.ensures.row in
-    let all : products ≡ P = agree_all P products (subst (λ s. AgreeFrom 0 (combine C.modulus s C.matrix) products) (c.deref-2.ensures.value ∙ c.in_ok-side.ensures) c.in_ok-products.ensures.row) in
-    let none : AreZeroBehind P (length leads) = subst (AreZeroBehind P) (c.len-rank.ensures ∙ c.self.inside.leads.ok.0) (agree_none P related c.len-rank.result agree c.in_default.ensures) in
-    let at : IsAtLeads leads P (column c.in_ok-x.x.matrix) =
-    subst (λ u. IsAtLeads leads u (column c.in_ok-x.x.matrix)) all (subst (λ ls. IsAtLeads ls products (column c.in_ok-x.x.matrix)) c.deref-3.ensures.value c.in_ok-x.ensures.entries) in
+    let products : List ℕ = c.in_ok-products.products.items in
+    let none : AreZeroBehind products 0 = subst (λ xs. AreZeroBehind xs 0) c.deref-2.ensures.value c.in_default.ensures in
+    let sound : IsMatrix s.left.modulus B = subst (λ n. IsMatrix n B) (c.requires.modulus ∙ sym (ap (λ (q : Preparation). q.modulus) c.self.view_is)) c.modulus.ensures.sound in
+    let high : B.height ≡ s.left.matrix.height = c.requires.height ∙ sym (ap (λ (q : Preparation). q.height) c.self.view_is) in
+    let side : c.deref-3.result.now ≡ column B = c.deref-3.ensures.value ∙ c.in_ok-side.ensures in
+    let are : products ≡ apply R.modulus R.matrix (column B) = c.in_ok-products.ensures ∙ ap (apply R.modulus R.matrix) (c.deref.ensures.value ∙ c.in_ok-side.ensures) in
     subst (λ q. IsReply q B (Solution c.in_ok-x.x)) c.self.view_is
-    (solved_is c.self.inside.width leads C B c.self.invariant.few sound c.requires.column high c.in_ok-x.x none (c.in_ok-x.ensures.modulus ∙ c.in_ok-products.ensures.modulus) c.in_ok-x.ensures.sound c.in_ok-x.ensures.height
-    c.in_ok-x.ensures.width at)
+    (solved_is s.pivots s.left s.right s.null R c.self.invariant.0 B sound c.requires.column high products are c.in_ok-x.x none
+    (c.in_ok-x.ensures.modulus ∙ sym (ap (λ (q : Preparation). q.modulus) c.self.view_is)) c.in_ok-x.ensures.sound (c.in_ok-x.ensures.height ∙ sym (ap (λ (q : Preparation). q.width) c.self.view_is)) c.in_ok-x.ensures.width
+    (λ p A prime m prepared solvable. subst (λ b. IsReducedSolution p A b (column c.in_ok-x.x.matrix)) side
+    (c.in_ok-x.ensures.solution p A prime m (subst (IsPreparedFor p A) c.self.view_is prepared) (λ none. solvable (subst (λ b. (v : List ℕ) → ¬ IsSolution p A b v) side none)))))

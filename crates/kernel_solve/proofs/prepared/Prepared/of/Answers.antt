@@ -1,20 +1,30 @@
-use Rattle.std.proofs.Common.{ℕ, ap, arith, sym}
+use Rattle.std.proofs.Common.{◌≡◌, ℕ, sym, ap, subst, ◌∙◌, arith}
 use Rattle.residue_words.specs.Matrix.{Matrix}
-use Rattle.sparse_rows.specs.Rows.{beside}
-use Rattle.echelon_form.specs.Form.{Form, IsFormOf}
-use Rattle.kernel_solve.specs.Prepared.{exchange}
-use Rattle.kernel_solve.proofs.Inverting.{form_same}
+use Rattle.kernel_solve.specs.Prepared.{IsPreparedFor}
 use Rattle.kernel_solve.proofs.prepared.Prepared.of.Goals as goal
 
-pub in_form-requires : goal.in_form-requires
-in_form-requires g c =
-    omega (arith, c.width.ensures.value, c.in_ok-form.ensures.width, ap (λ (M : Matrix). M.width) c.in_ok-both.ensures.matrix)
+pub by_factors-requires : goal.by_factors-requires
+by_factors-requires g c = record {
+  right_modulus = c.in_ok-factors.ensures.right_modulus ∙ sym c.in_ok-factors.ensures.left_modulus;
+  null_modulus = c.in_ok-null.ensures.modulus ∙ c.in_ok-form.ensures.modulus ∙ sym c.in_ok-factors.ensures.left_modulus;
+  relations_modulus = c.in_ok-relations.ensures.modulus ∙ sym c.in_ok-factors.ensures.left_modulus;
+  left_width = c.in_ok-factors.ensures.fit.left_width;
+  right_height = c.in_ok-factors.ensures.fit.right_height;
+  null_width = c.in_ok-null.ensures.width ∙ c.in_ok-form.ensures.width ∙ sym c.in_ok-factors.ensures.fit.right_width;
+  relations_width = c.in_ok-relations.ensures.width ∙ sym c.in_ok-factors.ensures.fit.left_height;
+  rows_below = λ k l. omega (arith, c.in_ok-factors.ensures.fit.rows_below k l, c.in_ok-factors.ensures.fit.left_height);
+  columns_below = λ k l. omega (arith, c.in_ok-factors.ensures.fit.columns_below k l, c.in_ok-factors.ensures.fit.right_width);
+}
 
 pub returns : goal.returns
 returns g c =
-    let A : Matrix = c.args.a.now.matrix in
     let p : ℕ = c.args.a.now.modulus in
-    let F : Form = c.in_ok-form.form in
-    let W : Matrix = beside A (exchange A.height) in
-    let form : IsFormOf p W F = form_same c.in_ok-both.both.modulus p c.in_ok-both.both.matrix W F c.in_ok-both.ensures.modulus c.in_ok-both.ensures.matrix c.in_ok-form.ensures in
-    c.in_ok-prepared.ensures p A c.height.ensures.sound (sym c.width.ensures.value) form
+    let A : Matrix = c.args.a.now.matrix in
+    subst (IsPreparedFor p A) (sym c.in_ok-prepared.ensures) (record {
+      modulus = c.in_ok-factors.ensures.left_modulus;
+      height = c.in_ok-factors.ensures.fit.left_height;
+      width = c.in_ok-factors.ensures.fit.right_width;
+      factors = c.in_ok-factors.ensures.factors;
+      null = λ prime. c.in_ok-null.ensures.kernel p A prime c.in_ok-form.ensures;
+      relations = c.in_ok-relations.ensures.kernel;
+    })

@@ -1,6 +1,0 @@
-use Rattle.std.proofs.Common.{◌∙◌}
-use Rattle.kernel_solve.proofs.Preparing.{times_one}
-use Rattle.kernel_solve.proofs.prepared.first_column.Goals as goal
-
-pub returns : goal.returns
-returns c = c.in_ok-side.ensures ∙ times_one c.args.b.now.modulus c.args.b.now.matrix c.modulus.ensures.sound c.requires
