@@ -38,7 +38,8 @@ pub record AreSmall (by tile : List (List ℕ)) (run : Run) : Type 0 where
 -- new is the row old with v at these columns, from the first on
 pub record IsWritten (columns : Columns) (v old new : List ℕ) : Type 0 where
   pub long : length new ≡ length old
-  pub written : (j : ℕ) → columns.start ≤ j → j < columns.end → slice_index new j ≡ slice_index v (j - columns.start)
+  pub written : (j : ℕ) → columns.start ≤ j → j < columns.end →
+      slice_index new j ≡ slice_index v (j - columns.start)
   pub before : (j : ℕ) → j < columns.start → slice_index new j ≡ slice_index old j
   pub behind : (j : ℕ) → columns.end ≤ j → slice_index new j ≡ slice_index old j
 

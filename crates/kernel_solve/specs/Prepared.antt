@@ -71,4 +71,5 @@ HasReplyShape q (Refuted y) =
 -- a reply to the column b: of the shape told, and right for each matrix that q is the preparation of, where the modulus is prime
 pub record IsReply (q : Preparation) (b : Matrix) (reply : Reply) : Type 0 where
   pub shape : HasReplyShape q reply
-  pub right : (p : ℕ) (A : Matrix) → IsPrime p → IsMatrix p A → IsPreparedFor p A q → RepliesTo p A (column b) reply
+  pub right : (p : ℕ) (A : Matrix) → IsPrime p → IsMatrix p A → IsPreparedFor p A q →
+      RepliesTo p A (column b) reply
