@@ -36,11 +36,7 @@ impl<'t, 'a> Model for RowReducer<'t, 'a> {
 impl<'t, 'a> RowReducer<'t, 'a> {
     /// Chooses the way for this triangle and so many workers by trying some rows; flat rows are made where they are cheaper for all
     /// rows.
-    pub fn of(
-        alloc: Global,
-        triangle: &'t Triangle<'a>,
-        workers: u32,
-    ) -> Result<Self, AllocError>
+    pub fn of(alloc: Global, triangle: &'t Triangle<'a>, workers: u32) -> Result<Self, AllocError>
         ensures { IfOk result (λ r. r ≡ triangle.now) }
     {
         let flat = FlatTriangle::where_cheaper(alloc, triangle, workers)?;
@@ -59,7 +55,10 @@ impl<'t, 'a> RowReducer<'t, 'a> {
 
     // By flat rows, whatever they cost.
     #[cfg(test)]
-    pub(crate) fn by_flat_rows(alloc: Global, triangle: &'t Triangle<'a>) -> Result<Self, AllocError>
+    pub(crate) fn by_flat_rows(
+        alloc: Global,
+        triangle: &'t Triangle<'a>,
+    ) -> Result<Self, AllocError>
         ensures { IfOk result (λ r. r ≡ triangle.now) }
     {
         let flat = FlatTriangle::of(alloc, triangle, u64::MAX)?;

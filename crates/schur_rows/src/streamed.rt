@@ -6,8 +6,8 @@ ghost use Rattle.schur_rows.specs.PivotNumbers.{HasNumbers};
 ghost use Rattle.schur_rows.specs.Streamed.{IsBasisLeft, IsBasisUpTo};
 
 use crate::pivot_numbers::PivotNumbers;
-use crate::row_ranges::end_of;
 use crate::round::SchurRows;
+use crate::row_ranges::end_of;
 use crate::row_reducer::RowReducer;
 use crate::sampling::total_left;
 use crate::stacking::append_all;
@@ -92,7 +92,15 @@ pub(crate) fn basis_by<R: Threads + Sync>(
         let count = size.rows_below(basis.height(), columns);
         let to = end_of(reducer, &pivot_rows, from, count);
         basis = basis_with(
-            rt, alloc, reducer, &pivot_rows, workers, total, basis, from, to,
+            rt,
+            alloc,
+            reducer,
+            &pivot_rows,
+            workers,
+            total,
+            basis,
+            from,
+            to,
         )?;
         from = to;
     }
@@ -137,7 +145,9 @@ fn basis_with<R: Threads + Sync>(
 {
     // The call's contract tells how high a matrix is.
     let _ = reducer.rows().height();
-    let left = left_between(rt, alloc, reducer, pivot_rows, workers, false, total, from, to)?;
+    let left = left_between(
+        rt, alloc, reducer, pivot_rows, workers, false, total, from, to,
+    )?;
     let SchurRows { rows: below, .. } = left;
     let stacked = stacked(alloc, basis, below)?;
     let RightFactor { u, .. } = finish_right(rt, alloc, stacked, workers)?;

@@ -2,9 +2,9 @@
 ghost use Rattle.std.specs.Prelude.{◌≡◌, ◌<◌, ◌≤◌};
 ghost use Rattle.sparse_rows.specs.declared.rows.TheConstants.{LARGEST_SIZE};
 
+use crate::complement;
 use crate::row_reducer::RowReducer;
 use crate::streamed::{ChunkSize, basis_by};
-use crate::complement;
 use dense_finish::finish;
 use fl_pivots::leftmost;
 use residue_words::Modulus;

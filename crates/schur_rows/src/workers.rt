@@ -64,7 +64,17 @@ pub(crate) fn left_by<R: Threads + Sync>(
     } else {
         total_left(alloc, reducer, &pivot_rows)?
     };
-    left_between(rt, alloc, reducer, &pivot_rows, workers, kept, total, 0, height)
+    left_between(
+        rt,
+        alloc,
+        reducer,
+        &pivot_rows,
+        workers,
+        kept,
+        total,
+        0,
+        height,
+    )
 }
 
 // What it leaves of the rows from `from` up to `to`, of about so many entries in all rows.

@@ -57,8 +57,7 @@ impl FlatEstimate {
     pub(crate) fn is_cheaper(&self, workers: u32) -> bool {
         let rows = self.pivots.saturating_mul(MET_A_ROW);
         let entries = self.flat.saturating_mul(MET_AN_ENTRY);
-        self.met_by_each(workers) >= rows.saturating_add(entries)
-            && self.flat <= self.most(workers)
+        self.met_by_each(workers) >= rows.saturating_add(entries) && self.flat <= self.most(workers)
     }
 
     // How many entries flat rows may have before they are given up.
