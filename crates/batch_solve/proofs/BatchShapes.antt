@@ -99,11 +99,6 @@ columns m number (b ∷ bs) e k d less = go k less (columns m (number + 1) bs (t
     go zero less later = let t = test b.matrix (matrices_of bs) e in (t.0, t.1)
     go (suc k) less later = later k d (omega arith)
 
-pub fit_narrow : (texts : List ResidueMatrix) (d : ResidueMatrix) → 1 ≤ length texts → batch_misfit (matrices_of texts) ≡ None →
-    (get_or texts 0 d).matrix.height + (get_or texts 0 d).matrix.width ≤ LARGEST_SIZE
-fit_narrow [] d some e = absurd (omega arith)
-fit_narrow (A ∷ Bs) d some e = not_wide A.matrix (matrices_of Bs) e
-
 pub fit_columns : (texts : List ResidueMatrix) (d : ResidueMatrix) → 1 ≤ length texts → batch_misfit (matrices_of texts) ≡ None →
     All (IsColumnFor (get_or texts 0 d).matrix.height) (drop 1 texts)
 fit_columns [] d some e = absurd (omega arith)
