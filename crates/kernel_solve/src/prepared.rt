@@ -29,7 +29,7 @@ pub enum Reply {
     Refuted(Rows),
 }
 
-/// A matrix A prepared for any number of right-hand sides: eliminated once, so that answers take products alone.
+/// A matrix A prepared for any number of right-hand sides: eliminated before, so that answers take products alone.
 ///
 /// It keeps factors of A with their pivots, the inverses of the pivots' entries, and the kernel bases of A and of A transposed.
 #[derive(Debug, Drop)]
