@@ -1,8 +1,7 @@
 // Many right-hand sides for one matrix.
-ghost use Rattle.std.specs.Prelude.{◌≡◌, ◌≢◌, ◌<◌, ◌≤◌, ◌+◌, ℕ, List, length, IfOk};
+ghost use Rattle.std.specs.Prelude.{◌≡◌, ◌≢◌, ◌<◌, ◌≤◌, ℕ, List, length, IfOk};
 ghost use Rattle.residue_words.specs.Residues.{IsPrime, inverse};
 ghost use Rattle.residue_words.specs.Matrix.{Matrix, IsMatrix, IsVector, row};
-ghost use Rattle.sparse_rows.specs.declared.rows.TheConstants.{LARGEST_SIZE};
 ghost use Rattle.row_space.specs.Solution.{IsReducedSolution, IsSolution};
 ghost use Rattle.kernel_solve.specs.Column.{column};
 ghost use Rattle.kernel_solve.specs.Prepared.{FitTogether, IsPreparedFor, IsReply, preparation};
@@ -15,7 +14,7 @@ use crate::vectors::{column_of, entries_of, first_nonzero, row_of};
 use dense_finish::{Factors, finish};
 use echelon_form::Echelon;
 use residue_words::plain::Pair;
-use sparse_rows::{LARGEST_SIZE, List, Rows};
+use sparse_rows::{List, Rows};
 use std::alloc::{AllocError, Global};
 use std::marker::Model;
 use std::thread::Threads;
@@ -58,8 +57,8 @@ impl Model for Prepared {
 }
 
 impl Prepared {
-    /// Prepares A, whose height and width are together at most 2^31, by a dense elimination of its rows and columns that have
-    /// an entry, and by the echelon forms of A and of A transposed. A caller who makes factors and kernel bases by another way,
+    /// Prepares A by a dense elimination of its rows and columns that have an entry, and by the echelon forms of A and of A
+    /// transposed. A caller who makes factors and kernel bases by another way,
     /// as by structural rounds where A is large and sparse, calls `by_factors`.
     pub fn of<R: Threads + Sync>(
         rt: &R,
@@ -67,7 +66,6 @@ impl Prepared {
         a: &Rows,
         workers: u32,
     ) -> Result<Prepared, AllocError>
-        requires small { a.now.matrix.width + a.now.matrix.height ≤ LARGEST_SIZE }
         requires some { 1 ≤ workers }
         requires few { workers ≤ 64 }
         ensures { IfOk result (IsPreparedFor a.now.modulus a.now.matrix) }
