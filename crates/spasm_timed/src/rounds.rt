@@ -55,8 +55,12 @@ fn time_round<R: Threads + Sync + Clock + Print>(
     let search = start.elapsed(rt)?.as_micros();
     let found = triangle.pairs().len();
     let start = Instant::now(rt)?;
-    let reducer = RowReducer::of(alloc, &triangle, workers)?;
-    let rest = complement(rt, alloc, &reducer, workers)?;
+    let rest = complement(
+        rt,
+        alloc,
+        &RowReducer::of(alloc, &triangle, workers)?,
+        workers,
+    )?;
     let elimination = start.elapsed(rt)?.as_micros();
     let height = rest.filled(alloc)?.len();
     let width = rest.occupied(alloc)?.len();
