@@ -52,14 +52,16 @@ impl Model for Prepared {
     ghost view = { λ q. preparation q.pivots q.left q.right q.null q.relations };
 
     ghost invariant = { λ q. FitTogether q.pivots q.left q.right q.null q.relations
-        × InvertEach q.left.modulus (length q.pivots) (left_pivot q.left.matrix q.pivots) q.left_inverses.items
-        × InvertEach q.left.modulus (length q.pivots) (right_pivot q.right.matrix q.pivots) q.right_inverses.items };
+        × InvertEach q.left.modulus (length q.pivots) (left_pivot q.left.matrix q.pivots)
+        q.left_inverses.items
+        × InvertEach q.left.modulus (length q.pivots) (right_pivot q.right.matrix q.pivots)
+        q.right_inverses.items };
 }
 
 impl Prepared {
     /// Prepares A by a dense elimination of its rows and columns that have an entry, and by the echelon forms of A and of A
-    /// transposed. A caller who makes factors and kernel bases by another way,
-    /// as by structural rounds where A is large and sparse, calls `by_factors`.
+    /// transposed. A caller who makes factors and kernel bases by another way, as by structural rounds where A is large and
+    /// sparse, calls `by_factors`.
     pub fn of<R: Threads + Sync>(
         rt: &R,
         alloc: Global,
@@ -156,7 +158,8 @@ fn refuting(alloc: Global, relations: &Rows, k: u32, product: u64) -> Result<Row
     ensures height { IfOk result (λ y. y.matrix.height ≡ 1) }
     ensures width { IfOk result (λ y. y.matrix.width ≡ relations.now.matrix.width) }
     ensures row { IfOk result (λ y. row y.matrix 0
-        ≡ multiple relations.now.modulus (inverse relations.now.modulus product) (row relations.now.matrix k)) }
+        ≡ multiple relations.now.modulus (inverse relations.now.modulus product)
+        (row relations.now.matrix k)) }
 {
     let modulus = relations.modulus();
     let factor = modulus.inv(product);
