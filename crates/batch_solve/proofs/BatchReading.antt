@@ -1,20 +1,18 @@
 -- Texts of matrices read one after another.
-use Rattle.std.proofs.Common.{ℕ, zero, suc, ◌≡◌, ◌+◌, ◌-◌, ◌<◌, ◌≤◌, All, List, [], ◌∷◌, ◌++◌, None, Result, Ok, Err, length, map, replicate, refl, sym, ap, subst, ◌∙◌, arith, append-nil, append_assoc, length-append}
+use Rattle.std.proofs.Common.{ℕ, zero, suc, ◌≡◌, ◌+◌, ◌-◌, ◌<◌, ◌≤◌, All, List, [], ◌∷◌, ◌++◌, None, Ok, Err, length, replicate, refl, sym, ap, subst, ◌∙◌, arith, append-nil, append_assoc, length-append}
 use Rattle.std.proofs.lemmas.List.{map-append}
 use Rattle.std.proofs.lemmas.List.Elements.{All-append, All-cons, All-nil}
 use Rattle.sparse_rows.specs.Rows.{ResidueMatrix}
-use Rattle.sparse_rows.specs.declared.rows.TheConstants.{LARGEST_SIZE}
 use Rattle.sms_text.specs.declared.kind.TextError.{TextError}
 use Rattle.sms_text.specs.declared.kind.TextError.TheVariants as error
 use Rattle.sms_text.specs.declared.reader.TheConstants.{LARGEST_TEXT_SIZE}
-use Rattle.sms_text.specs.Parts.{PartDid, open_at, wants}
+use Rattle.sms_text.specs.Parts.{open_at, wants}
 use Rattle.sms_text.specs.Reading.{InputState, ReaderState, input, new_reader}
 use Rattle.sms_text.specs.ReadingRows.{RowsDid}
 use Rattle.sms_text.specs.Stream.{SourceState}
 use Rattle.sms_text.specs.Text.{Due, Header, Item, matrices, outer_lines}
 use Rattle.sms_text.proofs.Parts.{ReadSoFar, so_far_begins, so_far_ends, so_far_pauses}
 use Rattle.sms_text.proofs.ReadingMatrices.{rows_missed, rows_taken}
-use Rattle.residue_words.specs.Matrix.{Matrix}
 use Rattle.spasm_run.specs.Contents.{Contents, contents, matrices_alone}
 use Rattle.spasm_run.specs.Input.{IsOfText, WasRead}
 use Rattle.spasm_run.proofs.Input.{contents_are, from_start, parts_read, parts_unread}

@@ -1,5 +1,5 @@
 -- From replies to the answer of a batch.
-use Rattle.std.proofs.Common.{ℕ, zero, suc, ◌≡◌, ◌+◌, ◌-◌, ◌<◌, ◌≤◌, ◌++◌, inl, inr, All, IfOk, Result, Ok, Err, Vec, List, [], ◌∷◌, None, Some, length, take, drop, get_or, refl, sym, ap, subst, ◌∙◌, arith}
+use Rattle.std.proofs.Common.{ℕ, suc, ◌≡◌, ◌+◌, ◌-◌, ◌<◌, ◌≤◌, ◌++◌, inl, inr, All, IfOk, Result, Ok, Err, Vec, List, [], ◌∷◌, None, length, take, drop, get_or, refl, sym, ap, ◌∙◌, arith}
 use Rattle.std.specs.Prelude.{codes}
 use Rattle.std.specs.declared.alloc.Global.{Global}
 use Rattle.std.proofs.lemmas.List.{take_all}
@@ -13,14 +13,14 @@ use Rattle.sms_text.specs.Written.{text_of}
 use Rattle.kernel_solve.specs.declared.prepared.Reply.{Reply}
 use Rattle.kernel_solve.specs.declared.prepared.Reply.TheVariants.{Solution, Refuted}
 use Rattle.kernel_solve.specs.Column.{column}
-use Rattle.kernel_solve.specs.Prepared.{HasReplyShape, IsPreparedFor, IsReply, Preparation}
-use Rattle.spasm_run.specs.Answers.{SolvesTo, as_row}
+use Rattle.kernel_solve.specs.Prepared.{IsPreparedFor, IsReply, Preparation}
+use Rattle.spasm_run.specs.Answers.{SolvesTo}
 use Rattle.spasm_run.specs.Input.{IsOfText}
 use Rattle.spasm_run.proofs.Solving.{column_whole, row_whole}
-use Rattle.batch_solve.specs.BatchAnswers.{AnswersBatch, AnswersEach, batch_misfit}
+use Rattle.batch_solve.specs.BatchAnswers.{AnswersEach, batch_misfit}
 use Rattle.batch_solve.specs.BatchFound.{AreBatchReplies, IsSmallReply, matrices_of, replies_text, reply_text}
 use Rattle.batch_solve.specs.Replies.{AreReplies, IsQuestion}
-use Rattle.batch_solve.proofs.BatchShapes.{IsColumnFor, fit_columns}
+use Rattle.batch_solve.proofs.BatchShapes.{fit_columns}
 
 module _ (p : ℕ) (A : Matrix) (q : Preparation) (prepared : IsPreparedFor p A q) where
   -- one reply

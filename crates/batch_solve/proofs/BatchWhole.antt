@@ -10,11 +10,11 @@ use Rattle.sms_text.specs.declared.kind.TextError.TheVariants as error
 use Rattle.sms_text.specs.declared.write.WriteFault.{WriteFault}
 use Rattle.sms_text.specs.Reading.{Draws, IsShort, untouched}
 use Rattle.sms_text.specs.Stream.{SinkState, SourceState, Gained, Rose}
-use Rattle.sms_text.specs.Text.{Due, Got, Fault, FirstFault, Reading, Request, reading}
+use Rattle.sms_text.specs.Text.{Got, Fault, FirstFault, Reading, reading}
 use Rattle.sms_text.specs.Writing.{Writes}
 use Rattle.sms_text.proofs.Moving.{draws_none, draws_with}
 use Rattle.kernel_solve.specs.declared.prepared.Reply.{Reply}
-use Rattle.spasm_run.specs.Contents.{Contents, contents, matrices_alone}
+use Rattle.spasm_run.specs.Contents.{Contents, matrices_alone}
 use Rattle.spasm_run.specs.Input.{HasContents, Input, WasRead, supply_behind}
 use Rattle.spasm_run.specs.Ran.{Run, whole_input}
 use Rattle.spasm_run.proofs.Input.{from_start}

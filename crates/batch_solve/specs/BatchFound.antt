@@ -5,7 +5,6 @@ use Rattle.std.specs.declared.alloc.Global.{Global}
 use Rattle.residue_words.specs.Matrix.{Matrix}
 use Rattle.residue_words.specs.Residues.{IsPrime}
 use Rattle.sparse_rows.specs.Rows.{ResidueMatrix}
-use Rattle.sparse_rows.specs.declared.rows.TheConstants.{LARGEST_SIZE}
 use Rattle.sms_text.specs.declared.kind.TextError.{TextError}
 use Rattle.sms_text.specs.Reading.{Draws, untouched}
 use Rattle.sms_text.specs.Stream.{SourceState}

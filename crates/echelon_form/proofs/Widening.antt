@@ -1,12 +1,12 @@
 -- What is true of a form stays true when its columns stand at other columns, and zeros between.
 use Rattle.std.proofs.Common.{ℕ, zero, suc, ◌≡◌, ◌≢◌, ◌+◌, ◌*◌, ◌%◌, ◌<◌, ◌≤◌, ◌⊎◌, List, [], ◌∷◌, length, map, slice_index, inl, inr, sym, refl, ap, subst, ◌∙◌, arith, mod-eq_of_lt, mul-zero}
-use Rattle.std.proofs.lemmas.Bool.{cases_eq, cases_lt}
+use Rattle.std.proofs.lemmas.Bool.{cases_eq}
 use Rattle.std.proofs.lemmas.List.{get_or-map, length-map}
 use Rattle.residue_words.specs.Residues.{IsPrime, sum_below}
-use Rattle.residue_words.specs.Matrix.{Matrix, IsMatrix, IsCombination, combine, entry, list_of, row}
+use Rattle.residue_words.specs.Matrix.{Matrix, IsMatrix, IsCombination, entry, list_of, row}
 use Rattle.residue_words.proofs.Sums.{sum_equal, sum_zero}
 use Rattle.residue_words.proofs.Vectors.{at_combine, combination_vector, entry_matrix_of, entry_residue, is_matrix_of, list_of_equal, row_combination, row_matrix_of}
-use Rattle.row_space.specs.Echelon.{HasLeads, HasPlaces, HasRank, IsRref, SameSpan}
+use Rattle.row_space.specs.Echelon.{HasLeads, HasRank, IsRref, SameSpan}
 use Rattle.row_space.proofs.Spans.{same_span_of_rows}
 use Rattle.sparse_rows.specs.Rows.{AreEnough, AreRising, narrowed, widened}
 use Rattle.sparse_rows.specs.Stored.{entry_at}

@@ -18,7 +18,7 @@ use Rattle.sms_text.specs.declared.kind.TextError.{TextError}
 use Rattle.sms_text.specs.declared.kind.TextError.TheVariants as error
 use Rattle.sms_text.specs.declared.reader.TheConstants.{LARGEST_TEXT_SIZE}
 use Rattle.sms_text.specs.OuterLines as form
-use Rattle.sms_text.specs.OuterLines.{is_script, is_script_end, are_terms, takes_nothing, takes_terms}
+use Rattle.sms_text.specs.OuterLines.{is_script, is_script_end, are_terms, takes_terms}
 use Rattle.sms_text.specs.Parts.{PartDid, Wanted, wants}
 use Rattle.sms_text.specs.Reading.{InputState}
 use Rattle.sms_text.specs.Writing.{Adds, OutputState}

@@ -11,7 +11,6 @@ use Rattle.sparse_rows.specs.Rows.{ResidueMatrix, transposed}
 use Rattle.row_space.specs.Factors.{AreFactors, row_at}
 use Rattle.row_space.specs.Kernel.{IsKernel}
 use Rattle.row_space.specs.Solution.{IsReducedSolution, IsRefutingCombination, IsSolution}
-use Rattle.kernel_solve.specs.declared.prepared.Reply.{Reply}
 use Rattle.kernel_solve.specs.declared.prepared.Reply.TheVariants.{Solution, Refuted}
 use Rattle.kernel_solve.specs.Column.{column}
 use Rattle.kernel_solve.specs.Prepared.{FitTogether, IsPreparedFor, IsReply, Preparation, preparation}

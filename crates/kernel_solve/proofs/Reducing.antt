@@ -1,10 +1,10 @@
 -- A solution from which the rows of the kernel basis are taken until it is 0 where they end.
-use Rattle.std.proofs.Common.{ℕ, ◌≡◌, ◌≢◌, ◌+◌, ◌-◌, ◌*◌, ◌%◌, ◌<◌, ◌≤◌, inl, inr, List, length, slice_index, sym, refl, ap, ap₂, subst, ◌∙◌, arith, mul-zero, mul-one, mod-eq_of_lt}
+use Rattle.std.proofs.Common.{ℕ, ◌≡◌, ◌≢◌, ◌+◌, ◌-◌, ◌*◌, ◌%◌, ◌<◌, ◌≤◌, inl, inr, List, slice_index, sym, ap, subst, ◌∙◌, arith, mul-zero, mod-eq_of_lt}
 use native.Mathlib.Nat.{zero-mod}
 use Rattle.std.proofs.lemmas.Bool.{cases_eq}
-use Rattle.residue_words.specs.Matrix.{Matrix, IsVector, apply, entry, row, zeros}
+use Rattle.residue_words.specs.Matrix.{Matrix, IsVector, apply, entry, row}
 use Rattle.residue_words.proofs.Residues.{multiple_zero}
-use Rattle.residue_words.proofs.Vectors.{apply_linear, apply_vector, at_list_of, at_mix, at_zeros, length_list_of, list_equal, mix}
+use Rattle.residue_words.proofs.Vectors.{apply_linear, apply_vector, at_mix, at_zeros, length_list_of, list_equal, mix}
 use Rattle.row_space.specs.Kernel.{EndsAt, HasEnds, IsKernel, IsNull}
 use Rattle.row_space.specs.Solution.{IsReducedSolution, IsSolution}
 use Rattle.kernel_solve.specs.Substituted.{AddsTimes}

@@ -2,13 +2,13 @@
 use Rattle.std.proofs.Common.{ℕ, zero, suc, ◌≡◌, ◌≢◌, ◌+◌, ◌*◌, ◌%◌, ◌<◌, ◌≤◌, ◌⊎◌, inl, inr, List, length, slice_index, sym, ap, subst, ◌∙◌, arith, mul-zero, zero-mul, mul_comm, mod-eq_of_lt, mod-lt}
 use native.Mathlib.Nat.{zero-mod}
 use Rattle.std.proofs.lemmas.Bool.{cases_eq, cases_lt}
-use Rattle.residue_words.specs.Residues.{IsPrime, sum_below}
+use Rattle.residue_words.specs.Residues.{IsPrime}
 use Rattle.residue_words.specs.Residues as spec
 use Rattle.residue_words.specs.Matrix.{Matrix, IsMatrix, IsVector, apply, combine, dot, entry, list_of, row, zeros}
 use Rattle.residue_words.proofs.Inverses.{inverse_is}
 use Rattle.residue_words.proofs.Residues.{inverse, no_divisors}
-use Rattle.residue_words.proofs.Sums.{sum_equal, sum_has, sum_single, sum_zero}
-use Rattle.residue_words.proofs.Vectors.{at_apply, at_combine, at_mix, at_zeros, combine_linear, dot_combine, dot_linear, list_of_equal, mix, mix_vector}
+use Rattle.residue_words.proofs.Sums.{sum_equal, sum_single, sum_zero}
+use Rattle.residue_words.proofs.Vectors.{at_apply, at_mix, at_zeros, combine_linear, dot_combine, dot_linear, list_of_equal, mix, mix_vector}
 use Rattle.row_space.specs.Kernel.{EndsAt, HasEnds, IsKernel, IsNull}
 use Rattle.row_space.specs.Solution.{Annuls, IsRefutingCombination, IsSolution}
 use Rattle.row_space.proofs.Solvable.{alternative_holds}

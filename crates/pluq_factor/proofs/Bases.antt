@@ -5,14 +5,14 @@ use Rattle.residue_words.specs.Matrix.{Matrix, IsMatrix}
 use Rattle.row_space.specs.Echelon.{IsIndependent, SameSpan}
 use Rattle.row_space.proofs.Counting.{independent_height}
 use Rattle.row_space.proofs.Spans.{places_independent, same_span_chained}
-use Rattle.sparse_rows.specs.Rows.{ResidueMatrix}
+use Rattle.sparse_rows.specs.Rows.{ResidueMatrix, above}
 use Rattle.sparse_rows.specs.declared.rows.TheConstants.{LARGEST_SIZE}
 use Rattle.triangular_solve.specs.Reduced.{IsComplement}
 use Rattle.triangular_solve.specs.Triangle.{TriangleState}
 use Rattle.dense_finish.specs.Factors.{IsRightFactored}
 use Rattle.dense_finish.specs.declared.right_factor.RightFactor.{RightFactor}
 use Rattle.echelon_form.specs.Form.{Form, IsFormOf}
-use Rattle.schur_rows.specs.Round.{FitsComplement, above, pivot_rows}
+use Rattle.schur_rows.specs.Round.{FitsComplement, pivot_rows}
 use Rattle.schur_rows.specs.Streamed.{IsBasisLeft}
 use Rattle.schur_rows.proofs.FactorRows.{factor_rows_independent, factor_rows_span}
 use Rattle.schur_rows.proofs.Spanning.{round_spanned}

@@ -1,19 +1,19 @@
 -- Factors that rounds give.
-use Rattle.std.proofs.Common.{ℕ, zero, suc, ◌≡◌, ◌≢◌, ◌+◌, ◌-◌, ◌*◌, ◌%◌, ◌<◌, ◌≤◌, inl, inr, List, [], ◌++◌, length, slice_index, sym, refl, ap, ap₂, subst, ◌∙◌, arith, length-append, mod-eq_of_lt}
+use Rattle.std.proofs.Common.{ℕ, zero, suc, ◌≡◌, ◌≢◌, ◌+◌, ◌-◌, ◌*◌, ◌%◌, ◌<◌, ◌≤◌, List, [], ◌++◌, length, slice_index, sym, refl, ap, subst, ◌∙◌, arith, length-append, mod-eq_of_lt}
 use Rattle.residue_words.specs.declared.plain.Pair.{Pair}
-use Rattle.residue_words.specs.Residues.{IsPrime, sum_below}
-use Rattle.residue_words.specs.Matrix.{Matrix, IsMatrix, IsVector, entry, row}
+use Rattle.residue_words.specs.Residues.{IsPrime}
+use Rattle.residue_words.specs.Matrix.{Matrix, IsMatrix, entry}
 use Rattle.residue_words.proofs.Sums.{sum_none}
 use Rattle.residue_words.proofs.Vectors.{entry_residue}
 use Rattle.row_space.specs.Factors.{AreFactors, row_at, col_at}
-use Rattle.sparse_rows.specs.Rows.{ResidueMatrix, beside}
+use Rattle.sparse_rows.specs.Rows.{ResidueMatrix, above, beside}
 use Rattle.dense_finish.specs.declared.factors.Factors.{Factors}
 use Rattle.dense_finish.specs.Factors.{IsFactored}
 use Rattle.pivot_table.specs.Order.{Triangular}
 use Rattle.pivot_table.specs.Selected.{Selected}
-use Rattle.triangular_solve.specs.Reduced.{IsComplement, IsReduced}
+use Rattle.triangular_solve.specs.Reduced.{IsComplement}
 use Rattle.triangular_solve.specs.Triangle.{TriangleState}
-use Rattle.schur_rows.specs.Round.{FitsRound, IsRound, above, pivot_rows}
+use Rattle.schur_rows.specs.Round.{FitsRound, IsRound, pivot_rows}
 use Rattle.schur_rows.specs.declared.round.SchurRows.{SchurRows}
 use Rattle.schur_rows.proofs.FactorRows.{fit_few}
 use Rattle.schur_rows.proofs.Joining.{joined}

@@ -1,16 +1,14 @@
 -- A list begins with the pivots of at most one round.
-use Rattle.std.proofs.Common.{ℕ, suc, ◌≡◌, ◌≢◌, ◌+◌, ◌<◌, ◌≤◌, ◌⊎◌, inl, inr, List, [], ◌∷◌, ◌++◌, length, get_or, take, drop, sym, refl, ap, subst, ◌∙◌, arith, length-take}
+use Rattle.std.proofs.Common.{ℕ, ◌≡◌, ◌≢◌, ◌+◌, ◌<◌, ◌≤◌, ◌⊎◌, inl, inr, List, [], ◌∷◌, ◌++◌, length, get_or, take, drop, sym, ap, subst, ◌∙◌, arith, length-take}
 use Rattle.std.specs.List.{Contains}
 use Rattle.std.proofs.Math.Seq.{take-append_seam, drop-append_seam}
-use Rattle.std.proofs.lemmas.Bool.{cases_eq, cases_lt}
+use Rattle.std.proofs.lemmas.Bool.{cases_lt}
 use Rattle.std.proofs.lemmas.List.{get_or-map, get_or-take, get_or_default, take-append-le, take_all}
 use Rattle.residue_words.specs.declared.plain.Pair.{Pair}
-use Rattle.residue_words.specs.Residues.{IsPrime}
-use Rattle.residue_words.specs.Matrix.{Matrix, IsMatrix, entry}
+use Rattle.residue_words.specs.Matrix.{Matrix, entry}
 use Rattle.row_space.specs.Factors.{row_at, col_at}
-use Rattle.pivot_table.specs.History.{Alive, HasCol, HasRow, Maximal, pair}
+use Rattle.pivot_table.specs.History.{Alive, Maximal}
 use Rattle.pivot_table.specs.Order.{Triangular}
-use Rattle.pivot_table.specs.Selected.{Selected}
 use Rattle.triangular_solve.specs.Reduced.{IsComplement}
 use Rattle.schur_rows.proofs.Distinct.{triangular_columns, triangular_rows}
 use Rattle.schur_rows.specs.Laws.{ComplementIsOne}

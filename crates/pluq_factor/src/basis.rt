@@ -1,7 +1,7 @@
 // Rows that show the row space.
 ghost use Rattle.std.specs.Prelude.{◌≡◌, ◌≤◌, ◌+◌, IfOk};
 ghost use Rattle.sparse_rows.specs.declared.rows.TheConstants.{LARGEST_SIZE};
-ghost use Rattle.schur_rows.specs.Round.{above};
+ghost use Rattle.sparse_rows.specs.Rows.{above};
 ghost use Rattle.pluq_factor.specs.Basis.{IsBasis};
 
 use crate::extent::Extent;
@@ -10,7 +10,6 @@ use crate::round_pivots::{Left, Rest, take_left};
 use dense_finish::{RightFactor, finish_right};
 use echelon_form::Echelon;
 use optimistic_search::Gate;
-use schur_rows::append_all;
 use sparse_rows::{LARGEST_SIZE, Rows};
 use std::alloc::{AllocError, Global};
 use std::thread::Threads;
@@ -134,19 +133,19 @@ fn basis_from<R: Threads + Sync, G: Gate>(
     // The call's contract tells that the entries are residues.
     let _ = rest.height();
     if is_basis {
-        let whole = with_below(alloc, top, &rest)?;
+        let whole = with_below(top, &rest)?;
         return Ok(whole);
     }
     let more = rounds_behind(alloc, &rest, rounds - 1)?;
     let below = basis_from(rt, alloc, rest, workers, more, gate)?;
     // And here too.
     let _ = below.height();
-    let basis = with_below(alloc, top, &below)?;
+    let basis = with_below(top, &below)?;
     Ok(basis)
 }
 
 // The rows with others below them; without these where there would be more than a matrix has, which a prime modulus excludes.
-fn with_below(alloc: Global, top: Rows, below: &Rows) -> Result<Rows, AllocError>
+fn with_below(top: Rows, below: &Rows) -> Result<Rows, AllocError>
     requires modulus { top.modulus ≡ below.now.modulus }
     requires width { top.matrix.width ≡ below.now.matrix.width }
     ensures modulus { IfOk result (λ rows. rows.modulus ≡ top.modulus) }
@@ -158,6 +157,6 @@ fn with_below(alloc: Global, top: Rows, below: &Rows) -> Result<Rows, AllocError
     if below.height() > LARGEST_SIZE - basis.height() {
         return Ok(basis);
     }
-    append_all(alloc, &mut basis, below)?;
+    basis.append_all(below)?;
     Ok(basis)
 }

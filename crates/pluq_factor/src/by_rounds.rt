@@ -1,9 +1,8 @@
 // Factors by rounds.
 ghost use Rattle.std.specs.Prelude.{◌≡◌, ◌≤◌, ◌+◌, ◌++◌, IfOk};
 ghost use Rattle.residue_words.specs.Residues.{IsPrime};
-ghost use Rattle.sparse_rows.specs.Rows.{beside};
+ghost use Rattle.sparse_rows.specs.Rows.{above, beside};
 ghost use Rattle.sparse_rows.specs.declared.rows.TheConstants.{LARGEST_SIZE};
-ghost use Rattle.schur_rows.specs.Round.{above};
 ghost use Rattle.pluq_factor.specs.Rounds.{AreFactorsOf, AreWithoutPivots};
 ghost use Rattle.pluq_factor.specs.Staged.{Staged};
 
@@ -13,7 +12,7 @@ use dense_finish::{Factors, finish};
 use optimistic_search::Gate;
 use pivot_table::Pair;
 use residue_words::Modulus;
-use schur_rows::{SchurRows, append_all};
+use schur_rows::SchurRows;
 use sparse_rows::{List, Rows};
 use std::alloc::{AllocError, Global};
 use std::thread::Threads;
@@ -131,6 +130,6 @@ fn join(
     let pivots = both(alloc, pairs, below.pivots.items())?;
     let l = coefficients.beside(alloc, &below.l)?;
     let mut u = top;
-    append_all(alloc, &mut u, &below.u)?;
+    u.append_all(&below.u)?;
     Ok(Factors { pivots, l, u })
 }

@@ -1,9 +1,9 @@
 -- The one inverse of a modulo p, or none.
-use Rattle.std.proofs.Common.{ℕ, zero, suc, Bool, true, false, cond, eqb, ◌≡◌, ◌≢◌, ◌+◌, ◌*◌, ◌-◌, ◌%◌, ◌<◌, ◌≤◌, ◌⊎◌, inl, inr, sym, refl, ap, ◌∙◌, arith, mod-eq_of_lt, mod-lt}
+use Rattle.std.proofs.Common.{ℕ, zero, suc, Bool, true, false, eqb, ◌≡◌, ◌≢◌, ◌+◌, ◌*◌, ◌-◌, ◌%◌, ◌<◌, ◌≤◌, ◌⊎◌, inl, inr, sym, refl, ap, ◌∙◌, arith, mod-eq_of_lt}
 use Rattle.std.proofs.Math.Nat.{zero-mod}
 use Rattle.std.proofs.lemmas.Bool.{cases_Bool, cases_eq}
 use Rattle.std.proofs.lemmas.Bool.Decides.{nat_tests}
-use Rattle.residue_words.specs.Residues.{IsPrime, inverse, inverse_below}
+use Rattle.residue_words.specs.Residues.{inverse, inverse_below}
 use Rattle.residue_words.proofs.Residues.{mul_same, product_zero_left, residue_equal, right_zero, multiple_zero}
 use Rattle.residue_words.proofs.Euclid.{IsEuclid, euclid_factor, signed_factor}
 

@@ -6,8 +6,8 @@ use Rattle.std.proofs.lemmas.List.FromFn.{get_or-map-range_with_len, length-map-
 use Rattle.residue_words.specs.declared.plain.Pair.{Pair}
 use Rattle.residue_words.specs.Matrix.{Matrix, IsMatrix, IsVector, entry, row}
 use Rattle.row_space.specs.Factors.{row_at, col_at}
-use Rattle.sparse_rows.specs.Rows.{beside}
-use Rattle.schur_rows.specs.Round.{above, pivot_rows}
+use Rattle.sparse_rows.specs.Rows.{above, beside}
+use Rattle.schur_rows.specs.Round.{pivot_rows}
 
 -- what holds of the first n numbers and of the m behind them holds of all
 pub each_of : (n m : ℕ) (P : ℕ → Type 0) → ((k : ℕ) → k < n → P k) → ((t : ℕ) → t < m → P (n + t)) → (k : ℕ) → k < n + m → P k

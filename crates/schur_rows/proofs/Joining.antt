@@ -9,10 +9,10 @@ use Rattle.residue_words.proofs.Sums.{sum_equal, sum_split}
 use Rattle.residue_words.proofs.Vectors.{at_combine, entry_residue, length_list_of, list_equal}
 use Rattle.row_space.specs.Factors.{AreFactors, FitAsFactors, row_at, col_at}
 use Rattle.row_space.proofs.Triangular.{upper_zero}
-use Rattle.sparse_rows.specs.Rows.{beside}
+use Rattle.sparse_rows.specs.Rows.{above, beside}
 use Rattle.pivot_table.specs.Order.{Triangular}
 use Rattle.triangular_solve.specs.Triangle.{TriangleState}
-use Rattle.schur_rows.specs.Round.{IsRound, above, pivot_rows}
+use Rattle.schur_rows.specs.Round.{IsRound, pivot_rows}
 use Rattle.schur_rows.specs.declared.round.SchurRows.{SchurRows}
 use Rattle.schur_rows.specs.Laws.{RoundJoins}
 use Rattle.schur_rows.proofs.Distinct.{triangular_columns, triangular_rows}

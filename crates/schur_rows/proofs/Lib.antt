@@ -1,6 +1,4 @@
 pub mod Above
-pub mod Below
-pub mod Copying
 pub mod Dealing
 pub mod Distinct
 pub mod FactorRows

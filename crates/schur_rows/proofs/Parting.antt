@@ -10,7 +10,7 @@ use Rattle.residue_words.proofs.Sums.{sum_zero}
 use Rattle.residue_words.proofs.Vectors.{at_list_of, at_zeros, length_list_of, list_equal, vector_of, zeros_vector}
 use Rattle.row_space.specs.Factors.{row_at, col_at}
 use Rattle.row_space.specs.Inverse.{unit}
-use Rattle.sparse_rows.specs.Rows.{IsNextFilled, IsZeroRow, ResidueMatrix, ResidueRow, nonzeros, support}
+use Rattle.sparse_rows.specs.Rows.{IsNextFilled, IsZeroRow, ResidueMatrix, ResidueRow, above, nonzeros, support}
 use Rattle.sparse_rows.specs.declared.rows.TheConstants.{LARGEST_SIZE}
 use Rattle.sparse_rows.specs.Stored.{spread}
 use Rattle.sparse_rows.proofs.Spread.{spread_support}
@@ -22,7 +22,6 @@ use Rattle.triangular_solve.specs.declared.reduced.Reduced.{Reduced}
 use Rattle.triangular_solve.specs.Triangle.{TriangleState}
 use Rattle.schur_rows.specs.Parts.{AddsLeft, AddsRow, AddsZeros, AreZeroRows, MayTakeRow, IsPart, IsPartTo, IsRowOfRound, Joins, itself}
 use Rattle.schur_rows.specs.PivotNumbers.{IsRowOfPair}
-use Rattle.schur_rows.specs.Round.{above}
 use Rattle.schur_rows.specs.declared.round.SchurRows.{SchurRows}
 use Rattle.schur_rows.proofs.Above.{above_first, above_matrix, above_second, each_of}
 use Rattle.schur_rows.proofs.Distinct.{triangular_rows}

@@ -16,10 +16,11 @@ use Rattle.row_space.proofs.Exists.{rref_of_each}
 use Rattle.row_space.proofs.Rows.{rank_of_independent}
 use Rattle.row_space.proofs.Spans.{places_independent, same_span_of_rows}
 use Rattle.row_space.proofs.Triangular.{upper_zero}
+use Rattle.sparse_rows.specs.Rows.{above}
 use Rattle.pivot_table.specs.Order.{Triangular}
 use Rattle.triangular_solve.specs.Reduced.{IsReduced}
 use Rattle.triangular_solve.specs.Reduced.{IsComplement}
-use Rattle.schur_rows.specs.Round.{above, pivot_rows}
+use Rattle.schur_rows.specs.Round.{pivot_rows}
 use Rattle.schur_rows.specs.Laws.{RoundRank, RoundSpans}
 use Rattle.schur_rows.proofs.Above.{above_first, above_matrix, above_second, each_of, pivot_height, pivot_row, pivots_matrix}
 use Rattle.schur_rows.proofs.Unique.{diagonal, pivot_or_not}

@@ -9,14 +9,13 @@ use Rattle.row_space.proofs.Counting.{span_height}
 use Rattle.row_space.proofs.Exists.{rref_of_each}
 use Rattle.row_space.proofs.Rows.{rank_of_independent}
 use Rattle.row_space.proofs.Spans.{same_span_chained, same_span_of_rows}
-use Rattle.sparse_rows.specs.Rows.{ResidueMatrix}
+use Rattle.sparse_rows.specs.Rows.{ResidueMatrix, above}
 use Rattle.pivot_table.specs.Order.{Triangular}
 use Rattle.triangular_solve.specs.Triangle.{TriangleState}
 use Rattle.dense_finish.specs.Factors.{IsFactored, IsRightFactored}
 use Rattle.dense_finish.specs.declared.factors.Factors.{Factors}
 use Rattle.dense_finish.specs.declared.right_factor.RightFactor.{RightFactor}
 use Rattle.schur_rows.specs.Parts.{IsPartTo}
-use Rattle.schur_rows.specs.Round.{above}
 use Rattle.schur_rows.specs.Streamed.{IsBasisLeft, IsBasisUpTo}
 use Rattle.schur_rows.specs.declared.round.SchurRows.{SchurRows}
 use Rattle.schur_rows.proofs.Above.{above_first, above_matrix, above_second, each_of}

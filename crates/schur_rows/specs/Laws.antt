@@ -5,11 +5,11 @@ use Rattle.residue_words.specs.Matrix.{Matrix, IsMatrix}
 use Rattle.residue_words.specs.declared.plain.Pair.{Pair}
 use Rattle.row_space.specs.Echelon.{HasRank, IsIndependent, SameSpan}
 use Rattle.row_space.specs.Factors.{AreFactors}
-use Rattle.sparse_rows.specs.Rows.{beside}
+use Rattle.sparse_rows.specs.Rows.{above, beside}
 use Rattle.pivot_table.specs.Order.{Triangular}
 use Rattle.triangular_solve.specs.Reduced.{IsComplement}
 use Rattle.triangular_solve.specs.Triangle.{TriangleState}
-use Rattle.schur_rows.specs.Round.{IsRound, above, pivot_rows}
+use Rattle.schur_rows.specs.Round.{IsRound, pivot_rows}
 use Rattle.schur_rows.specs.declared.round.SchurRows.{SchurRows}
 
 -- a matrix has at most one complement

@@ -38,10 +38,6 @@ pub record IsRound (t : TriangleState) (s : SchurRows) : Type 0 where
       entry s.coefficients.matrix (row_at t.pairs k) i ≡ 0
   pub each : (i : ℕ) → i < t.rows.matrix.height → SplitsRow t s i
 
--- the rows of U below those of T
-abbrev pub above : Matrix → Matrix → Matrix
-above T U = record { height = T.height + U.height; width = T.width; rows = T.rows ++ U.rows }
-
 -- the rows of the pivots, in their order
 abbrev pub pivot_rows : Matrix → List Pair → Matrix
 pivot_rows A qs = selected A (map (λ q. q.row) qs)

@@ -10,7 +10,6 @@ mod round;
 mod row_ranges;
 mod row_reducer;
 mod sampling;
-mod stacking;
 mod streamed;
 #[cfg(test)]
 mod tests;
@@ -21,7 +20,6 @@ ghost use Rattle.schur_rows.specs.Laws.{ComplementIsOne, RoundJoins, RoundRank, 
 pub use round::{SchurRows, complement, schur};
 pub use row_reducer::RowReducer;
 pub use sampling::mean_left;
-pub use stacking::append_all;
 pub use streamed::left_basis;
 
 /// A matrix has at most one complement, for a prime modulus.

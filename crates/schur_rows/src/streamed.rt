@@ -1,7 +1,7 @@
 // A basis of what a round leaves, without storing it.
 ghost use Rattle.std.specs.Prelude.{◌≡◌, ◌<◌, ◌≤◌, ◌+◌, IfOk};
 ghost use Rattle.sparse_rows.specs.declared.rows.TheConstants.{LARGEST_SIZE};
-ghost use Rattle.schur_rows.specs.Round.{above};
+ghost use Rattle.sparse_rows.specs.Rows.{above};
 ghost use Rattle.schur_rows.specs.PivotNumbers.{HasNumbers};
 ghost use Rattle.schur_rows.specs.Streamed.{IsBasisLeft, IsBasisUpTo};
 
@@ -10,7 +10,6 @@ use crate::round::SchurRows;
 use crate::row_ranges::end_of;
 use crate::row_reducer::RowReducer;
 use crate::sampling::total_left;
-use crate::stacking::append_all;
 use crate::workers::left_between;
 use dense_finish::{RightFactor, finish_right};
 use sparse_rows::Rows;
@@ -108,7 +107,7 @@ pub(crate) fn basis_by<R: Threads + Sync>(
 }
 
 // The rows below those of a basis, which are the rows alone where the basis has none.
-fn stacked(alloc: Global, basis: Rows, below: Rows) -> Result<Rows, AllocError>
+fn stacked(basis: Rows, below: Rows) -> Result<Rows, AllocError>
     requires modulus { below.modulus ≡ basis.modulus }
     requires width { below.matrix.width ≡ basis.matrix.width }
     requires height { basis.matrix.height + below.matrix.height ≤ LARGEST_SIZE }
@@ -119,7 +118,7 @@ fn stacked(alloc: Global, basis: Rows, below: Rows) -> Result<Rows, AllocError>
         return Ok(below);
     }
     let mut rows = basis;
-    append_all(alloc, &mut rows, &below)?;
+    rows.append_all(&below)?;
     Ok(rows)
 }
 
@@ -149,7 +148,7 @@ fn basis_with<R: Threads + Sync>(
         rt, alloc, reducer, pivot_rows, workers, false, total, from, to,
     )?;
     let SchurRows { rows: below, .. } = left;
-    let stacked = stacked(alloc, basis, below)?;
+    let stacked = stacked(basis, below)?;
     let RightFactor { u, .. } = finish_right(rt, alloc, stacked, workers)?;
     Ok(u)
 }

@@ -9,7 +9,6 @@ use crate::round::SchurRows;
 use crate::row_ranges::{no_rows, part_of, share_of_rows};
 use crate::row_reducer::RowReducer;
 use crate::sampling::total_left;
-use crate::stacking::append_all;
 use std::alloc::{AllocError, Global};
 use std::thread;
 use std::thread::Threads;
@@ -187,7 +186,7 @@ fn merged(
     let mut made = no_rows(alloc, reducer, deal.kept, deal.to - deal.from, entries)?;
     for j in 0..deal.count {
         match &shares[j % deal.workers] {
-            Ok(parts) => join(alloc, &mut made, &parts[j / deal.workers])?,
+            Ok(parts) => join(&mut made, &parts[j / deal.workers])?,
             Err(e) => return Err(*e),
         }
     }
@@ -195,7 +194,7 @@ fn merged(
 }
 
 // Puts a part below what there is.
-fn join(alloc: Global, made: &mut SchurRows, part: &SchurRows) -> Result<(), AllocError>
+fn join(made: &mut SchurRows, part: &SchurRows) -> Result<(), AllocError>
     requires modulus { made.old.rows.modulus ≡ part.now.rows.modulus }
     requires width { made.old.rows.matrix.width ≡ part.now.rows.matrix.width }
     requires coefficient_modulus { made.old.coefficients.modulus ≡ part.now.coefficients.modulus }
@@ -205,7 +204,7 @@ fn join(alloc: Global, made: &mut SchurRows, part: &SchurRows) -> Result<(), All
         + part.now.coefficients.matrix.height ≤ LARGEST_SIZE }
     ensures { OnOk result (Joins part.now made.old made.new) }
 {
-    append_all(alloc, &mut made.rows, &part.rows)?;
-    append_all(alloc, &mut made.coefficients, &part.coefficients)?;
+    made.rows.append_all(&part.rows)?;
+    made.coefficients.append_all(&part.coefficients)?;
     Ok(())
 }

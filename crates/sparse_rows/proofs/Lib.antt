@@ -1,10 +1,12 @@
 pub mod Adding
+pub mod Below
 pub mod Building
 pub mod Cuts
 pub mod Expanding
 pub mod FilledRows
 pub mod Filling
 pub mod Grouping
+pub mod Joining
 pub mod Loops
 pub mod Marking
 pub mod Occurring

@@ -1,6 +1,6 @@
 -- Cells by the places of their rows among the rows that have some.
-use Rattle.std.proofs.Common.{ℕ, zero, suc, ◌≡◌, ◌≢◌, ◌+◌, ◌*◌, ◌/◌, ◌%◌, ◌<◌, ◌≤◌, inl, inr, List, [], ◌∷◌, ◌++◌, length, map, take, cond, eqb, get_or, slice_index, sym, refl, ap, ap₂, subst, ◌∙◌, arith}
-use Rattle.std.specs.List.{All, Contains, range_with_len}
+use Rattle.std.proofs.Common.{ℕ, zero, suc, ◌≡◌, ◌+◌, ◌<◌, ◌≤◌, inl, inr, List, [], ◌∷◌, ◌++◌, length, map, take, cond, eqb, get_or, slice_index, sym, refl, ap, ap₂, subst, ◌∙◌, arith}
+use Rattle.std.specs.List.{All, Contains}
 use Rattle.std.proofs.lemmas.Bool.{cases_eq, cases_lt, cond-true, cond-false, eq-eqb, ne_eqb}
 use Rattle.std.proofs.lemmas.List.{get_or-map, length-map, length-take-le, take_more}
 use Rattle.std.proofs.lemmas.List.Elements.{All-get_or, All-weaker}

@@ -1,5 +1,5 @@
 -- The support of a row of a matrix has just the columns with a nonzero entry.
-use Rattle.std.proofs.Common.{ℕ, ◌≡◌, ◌≢◌, ◌<◌, ◌⊎◌, length, slice_index, ⊎_elim, sym, subst, ◌∙◌, arith}
+use Rattle.std.proofs.Common.{ℕ, ◌≢◌, ◌<◌, length, slice_index, ⊎_elim, sym, subst, ◌∙◌, arith}
 use Rattle.std.specs.List.{Contains}
 use Rattle.residue_words.specs.Matrix.{Matrix, IsMatrix, row, entry}
 use Rattle.residue_words.proofs.Lists.{contains_at, place_in}

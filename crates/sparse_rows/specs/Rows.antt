@@ -134,6 +134,10 @@ beside A B = record {
   rows = map (λ i. row A i ++ row B i) (range_with_len 0 A.height);
 }
 
+-- the rows of B below those of A
+abbrev pub above : Matrix → Matrix → Matrix
+above A B = record { height = A.height + B.height; width = A.width; rows = A.rows ++ B.rows }
+
 -- the rows of A that are named, in that order
 abbrev pub selected : Matrix → List ℕ → Matrix
 selected A rows = record { height = length rows; width = A.width; rows = map (row A) rows }

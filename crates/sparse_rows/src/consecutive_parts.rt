@@ -1,7 +1,7 @@
 // Parts of a list, one after another.
 ghost use Rattle.sparse_rows.specs.declared.rows.TheConstants.{LARGEST_SIZE};
-ghost use Rattle.std.specs.Prelude.{◌≡◌, ◌<◌, ◌≤◌, ◌+◌, ◌-◌, length, slice_index, slice_range, IfOk};
-ghost use Rattle.sparse_rows.specs.Stored.{AreStarts, part_numbers};
+ghost use Rattle.std.specs.Prelude.{◌≡◌, ◌<◌, ◌≤◌, ◌+◌, ◌-◌, ◌^◌, ℕ, length, slice_index, slice_range, IfOk, OnErr, OnOk};
+ghost use Rattle.sparse_rows.specs.Stored.{AreJoined, AreStarts, part_numbers};
 
 use std::alloc::{AllocError, Global};
 
@@ -30,4 +30,22 @@ pub(crate) fn part_numbers(alloc: Global, starts: &[usize]) -> Result<Vec<u32>, 
         numbers.resize(starts[i + 1], i as u32)?;
     }
     Ok(numbers)
+}
+
+// Appends the starts of further parts, whose items come behind the first `by` items: all but the first, since it is where the
+// last part ends. Where memory is wanted the starts are as before.
+pub(crate) fn append_starts(
+    starts: &mut Vec<usize>,
+    from: &[usize],
+    by: usize,
+) -> Result<(), AllocError>
+    requires fit { (k : ℕ) → k < length from.now → by + slice_index from.now k < 2 ^ 64 }
+    ensures ok { OnOk result (AreJoined by starts.old.items from.now starts.new.items) }
+    ensures err { OnErr result (starts.new.items ≡ starts.old.items) }
+{
+    starts.reserve(from.len())?;
+    for k in 1..from.len() {
+        starts.push_reserved(by + from[k]);
+    }
+    Ok(())
 }

@@ -8,7 +8,7 @@ ghost use Rattle.residue_words.specs.Residues.{sum_below};
 ghost use Rattle.sparse_rows.specs.Columns.{GoTo};
 ghost use Rattle.sparse_rows.specs.Placed.{AgreeBelow, AreBothZeroFrom, IsZeroBetween, HasRowAt, IsNextInEither};
 ghost use Rattle.sparse_rows.specs.Cells.{AreEntries, IsWithin, matrix_of_cells, place_of, weight};
-ghost use Rattle.sparse_rows.specs.Rows.{AreBelow, AreEnough, AreFilled, AreOccupied, AreRising, AreZeroFrom, FitsMatrix, IsNextFilled, beside, built, entry_count, identity, matrix_by, narrowed, nonzeros, row_triples, selected, support, transposed, triple, triples_of, widened, with_zeros};
+ghost use Rattle.sparse_rows.specs.Rows.{above, AreBelow, AreEnough, AreFilled, AreOccupied, AreRising, AreZeroFrom, FitsMatrix, IsNextFilled, beside, built, entry_count, identity, matrix_by, narrowed, nonzeros, row_triples, selected, support, transposed, triple, triples_of, widened, with_zeros};
 ghost use Rattle.sparse_rows.specs.Stored.{IsSparse, spread, with_row, with_sparse_row};
 
 use crate::builder::RowsBuilder;
@@ -109,6 +109,43 @@ impl Rows {
         ensures err { OnErr result (self.new.matrix ≡ self.old.matrix) }
     {
         self.append_slices(row.cols(), row.vals())
+    }
+
+    /// Appends the rows of another matrix, in the time of its entries and, where each of its rows is stored, its height: where each
+    /// row of both is stored, the blocks are copied.
+    pub fn append_all(&mut self, from: &Rows) -> Result<(), AllocError>
+        requires modulus { self.old.modulus ≡ from.now.modulus }
+        requires width { self.old.matrix.width ≡ from.now.matrix.width }
+        requires height_small { self.old.matrix.height + from.now.matrix.height ≤ LARGEST_SIZE }
+        ensures modulus { self.new.modulus ≡ self.old.modulus }
+        ensures matrix { OnOk result (self.new.matrix ≡ above self.old.matrix from.now.matrix) }
+    {
+        if self.every_row && from.every_row {
+            self.stored.append_all(&from.stored)?;
+            self.height += from.height;
+            return Ok(());
+        }
+        self.append_filled(from)
+    }
+
+    // The same row by row, where rows without an entry cost nothing.
+    fn append_filled(&mut self, from: &Rows) -> Result<(), AllocError>
+        requires modulus { self.old.modulus ≡ from.now.modulus }
+        requires width { self.old.matrix.width ≡ from.now.matrix.width }
+        requires height_small { self.old.matrix.height + from.now.matrix.height ≤ LARGEST_SIZE }
+        ensures modulus { self.new.modulus ≡ self.old.modulus }
+        ensures matrix { OnOk result (self.new.matrix ≡ above self.old.matrix from.now.matrix) }
+    {
+        // The call tells that `from` is a matrix of residues.
+        let height = from.height();
+        let mut next = 0;
+        while let Some(i) = from.next_filled(next) {
+            self.append_zeros(i - next)?;
+            self.append_slices(from.cols(i), from.vals(i))?;
+            next = i + 1;
+        }
+        self.append_zeros(height - next)?;
+        Ok(())
     }
 
     /// Appends this many rows of zeros. Where memory is wanted the matrix is as before.

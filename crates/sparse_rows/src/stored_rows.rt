@@ -5,12 +5,12 @@ ghost use Rattle.std.specs.Prelude.{◌≡◌, ◌<◌, ◌≤◌, ◌+◌, ◌^
 ghost use Rattle.std.specs.Option.{MatchOption};
 ghost use Rattle.residue_words.specs.Matrix.{IsMatrix, row};
 ghost use Rattle.sparse_rows.specs.Cells.{AreEntries, IsWithin, matrix_of_cells, place_of, weight};
-ghost use Rattle.sparse_rows.specs.Rows.{AreBelow, AreEnough, AreOccupied, AreRising, AreZeroFrom, IsNextFilled, entry_count, matrix_by, narrowed, nonzeros, support, transposed, widened, with_zeros};
+ghost use Rattle.sparse_rows.specs.Rows.{above, AreBelow, AreEnough, AreOccupied, AreRising, AreZeroFrom, IsNextFilled, entry_count, matrix_by, narrowed, nonzeros, support, transposed, widened, with_zeros};
 ghost use Rattle.sparse_rows.specs.Stored.{IsSparse, spread, with_row, with_sparse_row};
 
 use crate::cells::{Cell, columns, row_starts, values};
 use crate::column_lists::{named_columns, occurring, places_among};
-use crate::consecutive_parts::{part, part_numbers};
+use crate::consecutive_parts::{append_starts, part, part_numbers};
 use crate::counting_sort::group;
 use residue_words::Modulus;
 use std::alloc::{AllocError, Global};
@@ -81,6 +81,23 @@ impl StoredRows {
         self.cols.extend_from_slice(cols)?;
         self.vals.extend_from_slice(vals)?;
         self.starts.push(self.cols.len())?;
+        Ok(())
+    }
+
+    // Appends the rows of another matrix, block by block. Where memory is wanted the matrix is as before.
+    pub(crate) fn append_all(&mut self, from: &StoredRows) -> Result<(), AllocError>
+        requires modulus { self.old.modulus ≡ from.now.modulus }
+        requires width { self.old.matrix.width ≡ from.now.matrix.width }
+        requires height_small { self.old.matrix.height + from.now.matrix.height ≤ LARGEST_SIZE }
+        ensures modulus { self.new.modulus ≡ self.old.modulus }
+        ensures matrix { OnOk result (self.new.matrix ≡ above self.old.matrix from.now.matrix) }
+        ensures err { OnErr result (self.new.matrix ≡ self.old.matrix) }
+    {
+        self.cols.reserve(from.cols.len())?;
+        self.vals.reserve(from.vals.len())?;
+        append_starts(&mut self.starts, &from.starts, self.cols.len())?;
+        self.cols.extend_from_slice(&from.cols)?;
+        self.vals.extend_from_slice(&from.vals)?;
         Ok(())
     }
 

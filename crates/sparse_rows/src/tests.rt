@@ -1,6 +1,6 @@
 // Each call once, on small matrices modulo 7 and on huge ones with few entries.
 ghost use Rattle.sparse_rows.specs.declared.rows.TheConstants.{LARGEST_SIZE};
-ghost use Rattle.std.specs.Prelude.{◌≡◌, ◌≤◌, IfOk};
+ghost use Rattle.std.specs.Prelude.{◌≡◌, ◌≤◌, ◌+◌, IfOk};
 
 use crate::{LARGEST_SIZE, List, Rows, RowsBuilder, Sparse};
 use residue_words::Modulus;
@@ -227,6 +227,33 @@ fn matrices_side_by_side(rt: HostRuntime) -> Result<(), Fail> {
     x.append_zeros(1)?;
     let wide = x.beside(alloc, &x)?;
     assert!(rt; lists(alloc, &wide, &[(5, 0, 1), (5, 2, 1), (8, 1, 2), (8, 3, 2)])?);
+    Ok(())
+}
+
+// Whether a matrix with another below it has the entries of both.
+fn is_stacked(alloc: Global, high: u32, low: u32) -> Result<bool, AllocError>
+    requires { high + low ≤ LARGEST_SIZE }
+{
+    let first = scattered(alloc, 20, high)?;
+    let second = scattered(alloc, 20, low)?;
+    let mut rows = built(alloc, high, 6, &first)?;
+    let below = built(alloc, low, 6, &second)?;
+    rows.append_all(&below)?;
+    let mut wanted = sums(alloc, 9, 6, &first)?;
+    for (i, j, v) in &sums(alloc, 9, 6, &second)? {
+        wanted.push((high.wrapping_add(*i), *j, *v))?;
+    }
+    lists(alloc, &rows, &wanted)
+}
+
+#[test]
+fn matrices_above_each_other(rt: HostRuntime) -> Result<(), Fail> {
+    let alloc = rt.alloc();
+    // Each row stored, or those alone that have an entry.
+    assert!(rt; is_stacked(alloc, 9, 9)?);
+    assert!(rt; is_stacked(alloc, 9, 1_000_000)?);
+    assert!(rt; is_stacked(alloc, 1_000_000, 9)?);
+    assert!(rt; is_stacked(alloc, 1_000_000, 1_000_000)?);
     Ok(())
 }
 

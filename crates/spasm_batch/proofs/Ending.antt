@@ -1,5 +1,5 @@
 -- What the code of a run tells of its words.
-use Rattle.std.proofs.Common.{ℕ, ◌≡◌, ◌⊎◌, List, refl, sym, ap, subst, ◌∙◌, inl, inr, arith}
+use Rattle.std.proofs.Common.{ℕ, ◌≡◌, ◌⊎◌, List, sym, ap, subst, ◌∙◌, inl, inr, arith}
 use Rattle.sms_text.specs.declared.reader.TheConstants.{LARGEST_INPUT}
 use Rattle.spasm_run.specs.Ran.{Run}
 use Rattle.batch_solve.specs.declared.batch_status.BatchStatus.{BatchStatus}

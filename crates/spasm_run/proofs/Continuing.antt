@@ -5,7 +5,7 @@ use Rattle.std.proofs.lemmas.List.{append_cancel_left}
 use Rattle.residue_words.specs.declared.modulus.TheConstants.{MODULUS_BOUND}
 use Rattle.residue_words.specs.Matrix.{Matrix}
 use Rattle.row_space.specs.Factors as plain
-use Rattle.row_space.specs.Factors.{AreFactors, IsValid, Shows}
+use Rattle.row_space.specs.Factors.{IsValid, Shows}
 use Rattle.schur_rows.proofs.FactorRows.{fit_few}
 use Rattle.sms_text.specs.declared.reader.TheConstants.{LARGEST_TEXT_SIZE}
 use Rattle.sms_text.specs.Lines.{lines}

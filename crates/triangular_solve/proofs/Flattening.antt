@@ -13,7 +13,7 @@ use Rattle.sparse_rows.specs.Rows.{ResidueMatrix, ResidueRow, nonzeros, support}
 use Rattle.sparse_rows.specs.Stored.{IsSparse, entry_at, spread, with_row}
 use Rattle.sparse_rows.proofs.Loops.{length_zeros, row_before, row_last, zero_at}
 use Rattle.sparse_rows.proofs.Spread.{at_spread, entry_here, entry_support, length_spread, spread_none, support_sparse}
-use Rattle.triangular_solve.specs.FlatRows.{AreFlat, IsFlatTail, IsFlattened, TakesIn, flat_row}
+use Rattle.triangular_solve.specs.FlatRows.{AreFlat, IsFlatTail, IsFlattened, TakesIn}
 use Rattle.triangular_solve.specs.PivotRows.{ArePlaced, IsAlike, PlacedRows}
 use Rattle.triangular_solve.specs.declared.flat_rows.FlatRows.{FlatRows}
 use Rattle.triangular_solve.proofs.Draining.{set_vector}

@@ -1,8 +1,7 @@
 use Rattle.std.proofs.Common.{◌-◌, ◌+◌, ◌<◌, ◌∙◌, ap₂, arith}
-use Rattle.sparse_rows.specs.Stored.{IsSparse}
 use Rattle.triangular_solve.specs.Leads.{no_rows}
 use Rattle.triangular_solve.proofs.Draining.{sparse_of}
-use Rattle.echelon_form.proofs.Keeping.{IsKeeping, keeping_all, keeping_more, keeping_none}
+use Rattle.echelon_form.proofs.Keeping.{keeping_all, keeping_more, keeping_none}
 use Rattle.echelon_form.proofs.sparse_elimination.eliminated.Goals as goal
 
 pub loop-i-init : goal.loop-i-init

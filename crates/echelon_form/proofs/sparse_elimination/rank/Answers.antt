@@ -1,4 +1,4 @@
-use Rattle.std.proofs.Common.{IfOk, subst, sym}
+use Rattle.std.proofs.Common.{subst, sym}
 use Rattle.std.proofs.lemmas.Result.{IfOk-weaker}
 use Rattle.sparse_rows.specs.Rows.{AreEnough}
 use Rattle.echelon_form.proofs.Widening.{narrow_rank, narrow_width}

@@ -2,7 +2,7 @@ use Rattle.std.proofs.Common.{Option, arith, subst}
 use Rattle.std.specs.Option.{IfSome}
 use Rattle.pluq_factor.specs.RoundPivots.{IsLeftBy}
 use Rattle.pluq_factor.specs.declared.round_pivots.Left.{Left}
-use Rattle.pluq_factor.proofs.Bases.{basis_itself, basis_joined, rest_modulus, rest_width}
+use Rattle.pluq_factor.proofs.Bases.{basis_itself, basis_joined}
 use Rattle.pluq_factor.proofs.basis.+basis_from.Goals as goal
 
 pub returns-then-is_basis : goal.returns-then-is_basis

@@ -1,9 +1,9 @@
-use Rattle.std.proofs.Common.{ℕ, suc, Option, ◌≡◌, ◌≤◌, ◌+◌, ◌++◌, ◌∙◌, List, [], length, ap, arith, subst, sym}
+use Rattle.std.proofs.Common.{ℕ, Option, ◌≡◌, ◌≤◌, ◌+◌, ◌++◌, ◌∙◌, List, [], length, ap, arith, subst, sym}
 use Rattle.std.specs.Option.{MatchOption}
 use Rattle.residue_words.specs.Matrix.{Matrix}
 use Rattle.residue_words.specs.declared.plain.Pair.{Pair}
+use Rattle.sparse_rows.specs.Rows.{above}
 use Rattle.pivot_table.specs.Selected.{Selected}
-use Rattle.schur_rows.specs.Round.{above}
 use Rattle.pluq_factor.specs.Rounds.{AreWithoutPivots}
 use Rattle.pluq_factor.specs.Staged.{Staged}
 use Rattle.pluq_factor.specs.RoundPivots.{IsRoundTaken}

@@ -2,7 +2,7 @@ use Rattle.std.proofs.Common.{Option, arith, subst}
 use Rattle.std.specs.Option.{IfSome}
 use Rattle.pluq_factor.specs.Counted.{LeavesRank}
 use Rattle.pluq_factor.specs.declared.round_pivots.Counted.{Counted}
-use Rattle.pluq_factor.proofs.Ranking.{counted_more, rank_least}
+use Rattle.pluq_factor.proofs.Ranking.{counted_more}
 use Rattle.pluq_factor.proofs.rank_by_rounds.count_rounds.Goals as goal
 
 pub overflow_sub-most : goal.overflow_sub-most

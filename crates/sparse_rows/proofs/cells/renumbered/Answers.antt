@@ -1,7 +1,3 @@
-use Rattle.std.proofs.Common.{ℕ, ◌≡◌, ◌+◌, ◌∙◌, List, [], ◌∷◌, ◌++◌, ap, ap₂, arith, length, slice_index, sym, take}
-use Rattle.std.proofs.lemmas.List.{length-take-le, take_all, take_more}
-use Rattle.sparse_rows.specs.declared.cells.Cell.{Cell}
-use Rattle.sparse_rows.specs.Cells.{renumbered}
 use Rattle.sparse_rows.proofs.Renumbering.{renumbered_next}
 use Rattle.sparse_rows.proofs.cells.renumbered.Goals as goal
 

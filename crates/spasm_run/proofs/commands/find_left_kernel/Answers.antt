@@ -1,6 +1,5 @@
 -- The kernel basis by the form of the transposed matrix.
 use Rattle.std.proofs.Common.{arith, refl}
-use Rattle.residue_words.specs.Matrix.{Matrix}
 use Rattle.sparse_rows.specs.Rows.{transposed}
 use Rattle.echelon_form.specs.Form.{IsFormOf}
 use Rattle.kernel_solve.proofs.Inverting.{form_same}

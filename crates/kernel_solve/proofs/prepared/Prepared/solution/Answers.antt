@@ -6,7 +6,6 @@ use Rattle.row_space.specs.Factors.{col_at, row_at}
 use Rattle.row_space.specs.Kernel.{IsKernel}
 use Rattle.row_space.specs.Solution.{IsReducedSolution, IsSolution}
 use Rattle.sparse_rows.specs.Rows.{ResidueMatrix}
-use Rattle.kernel_solve.specs.Column.{column}
 use Rattle.kernel_solve.specs.Prepared.{IsPreparedFor, Preparation}
 use Rattle.kernel_solve.specs.Substituted.{IsLower, IsUpper}
 use Rattle.kernel_solve.proofs.Preparing.{solution_holds, vector_moved}

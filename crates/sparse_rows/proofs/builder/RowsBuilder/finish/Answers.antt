@@ -7,7 +7,6 @@ use Rattle.sparse_rows.specs.Cells.{AreSums, place_of, triple_of, weight}
 use Rattle.sparse_rows.specs.Rows.{Building, built, matrix_by}
 use Rattle.sparse_rows.proofs.Building.{sums_built, sums_within}
 use Rattle.sparse_rows.proofs.builder.RowsBuilder.finish.Goals as goal
-use Rattle.sparse_rows.proofs.builder.RowsBuilder.finish.Goals.{After-deref}
 
 -- what a call made of a list's items, as it is read back
 read_back : (items new back rest : List Cell) (n : ℕ) → back ≡ take n (new ++ rest) → length new ≡ length items → n ≡ length items → back ≡ new

@@ -1,7 +1,7 @@
-use Rattle.std.proofs.Common.{◌≡◌, ◌<◌, ◌*◌, ◌+◌, length, slice_index, subst, sym, arith, ◌∙◌}
+use Rattle.std.proofs.Common.{subst, arith, ◌∙◌}
 use Rattle.std.proofs.lemmas.List.{get_or_default}
-use Rattle.sparse_rows.specs.ColumnSet.{AllZero, IsFirstMark}
-use Rattle.sparse_rows.proofs.Marking.{IsFirstWord, first_column, first_mark, first_word, none_marked, passed}
+use Rattle.sparse_rows.specs.ColumnSet.{AllZero}
+use Rattle.sparse_rows.proofs.Marking.{first_column, first_mark, first_word, none_marked}
 use Rattle.sparse_rows.proofs.column_set.ColumnSet.find_first.Goals as goal
 
 pub index-requires : goal.index-requires

@@ -1,4 +1,4 @@
-use Rattle.std.proofs.Common.{Option, Some, None, true, false, ◌≡◌, ◌∙◌, IfSome, sym, ap, length}
+use Rattle.std.proofs.Common.{Option, Some, None, true, ◌≡◌, ◌∙◌, IfSome, sym, ap, length}
 use Rattle.std.proofs.lemmas.Bool.{false≢true}
 use Rattle.std.proofs.lemmas.List.{length-set}
 use Rattle.std.specs.Option.{is_some}

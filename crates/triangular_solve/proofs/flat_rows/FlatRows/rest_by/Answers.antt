@@ -3,7 +3,6 @@ use Rattle.sparse_rows.specs.Rows.{ResidueRow}
 use Rattle.sparse_rows.proofs.Loops.{length_zeros}
 use Rattle.triangular_solve.specs.PivotRows.{IsSplitRow}
 use Rattle.triangular_solve.proofs.TakenRows.{left_parts, left_vector}
-use Rattle.triangular_solve.proofs.PivotReduction.{ascend_behind}
 use Rattle.triangular_solve.proofs.flat_rows.FlatRows.rest_by.Goals as goal
 
 pub returns-clause-left : goal.returns-clause-left

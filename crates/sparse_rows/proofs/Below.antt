@@ -2,11 +2,10 @@
 use Rattle.std.proofs.Common.{ℕ, suc, zero, ◌≡◌, ◌+◌, ◌-◌, ◌<◌, ◌≤◌, List, [], ◌∷◌, ◌++◌, length, replicate, take, sym, ap, ap₂, ◌∙◌, arith, append_assoc}
 use Rattle.std.proofs.lemmas.List.{append-nil, take_all, take_more}
 use Rattle.residue_words.specs.Matrix.{Matrix, IsMatrix, row, zeros}
-use Rattle.sparse_rows.specs.Rows.{AreZeroFrom, IsNextFilled, IsZeroRow, with_zeros}
+use Rattle.sparse_rows.specs.Rows.{above, AreZeroFrom, IsNextFilled, IsZeroRow, with_zeros}
 use Rattle.sparse_rows.specs.Stored.{with_row}
 use Rattle.sparse_rows.proofs.FilledRows.{zero_row}
 use Rattle.sparse_rows.proofs.Loops.{sized}
-use Rattle.schur_rows.specs.Round.{above}
 
 -- the first i rows
 abbrev pub front : ℕ → Matrix → Matrix
