@@ -1,8 +1,9 @@
 -- What compressed rows stand for: a plain matrix with its modulus, a plain row, a list.
-use Rattle.std.specs.Prelude.{◌≡◌, ◌≢◌, ◌<◌, ◌≤◌, ◌+◌, ◌*◌, ◌%◌, ◌==◌, ◌&&◌, if◌then◌else◌, ℕ, List, [], ◌∷◌, ◌++◌, length, map, replicate, slice_index, slice_set, Contains}
+use Rattle.std.specs.Prelude.{◌≡◌, ◌≢◌, ◌<◌, ◌≤◌, ◌+◌, ◌*◌, ◌%◌, ◌==◌, ◌&&◌, if◌then◌else◌, ℕ, List, [], ◌∷◌, ◌++◌, length, map, replicate, slice_index, slice_set, All, Contains}
 use Rattle.std.specs.List.{flat_map, range_with_len}
 use Rattle.residue_words.specs.Matrix.{IsVector, Matrix, entry, list_of, row, zeros}
 use Rattle.residue_words.specs.Residues.{sum_below}
+use Rattle.sparse_rows.specs.declared.rows.TheConstants.{LARGEST_SIZE}
 use Rattle.sparse_rows.specs.Stored.{entry_at}
 
 -- a matrix of residues, and the modulus
@@ -104,6 +105,12 @@ pub record FitsMatrix (m n p : ℕ) (t : ℕ × ℕ × ℕ) : Type 0 where
   pub row : t.0 < m
   pub column : t.1 < n
   pub residue : t.2 < p
+
+-- the sizes are in range, and each value lies inside
+pub record AllFit (m n p : ℕ) (ts : List (ℕ × ℕ × ℕ)) : Type 0 where
+  pub height : m ≤ LARGEST_SIZE
+  pub width : n ≤ LARGEST_SIZE
+  pub inside : All (FitsMatrix m n p) ts
 
 -- the entries of row i at these columns
 abbrev pub row_triples : ℕ → List ℕ → List ℕ → List (ℕ × ℕ × ℕ)

@@ -1,14 +1,14 @@
 // A matrix as compressed rows.
 ghost use Rattle.residue_words.specs.declared.modulus.TheConstants.{MODULUS_BOUND};
 ghost use Rattle.sparse_rows.specs.declared.rows.TheConstants.{LARGEST_SIZE};
-ghost use Rattle.std.specs.Prelude.{◌≡◌, ◌<◌, ◌≤◌, ◌+◌, ◌*◌, ◌%◌, ◌^◌, ℕ, [], ◌∷◌, ◌++◌, length, false, if◌then◌else◌, map, slice_index, All, IfOk, OnErr, OnOk};
+ghost use Rattle.std.specs.Prelude.{◌≡◌, ◌<◌, ◌≤◌, ◌+◌, ◌*◌, ◌%◌, ◌^◌, ℕ, [], ◌∷◌, ◌++◌, length, false, if◌then◌else◌, map, slice_index, All, IfNone, IfOk, IfSome, OnErr, OnOk};
 ghost use Rattle.std.specs.Option.{MatchOption};
 ghost use Rattle.residue_words.specs.Matrix.{IsMatrix, IsVector, apply, entry, row};
 ghost use Rattle.residue_words.specs.Residues.{sum_below};
 ghost use Rattle.sparse_rows.specs.Columns.{GoTo};
 ghost use Rattle.sparse_rows.specs.Placed.{AgreeBelow, AreBothZeroFrom, IsZeroBetween, HasRowAt, IsNextInEither};
 ghost use Rattle.sparse_rows.specs.Cells.{AreEntries, IsWithin, matrix_of_cells, place_of, weight};
-ghost use Rattle.sparse_rows.specs.Rows.{above, AreBelow, AreEnough, AreFilled, AreOccupied, AreRising, AreZeroFrom, FitsMatrix, IsNextFilled, beside, built, entry_count, identity, matrix_by, narrowed, nonzeros, row_triples, selected, support, transposed, triple, triples_of, widened, with_zeros};
+ghost use Rattle.sparse_rows.specs.Rows.{above, AllFit, AreBelow, AreEnough, AreFilled, AreOccupied, AreRising, AreZeroFrom, FitsMatrix, IsNextFilled, beside, built, entry_count, identity, matrix_by, narrowed, nonzeros, row_triples, selected, support, transposed, triple, triples_of, widened, with_zeros};
 ghost use Rattle.sparse_rows.specs.Stored.{IsSparse, spread, with_row, with_sparse_row};
 
 use crate::builder::RowsBuilder;
@@ -186,6 +186,34 @@ impl Rows {
             builder.push(*i, *j, *v)?;
         }
         builder.finish()
+    }
+
+    /// The same of values that may lie anywhere: `None` where a size is above `LARGEST_SIZE`, a place is outside or a value is no
+    /// residue.
+    pub fn checked_from_triples(
+        alloc: Global,
+        m: u32,
+        n: u32,
+        p: &Modulus,
+        triples: &[(u32, u32, u64)],
+    ) -> Result<Option<Rows>, AllocError>
+        ensures none { IfOk result (λ found. IfNone found (¬ AllFit m n p.now triples.now)) }
+        ensures some { IfOk result (λ found. IfSome found (λ rows. rows ≡ record {
+          modulus = p.now;
+          matrix = built p.now m n (map triple triples.now);
+        })) }
+    {
+        if m > LARGEST_SIZE || n > LARGEST_SIZE {
+            return Ok(None);
+        }
+        let modulus = p.p();
+        for (i, j, v) in triples {
+            if *i >= m || *j >= n || *v >= modulus {
+                return Ok(None);
+            }
+        }
+        let rows = Rows::from_triples(alloc, m, n, p, triples)?;
+        Ok(Some(rows))
     }
 
     // The matrix with these entries, which ascend by places. It takes 12 bytes an entry and 8 bytes a row.

@@ -8,20 +8,15 @@ use std::alloc::{AllocError, Global};
 use std::test::Fail;
 
 // The matrix of these places and values modulo 7.
-fn built(alloc: Global, m: u32, n: u32, triples: &[(u32, u32, u64)]) -> Result<Rows, AllocError>
-    requires height { m ≤ LARGEST_SIZE }
-    requires width { n ≤ LARGEST_SIZE }
+fn built(alloc: Global, m: u32, n: u32, triples: &[(u32, u32, u64)]) -> Result<Rows, Fail>
     ensures modulus { IfOk result (λ rows. rows.modulus ≡ 7) }
     ensures height { IfOk result (λ rows. rows.matrix.height ≡ m) }
     ensures width { IfOk result (λ rows. rows.matrix.width ≡ n) }
 {
-    let mut builder = RowsBuilder::new(alloc, m, n, Modulus::new(7))?;
-    for (i, j, v) in triples {
-        if *i < m && *j < n && *v < 7 {
-            builder.push(*i, *j, *v)?;
-        }
+    match Rows::checked_from_triples(alloc, m, n, &Modulus::new(7), triples)? {
+        Some(rows) => Ok(rows),
+        None => Err(Fail::new("a place is outside")),
     }
-    builder.finish()
 }
 
 // The sum modulo 7 of what stands at a place.
@@ -75,13 +70,11 @@ fn lists(alloc: Global, rows: &Rows, entries: &[(u32, u32, u64)]) -> Result<bool
 }
 
 // Whether what is pushed in no order is summed, in as many rows.
-fn is_summed(alloc: Global, height: u32, count: u32) -> Result<bool, AllocError>
-    requires { height ≤ LARGEST_SIZE }
-{
+fn is_summed(alloc: Global, height: u32, count: u32) -> Result<bool, Fail> {
     let pushed = scattered(alloc, count, count)?;
     let wanted = sums(alloc, 9, 6, &pushed)?;
     let rows = built(alloc, height, 6, &pushed)?;
-    lists(alloc, &rows, &wanted)
+    Ok(lists(alloc, &rows, &wanted)?)
 }
 
 #[test]
@@ -231,7 +224,7 @@ fn matrices_side_by_side(rt: HostRuntime) -> Result<(), Fail> {
 }
 
 // Whether a matrix with another below it has the entries of both.
-fn is_stacked(alloc: Global, high: u32, low: u32) -> Result<bool, AllocError>
+fn is_stacked(alloc: Global, high: u32, low: u32) -> Result<bool, Fail>
     requires { high + low ≤ LARGEST_SIZE }
 {
     let first = scattered(alloc, 20, high)?;
@@ -243,7 +236,7 @@ fn is_stacked(alloc: Global, high: u32, low: u32) -> Result<bool, AllocError>
     for (i, j, v) in &sums(alloc, 9, 6, &second)? {
         wanted.push((high.wrapping_add(*i), *j, *v))?;
     }
-    lists(alloc, &rows, &wanted)
+    Ok(lists(alloc, &rows, &wanted)?)
 }
 
 #[test]
