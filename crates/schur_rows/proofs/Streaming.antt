@@ -1,5 +1,6 @@
 -- A basis of what a round leaves, made chunk by chunk.
-use Rattle.std.proofs.Common.{ℕ, ◌≡◌, ◌+◌, ◌<◌, ◌≤◌, ◌∙◌, false, List, [], ◌++◌, length, sym, refl, ap, subst, arith}
+use Rattle.std.proofs.Common.{ℕ, ◌≡◌, ◌+◌, ◌<◌, ◌≤◌, ◌∙◌, Bool, false, List, [], ◌++◌, length, sym, refl, ap, subst, arith}
+use Rattle.std.proofs.lemmas.Bool.{false≢true}
 use Rattle.std.proofs.lemmas.List.{nil_from_length}
 use Rattle.residue_words.specs.Residues.{IsPrime}
 use Rattle.residue_words.specs.Matrix.{Matrix, IsCombination, IsMatrix, row, zeros}
@@ -78,6 +79,27 @@ basis_none {t} {b} {p} {n} two modulus width sound is =
           (λ k l. absurd (omega (arith, ap (λ (M : Matrix). M.height) same)));
       span = λ prime. subst (SameSpan m (none t.rows.matrix.width)) (sym same) (λ v. ((λ y. y), (λ y. y)));
     }
+
+-- a part whose coefficients may be kept is one without them
+pub without_coefficients : {t : TriangleState} {kept : Bool} {from to : ℕ} {s : SchurRows} → IsPartTo t kept from to s → IsPartTo t false from to s
+without_coefficients {t} {kept} {from} {to} {s} h = (
+  record {
+    modulus = h.0.modulus;
+    rest = h.0.rest;
+    width = h.0.width;
+    coefficient_modulus = h.0.coefficient_modulus;
+    coefficients = h.0.coefficients;
+    coefficient_width = h.0.coefficient_width;
+    height = h.0.height;
+    each = λ x l. record {
+      nothing = (h.0.each x l).nothing;
+      itself = λ e. absurd (false≢true e);
+      left = (h.0.each x l).left;
+      split = λ e. absurd (false≢true e);
+    };
+  },
+  h.1,
+)
 
 -- one chunk more
 pub basis_more : {t : TriangleState} {from to : ℕ} {old stacked : ResidueMatrix} {left : SchurRows} {f : RightFactor} → IsBasisUpTo t from old → IsPartTo t false from to left → stacked.modulus ≡ old.modulus →

@@ -109,7 +109,7 @@ cut_at deal j = min deal.to (deal.from + j * deal.size)
 
 -- part j
 abbrev pub IsPartOf : TriangleState → Deal → ℕ → SchurRows → Type 0
-IsPartOf t deal j s = IsPartTo t deal.kept (cut_at deal j) (cut_at deal (j + 1)) s
+IsPartOf t deal j s = IsPartTo t deal.pass.kept (cut_at deal j) (cut_at deal (j + 1)) s
 
 -- a worker makes the parts worker, worker + workers, worker + 2 workers and so on
 pub record HasParts (t : TriangleState) (deal : Deal) (worker : ℕ) (parts : List SchurRows) : Type 0 where

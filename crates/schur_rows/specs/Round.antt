@@ -1,6 +1,6 @@
 -- One round of an elimination by pivots in triangular order: what they leave of a matrix, with the coefficients of their rows
 -- (the Schur complement, textbook; by rounds Bouillaguet, Delaplace and Voge, PASCO 2017).
-use Rattle.std.specs.Prelude.{◌≡◌, ◌≢◌, ◌<◌, ◌+◌, ◌++◌, ℕ, List, length, map}
+use Rattle.std.specs.Prelude.{◌≡◌, ◌≢◌, ◌<◌, ℕ, List, length, map}
 use Rattle.residue_words.specs.Matrix.{Matrix, IsMatrix, entry, row}
 use Rattle.residue_words.specs.declared.plain.Pair.{Pair}
 use Rattle.row_space.specs.Factors.{row_at}

@@ -5,6 +5,7 @@
 //! a round of the elimination of Bouillaguet, Delaplace and Voge, 'Parallel Sparse PLUQ Factorization modulo p', PASCO 2017.
 #![tactic(auto)]
 
+mod pass;
 mod pivot_numbers;
 mod round;
 mod row_ranges;

@@ -7,6 +7,7 @@ ghost use Rattle.triangular_solve.specs.Reduced.{workspace_of};
 ghost use Rattle.schur_rows.specs.Parts.{AddsLeft, AddsRow, AddsZeros, AreZeroRows, MayTakeRow, IsNextBelow, IsPartTo, itself};
 ghost use Rattle.schur_rows.specs.PivotNumbers.{HasNumbers};
 
+use crate::pass::Pass;
 use crate::pivot_numbers::PivotNumbers;
 use crate::round::SchurRows;
 use crate::row_reducer::RowReducer;
@@ -14,22 +15,18 @@ use sparse_rows::{Rows, Sparse};
 use std::alloc::{AllocError, Global};
 use triangular_solve::Work;
 
-// No row, with room for so many rows and entries.
-pub(crate) fn no_rows(
-    alloc: Global,
-    reducer: &RowReducer,
-    kept: bool,
-    height: u32,
-    entries: usize,
-) -> Result<SchurRows, AllocError>
+// No row, with room for so many rows and their share of the entries.
+pub(crate) fn no_rows(alloc: Global, pass: Pass, height: u32) -> Result<SchurRows, AllocError>
     requires { height ≤ LARGEST_SIZE }
-    ensures { IfOk result (λ part. (from : ℕ) → IsPartTo reducer.now kept from from part) }
+    ensures { IfOk result (λ part. (from : ℕ) →
+        IsPartTo pass.entry.reducer.now pass.entry.kept from from part) }
 {
-    let rows = reducer.rows();
+    let rows = pass.reducer.rows();
     // The call's contract tells how high a matrix is; a triangle has no more pivots.
     let _ = rows.height();
-    let pivots = reducer.pairs().len() as u32;
-    let coefficients = if kept { entries } else { 0 };
+    let pivots = pass.reducer.pairs().len() as u32;
+    let entries = share_of_rows(rows, pass.total, height);
+    let coefficients = if pass.kept { entries } else { 0 };
     Ok(SchurRows {
         rows: Rows::with_room(alloc, rows.modulus(), rows.width(), height, entries)?,
         coefficients: Rows::with_room(alloc, rows.modulus(), pivots, height, coefficients)?,
@@ -37,41 +34,35 @@ pub(crate) fn no_rows(
 }
 
 // How many entries so many rows have on average, where all rows of the matrix have so many.
-pub(crate) fn share_of_rows(rows: &Rows, total: u64, height: u32) -> usize {
+fn share_of_rows(rows: &Rows, total: u64, height: u32) -> usize {
     let share = total.saturating_mul(u64::from(height)) / u64::from(rows.height().max(1));
     share as usize
 }
 
-// What is left of the rows from `from` up to `to`, of so many entries in all rows; the coefficients are zeros where they aren't kept.
+// What is left of the rows from `from` up to `to`; the coefficients are zeros where they aren't kept.
 pub(crate) fn part_of(
     alloc: Global,
-    reducer: &RowReducer,
-    pivot_rows: &PivotNumbers,
-    kept: bool,
-    total: u64,
+    pass: Pass,
     from: u32,
     to: u32,
     work: &mut Work,
 ) -> Result<SchurRows, AllocError>
-    requires work { work.old ≡ workspace_of reducer.now }
+    requires work { work.old ≡ workspace_of pass.reducer.now }
     requires order { from ≤ to }
-    requires inside { to ≤ reducer.now.rows.matrix.height }
-    requires numbers { HasNumbers reducer.now.pairs pivot_rows.now }
+    requires inside { to ≤ pass.reducer.now.rows.matrix.height }
+    requires numbers { HasNumbers pass.reducer.now.pairs pass.pivot_rows.now }
     ensures work { work.new ≡ work.old }
-    ensures part { IfOk result (IsPartTo reducer.now kept from to) }
+    ensures part { IfOk result (IsPartTo pass.entry.reducer.now pass.entry.kept from to) }
 {
-    let rows = reducer.rows();
+    let rows = pass.reducer.rows();
     // The calls' contracts tell how high a matrix of residues is, and that the pivots are triangular.
-    let _ = (rows.modulus(), rows.height(), reducer.pairs().len());
-    let entries = share_of_rows(rows, total, to - from);
-    let mut part = no_rows(alloc, reducer, kept, to - from, entries)?;
+    let _ = (rows.modulus(), rows.height(), pass.reducer.pairs().len());
+    let mut part = no_rows(alloc, pass, to - from)?;
     let mut rest = Sparse::new(alloc, rows.width(), rows.modulus());
     let mut next = from;
     while let Some(i) = next_below(rows, next, to) {
         append_zeros(&mut part, i - next)?;
-        append_left(
-            alloc, reducer, pivot_rows, kept, i, work, &mut rest, &mut part,
-        )?;
+        append_left(alloc, pass, i, work, &mut rest, &mut part)?;
         next = i + 1;
     }
     append_zeros(&mut part, to - next)?;
@@ -140,34 +131,33 @@ fn append_zeros(part: &mut SchurRows, count: u32) -> Result<(), AllocError>
 // Appends what is left of row i. Where the coefficients aren't kept it passes through `rest`.
 fn append_left(
     alloc: Global,
-    reducer: &RowReducer,
-    pivot_rows: &PivotNumbers,
-    kept: bool,
+    pass: Pass,
     i: u32,
     work: &mut Work,
     rest: &mut Sparse,
     part: &mut SchurRows,
 ) -> Result<(), AllocError>
-    requires row { i < reducer.now.rows.matrix.height }
-    requires numbers { HasNumbers reducer.now.pairs pivot_rows.now }
-    requires work { work.old ≡ workspace_of reducer.now }
-    requires rest_modulus { rest.old.modulus ≡ reducer.now.rows.modulus }
-    requires rest_width { length rest.old.row ≡ reducer.now.rows.matrix.width }
-    requires part { MayTakeRow reducer.now part.old }
+    requires row { i < pass.reducer.now.rows.matrix.height }
+    requires numbers { HasNumbers pass.reducer.now.pairs pass.pivot_rows.now }
+    requires work { work.old ≡ workspace_of pass.reducer.now }
+    requires rest_modulus { rest.old.modulus ≡ pass.reducer.now.rows.modulus }
+    requires rest_width { length rest.old.row ≡ pass.reducer.now.rows.matrix.width }
+    requires part { MayTakeRow pass.reducer.now part.old }
     ensures work { work.new ≡ work.old }
     ensures rest { IsAlike rest.old rest.new }
-    ensures added { OnOk result (AddsLeft reducer.now kept i part.old part.new) }
+    ensures added { OnOk result (AddsLeft pass.entry.reducer.now pass.entry.kept i part.old part.new) }
 {
+    let reducer = pass.reducer;
     let rows = reducer.rows();
     // The call's contract tells that the entries are residues.
     let _ = rows.modulus();
     let cols = rows.cols(i);
     let vals = rows.vals(i);
-    if let Some(k) = pivot_rows.find(i, reducer.pairs()) {
+    if let Some(k) = pass.pivot_rows.find(i, reducer.pairs()) {
         append_pivot(alloc, k, part)?;
         return Ok(());
     }
-    if kept {
+    if pass.kept {
         let reduced = reducer.reduce(alloc, cols, vals, work)?;
         part.rows.append(&reduced.rest)?;
         part.coefficients.append(&reduced.coefficients)?;

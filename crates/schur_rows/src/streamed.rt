@@ -5,6 +5,7 @@ ghost use Rattle.sparse_rows.specs.Rows.{above};
 ghost use Rattle.schur_rows.specs.PivotNumbers.{HasNumbers};
 ghost use Rattle.schur_rows.specs.Streamed.{IsBasisLeft, IsBasisUpTo};
 
+use crate::pass::Pass;
 use crate::pivot_numbers::PivotNumbers;
 use crate::round::SchurRows;
 use crate::row_ranges::end_of;
@@ -84,23 +85,19 @@ pub(crate) fn basis_by<R: Threads + Sync>(
     let pivots = reducer.pairs().len();
     let pivot_rows = PivotNumbers::of(alloc, reducer)?;
     let total = total_left(alloc, reducer, &pivot_rows)?;
+    let pass = Pass {
+        reducer,
+        pivot_rows: &pivot_rows,
+        kept: false,
+        total,
+    };
     let columns = rows.occupied(alloc)?.len().saturating_sub(pivots);
     let mut basis = Rows::with_room(alloc, rows.modulus(), rows.width(), 0, 0)?;
     let mut from = 0;
     while from < height {
         let count = size.rows_below(basis.height(), columns);
         let to = end_of(reducer, &pivot_rows, from, count);
-        basis = basis_with(
-            rt,
-            alloc,
-            reducer,
-            &pivot_rows,
-            workers,
-            total,
-            basis,
-            from,
-            to,
-        )?;
+        basis = basis_with(rt, alloc, pass, workers, basis, from, to)?;
         from = to;
     }
     Ok(basis)
@@ -126,10 +123,8 @@ fn stacked(basis: Rows, below: Rows) -> Result<Rows, AllocError>
 fn basis_with<R: Threads + Sync>(
     rt: &R,
     alloc: Global,
-    reducer: &RowReducer,
-    pivot_rows: &PivotNumbers,
+    pass: Pass,
     workers: u32,
-    total: u64,
     basis: Rows,
     from: u32,
     to: u32,
@@ -137,16 +132,14 @@ fn basis_with<R: Threads + Sync>(
     requires some { 1 ≤ workers }
     requires few { workers ≤ 64 }
     requires order { from ≤ to }
-    requires inside { to ≤ reducer.now.rows.matrix.height }
-    requires numbers { HasNumbers reducer.now.pairs pivot_rows.now }
-    requires basis { IsBasisUpTo reducer.now from basis }
-    ensures { IfOk result (IsBasisUpTo reducer.now to) }
+    requires inside { to ≤ pass.reducer.now.rows.matrix.height }
+    requires numbers { HasNumbers pass.reducer.now.pairs pass.pivot_rows.now }
+    requires basis { IsBasisUpTo pass.reducer.now from basis }
+    ensures { IfOk result (IsBasisUpTo pass.entry.reducer.now to) }
 {
     // The call's contract tells how high a matrix is.
-    let _ = reducer.rows().height();
-    let left = left_between(
-        rt, alloc, reducer, pivot_rows, workers, false, total, from, to,
-    )?;
+    let _ = pass.reducer.rows().height();
+    let left = left_between(rt, alloc, pass, workers, from, to)?;
     let SchurRows { rows: below, .. } = left;
     let stacked = stacked(basis, below)?;
     let RightFactor { u, .. } = finish_right(rt, alloc, stacked, workers)?;

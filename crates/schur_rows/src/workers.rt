@@ -4,9 +4,10 @@ ghost use Rattle.sparse_rows.specs.declared.rows.TheConstants.{LARGEST_SIZE};
 ghost use Rattle.schur_rows.specs.Parts.{HasParts, HaveParts, IsDeal, IsPartTo, Joins, cut_at};
 ghost use Rattle.schur_rows.specs.PivotNumbers.{HasNumbers};
 
+use crate::pass::Pass;
 use crate::pivot_numbers::PivotNumbers;
 use crate::round::SchurRows;
-use crate::row_ranges::{no_rows, part_of, share_of_rows};
+use crate::row_ranges::{no_rows, part_of};
 use crate::row_reducer::RowReducer;
 use crate::sampling::total_left;
 use std::alloc::{AllocError, Global};
@@ -21,11 +22,8 @@ type Share = Result<Vec<SchurRows>, AllocError>;
 
 // How the rows from `from` up to `to` are dealt: so many parts of so many rows each, the last ones shorter, to the workers in turn.
 #[derive(Clone, Copy, Debug)]
-pub(crate) struct Deal {
-    // Whether the coefficients are kept.
-    kept: bool,
-    // About how many entries all rows have.
-    total: u64,
+pub(crate) struct Deal<'r, 't, 'a> {
+    pass: Pass<'r, 't, 'a>,
     from: u32,
     to: u32,
     size: usize,
@@ -33,7 +31,7 @@ pub(crate) struct Deal {
     workers: usize,
 }
 
-impl Deal {
+impl<'r, 't, 'a> Deal<'r, 't, 'a> {
     // Where part j begins.
     fn cut(&self, j: usize) -> u32
         requires deal { IsDeal self.now }
@@ -63,127 +61,100 @@ pub(crate) fn left_by<R: Threads + Sync>(
     } else {
         total_left(alloc, reducer, &pivot_rows)?
     };
-    left_between(
-        rt,
-        alloc,
+    let pass = Pass {
         reducer,
-        &pivot_rows,
-        workers,
+        pivot_rows: &pivot_rows,
         kept,
         total,
-        0,
-        height,
-    )
+    };
+    left_between(rt, alloc, pass, workers, 0, height)
 }
 
-// What it leaves of the rows from `from` up to `to`, of about so many entries in all rows.
+// What a pass leaves of the rows from `from` up to `to`.
 pub(crate) fn left_between<R: Threads + Sync>(
     rt: &R,
     alloc: Global,
-    reducer: &RowReducer,
-    pivot_rows: &PivotNumbers,
+    pass: Pass,
     workers: u32,
-    kept: bool,
-    total: u64,
     from: u32,
     to: u32,
 ) -> Result<SchurRows, AllocError>
     requires some { 1 ≤ workers }
     requires few { workers ≤ 64 }
     requires order { from ≤ to }
-    requires inside { to ≤ reducer.now.rows.matrix.height }
-    requires numbers { HasNumbers reducer.now.pairs pivot_rows.now }
-    ensures { IfOk result (IsPartTo reducer.now kept from to) }
+    requires inside { to ≤ pass.reducer.now.rows.matrix.height }
+    requires numbers { HasNumbers pass.reducer.now.pairs pass.pivot_rows.now }
+    ensures { IfOk result (IsPartTo pass.entry.reducer.now pass.entry.kept from to) }
 {
     // The call's contract tells how high a matrix is.
-    let _ = reducer.rows().height();
+    let _ = pass.reducer.rows().height();
     if workers == 1 {
-        let mut work = reducer.work(alloc)?;
-        return part_of(alloc, reducer, pivot_rows, kept, total, from, to, &mut work);
+        let mut work = pass.reducer.work(alloc)?;
+        return part_of(alloc, pass, from, to, &mut work);
     }
     let count = PARTS * workers as usize;
     let deal = Deal {
-        kept,
-        total,
+        pass,
         from,
         to,
         size: (to - from) as usize / count + 1,
         count,
         workers: workers as usize,
     };
-    let shares = shares_of(rt, alloc, reducer, pivot_rows, deal)?;
-    merged(alloc, reducer, deal, &shares)
+    let shares = shares_of(rt, alloc, deal)?;
+    merged(alloc, deal, &shares)
 }
 
 // The shares of the workers.
-fn shares_of<R: Threads + Sync>(
-    rt: &R,
-    alloc: Global,
-    reducer: &RowReducer,
-    pivot_rows: &PivotNumbers,
-    deal: Deal,
-) -> Result<Vec<Share>, AllocError>
+fn shares_of<R: Threads + Sync>(rt: &R, alloc: Global, deal: Deal) -> Result<Vec<Share>, AllocError>
     requires deal { IsDeal deal }
-    requires inside { deal.to ≤ reducer.now.rows.matrix.height }
-    requires numbers { HasNumbers reducer.now.pairs pivot_rows.now }
-    ensures count { IfOk result (λ shares. length shares.items ≡ deal.workers) }
-    ensures shares { IfOk result (λ shares. HaveParts reducer.now deal shares.items) }
+    requires inside { deal.to ≤ deal.pass.reducer.now.rows.matrix.height }
+    requires numbers { HasNumbers deal.pass.reducer.now.pairs deal.pass.pivot_rows.now }
+    ensures count { IfOk result (λ shares. length shares.items ≡ deal.entry.workers) }
+    ensures shares { IfOk result (λ shares. HaveParts deal.entry.pass.reducer.now deal.entry shares.items) }
 {
     thread::map_indices(
         rt,
         alloc,
         deal.workers,
-        &|worker| share_of(alloc, reducer, pivot_rows, deal, worker),
+        &|worker| share_of(alloc, deal, worker),
     )
 }
 
 // The parts worker, worker + workers, worker + 2 workers and so on.
-fn share_of(
-    alloc: Global,
-    reducer: &RowReducer,
-    pivot_rows: &PivotNumbers,
-    deal: Deal,
-    worker: usize,
-) -> Share
+fn share_of(alloc: Global, deal: Deal, worker: usize) -> Share
     requires worker { worker < deal.workers }
     requires deal { IsDeal deal }
-    requires inside { deal.to ≤ reducer.now.rows.matrix.height }
-    requires numbers { HasNumbers reducer.now.pairs pivot_rows.now }
-    ensures { IfOk result (λ parts. HasParts reducer.now deal worker parts.items) }
+    requires inside { deal.to ≤ deal.pass.reducer.now.rows.matrix.height }
+    requires numbers { HasNumbers deal.pass.reducer.now.pairs deal.pass.pivot_rows.now }
+    ensures { IfOk result (λ parts. HasParts deal.entry.pass.reducer.now deal.entry worker parts.items) }
 {
     // The call's contract tells how high a matrix is.
-    let _ = reducer.rows().height();
-    let mut work = reducer.work(alloc)?;
+    let _ = deal.pass.reducer.rows().height();
+    let mut work = deal.pass.reducer.work(alloc)?;
     let mut parts = Vec::new(alloc);
     let mut j = worker;
     while j < deal.count {
         let from = deal.cut(j);
         let to = deal.cut(j + 1);
-        parts.push(part_of(
-            alloc, reducer, pivot_rows, deal.kept, deal.total, from, to, &mut work,
-        )?)?;
+        parts.push(part_of(alloc, deal.pass, from, to, &mut work)?)?;
         j += deal.workers;
     }
     Ok(parts)
 }
 
 // The parts of the shares behind each other.
-fn merged(
-    alloc: Global,
-    reducer: &RowReducer,
-    deal: Deal,
-    shares: &[Share],
-) -> Result<SchurRows, AllocError>
+fn merged(alloc: Global, deal: Deal, shares: &[Share]) -> Result<SchurRows, AllocError>
     requires deal { IsDeal deal }
-    requires inside { deal.to ≤ reducer.now.rows.matrix.height }
+    requires inside { deal.to ≤ deal.pass.reducer.now.rows.matrix.height }
     requires count { length shares.now ≡ deal.workers }
-    requires shares { HaveParts reducer.now deal shares.now }
-    ensures { IfOk result (IsPartTo reducer.now deal.kept deal.from deal.to) }
+    requires shares { HaveParts deal.pass.reducer.now deal shares.now }
+    ensures { IfOk result (IsPartTo deal.entry.pass.reducer.now deal.entry.pass.kept
+        deal.entry.from deal.entry.to) }
 {
     // The call's contract tells how high a matrix is.
-    let _ = reducer.rows().height();
-    let entries = share_of_rows(reducer.rows(), deal.total, deal.to - deal.from);
-    let mut made = no_rows(alloc, reducer, deal.kept, deal.to - deal.from, entries)?;
+    let _ = deal.pass.reducer.rows().height();
+    let mut made = no_rows(alloc, deal.pass, deal.to - deal.from)?;
     for j in 0..deal.count {
         match &shares[j % deal.workers] {
             Ok(parts) => join(&mut made, &parts[j / deal.workers])?,

@@ -5,11 +5,11 @@ use Rattle.schur_rows.proofs.row_ranges.append_left.Goals as goal
 pub returns-in-Some-clause-added : goal.returns-in-Some-clause-added
 returns-in-Some-clause-added c = left_pivot c.rows-rows.ensures c.modulus.ensures.value c.modulus.ensures.two_or_more c.pairs.ensures.triangular c.pairs.ensures.pairs c.in-Some.ensures c.requires.part c.in_ok-append_pivot.ensures
 
-pub returns-then-kept-clause-added : goal.returns-then-kept-clause-added
-returns-then-kept-clause-added c = left_kept c.rows-rows.ensures c.modulus.ensures.sound c.requires.row c.cols-cols.ensures.support c.vals-vals.ensures.values c.pairs.ensures.pairs c.in_default.ensures c.in_ok-reduced.ensures.fits c.in_ok-reduced.ensures.reduced
-    (record { modulus = c.append.ensures.modulus; rows = c.in_ok-append.ensures.matrix; coefficient_modulus = c.append-then-kept.ensures.modulus; coefficients = c.in_ok-append-2.ensures.matrix })
+pub returns-then-pass-clause-added : goal.returns-then-pass-clause-added
+returns-then-pass-clause-added c = left_kept c.rows-rows.ensures c.modulus.ensures.sound c.requires.row c.cols-cols.ensures.support c.vals-vals.ensures.values c.pairs.ensures.pairs c.in_default.ensures c.in_ok-reduced.ensures.fits c.in_ok-reduced.ensures.reduced
+    (record { modulus = c.append.ensures.modulus; rows = c.in_ok-append.ensures.matrix; coefficient_modulus = c.append-then-pass.ensures.modulus; coefficients = c.in_ok-append-2.ensures.matrix })
 
 pub returns-clause-added : goal.returns-clause-added
-returns-clause-added c = left_rest c.if-kept.false c.rows-rows.ensures c.modulus.ensures.sound (omega (arith, c.modulus.ensures.value, c.modulus.ensures.two_or_more)) c.requires.row c.cols-cols.ensures.support c.vals-vals.ensures.values c.pairs.ensures.pairs
+returns-clause-added c = left_rest c.if-pass.false c.rows-rows.ensures c.modulus.ensures.sound (omega (arith, c.modulus.ensures.value, c.modulus.ensures.two_or_more)) c.requires.row c.cols-cols.ensures.support c.vals-vals.ensures.values c.pairs.ensures.pairs
     c.in_default.ensures c.in_ok-rest.ensures.fits c.in_ok-rest.ensures.rest c.requires.part
     (record { modulus = c.append-2.ensures.modulus; rows = c.in_ok-append-3.ensures.matrix; coefficient_modulus = c.append_zeros.ensures.modulus; coefficients = c.in_ok-append_zeros.ensures.matrix })

@@ -6,10 +6,10 @@ use Rattle.schur_rows.proofs.row_ranges.part_of.Given as goal
 abbrev pub invariant-loop-i : goal.invariant-loop-i
 invariant-loop-i l = record {
   low : l.next ≤ l.to;
-  work : l.work ≡ workspace_of l.reducer;
-  rest_modulus : l.rest.modulus ≡ l.reducer.rows.modulus;
-  rest_width : length l.rest.row ≡ l.reducer.rows.matrix.width;
-  part : IsPartTo l.reducer l.kept l.from l.next l.part;
+  work : l.work ≡ workspace_of l.pass.reducer.now;
+  rest_modulus : l.rest.modulus ≡ l.pass.reducer.now.rows.modulus;
+  rest_width : length l.rest.row ≡ l.pass.reducer.now.rows.matrix.width;
+  part : IsPartTo l.pass.reducer.now l.pass.kept l.from l.next l.part;
 }
 
 abbrev pub decreases-loop-i : goal.decreases-loop-i

@@ -1,5 +1,5 @@
-use Rattle.schur_rows.proofs.Streaming.{basis_more}
+use Rattle.schur_rows.proofs.Streaming.{basis_more, without_coefficients}
 use Rattle.schur_rows.proofs.streamed.basis_with.Goals as goal
 
 pub returns : goal.returns
-returns g c = basis_more c.requires.basis c.in_ok-left.ensures c.in_ok-stacked.ensures.modulus c.in_ok-stacked.ensures.matrix c.in_ok-u.ensures
+returns g c = basis_more c.requires.basis (without_coefficients c.in_ok-left.ensures) c.in_ok-stacked.ensures.modulus c.in_ok-stacked.ensures.matrix c.in_ok-u.ensures

@@ -8,10 +8,10 @@ overflow_add-j-in-loop-j c = record { fits = omega (arith, c.loop-j-test.true, c
 pub loop-j-preserved : goal.loop-j-preserved
 loop-j-preserved c = record {
   work = c.part_of.ensures.work ∙ c.loop-j.invariant.work;
-  gathered = subst (IsGathered c.args.reducer.now c.args.deal c.args.worker (c.loop-j.j + c.args.deal.workers)) (sym c.in_ok-push.ensures.items)
-      (gathered_more c.args.reducer.now c.args.deal c.loop-j.invariant.gathered c.in_ok-part_of.field-0
+  gathered = subst (IsGathered c.args.deal.pass.reducer.now c.args.deal c.args.worker (c.loop-j.j + c.args.deal.workers)) (sym c.in_ok-push.ensures.items)
+      (gathered_more c.args.deal.pass.reducer.now c.args.deal c.loop-j.invariant.gathered c.in_ok-part_of.field-0
       (part_at c.args.deal c.loop-j.j c.cut-from.ensures c.cut-to.ensures c.in_ok-part_of.ensures.part));
 }
 
 pub returns : goal.returns
-returns c = gathered_all c.args.reducer.now c.args.deal c.requires.worker c.loop-j.invariant.gathered c.loop-j-test.false
+returns c = gathered_all c.args.deal.pass.reducer.now c.args.deal c.requires.worker c.loop-j.invariant.gathered c.loop-j-test.false

@@ -5,8 +5,8 @@ use Rattle.schur_rows.proofs.workers.share_of.Given as goal
 
 abbrev pub invariant-loop-j : goal.invariant-loop-j
 invariant-loop-j l = record {
-  work : l.work ≡ workspace_of l.reducer;
-  gathered : IsGathered l.reducer l.deal l.worker l.j l.parts.items;
+  work : l.work ≡ workspace_of l.deal.pass.reducer.now;
+  gathered : IsGathered l.deal.pass.reducer.now l.deal l.worker l.j l.parts.items;
 }
 
 abbrev pub decreases-loop-j : goal.decreases-loop-j

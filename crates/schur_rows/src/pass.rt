@@ -1,0 +1,14 @@
+// One pass over the rows of a matrix, that takes the pivots out of them.
+use crate::pivot_numbers::PivotNumbers;
+use crate::row_reducer::RowReducer;
+
+// What the workers of a pass share.
+#[derive(Clone, Copy, Debug)]
+pub(crate) struct Pass<'r, 't, 'a> {
+    pub(crate) reducer: &'r RowReducer<'t, 'a>,
+    pub(crate) pivot_rows: &'r PivotNumbers,
+    // Whether the coefficients are kept.
+    pub(crate) kept: bool,
+    // About how many entries it leaves of all rows.
+    pub(crate) total: u64,
+}
