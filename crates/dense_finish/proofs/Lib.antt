@@ -12,6 +12,7 @@ pub mod Parts
 pub mod ProductSums
 pub mod Progress
 pub mod Putting
+pub mod Rounds
 pub mod Splitting
 pub mod Stages
 pub mod TakingOut

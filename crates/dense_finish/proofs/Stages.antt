@@ -1,5 +1,5 @@
 -- The state of an elimination between two rows of a panel.
-use Rattle.std.proofs.Common.{ℕ, ◌≡◌, ◌+◌, ◌<◌, ◌∙◌, false, inl, inr, List, length, slice_index, slice_index_or, slice_set, subst, arith}
+use Rattle.std.proofs.Common.{ℕ, ◌≡◌, ◌+◌, ◌<◌, ◌∙◌, false, inl, inr, List, length, refl, slice_index, slice_index_or, slice_set, subst, arith}
 use Rattle.std.proofs.lemmas.List.{length-set}
 use Rattle.residue_words.specs.Matrix.{IsVector}
 use Rattle.residue_words.specs.Residues.{IsPrime}
@@ -7,7 +7,7 @@ use Rattle.dense_finish.specs.declared.pivots.Pivots.{Pivots}
 use Rattle.dense_finish.specs.Block.{block_row}
 use Rattle.dense_finish.specs.Dense.{IsZeroAtFree, IsFirstFree, IsPivotOf, KeepsCoefficients}
 use Rattle.dense_finish.specs.Panel.{PanelReduces, PanelRows, with_pivot}
-use Rattle.dense_finish.specs.Pivots.{AddsPivot, AreEliminated, AreFound, AreSplit, IsPanelFrom, pivot_at, stage}
+use Rattle.dense_finish.specs.Pivots.{AddsPivot, AreEliminated, AreFound, AreSplit, IsPanelFrom, KeepsPivots, pivot_at, stage}
 use Rattle.dense_finish.specs.Splitting.{IsTaken}
 use Rattle.dense_finish.proofs.Growing.{AreCoefficients, Grows, IsPivotRow, coefficients_are, found_more, grows, pivot_row_is}
 use Rattle.dense_finish.proofs.Progress.{Changes, cases_bool, changes_set, changes_twice, eliminated_more, eliminated_same, panel_more, reduced_split, split_pivot, split_row}
@@ -17,6 +17,10 @@ pub record IsStage (p : ℕ) (names : List ℕ) (width r i : ℕ) (f : Pivots) (
   pub found : AreFound p names width i f
   pub eliminated : AreEliminated p (length names) i f block
   pub holds : IsPanelFrom p names r f panel
+
+-- the pivots stay
+pub kept_same : {names : List ℕ} {f : Pivots} → KeepsPivots names f f
+kept_same = record { few = omega arith; places = λ k l. refl; entries = λ k j l lj. refl }
 
 -- one row more
 pub found_later : {p width i : ℕ} {names : List ℕ} {f : Pivots} → AreFound p names width i f → AreFound p names width (i + 1) f
@@ -86,6 +90,13 @@ module _ {p width r i : ℕ} {names v : List ℕ} {panel : PanelRows} {block : L
       found = found_then;
       eliminated = eliminated_more state.found grown changes low first.free first.nonzero kept state.eliminated;
       holds = panel_more grown low pivot state.holds;
+    }
+
+    pub stage_more_kept : {e : Pivots} → KeepsPivots names e f → KeepsPivots names e g
+    stage_more_kept before = record {
+      few = omega (arith, before.few, grown.count);
+      places = λ k l. grown.columns k (omega (arith, before.few)) ∙ before.places k l;
+      entries = λ k j l lj. grown.entries k j (omega (arith, before.few)) lj ∙ before.entries k j l lj;
     }
 
     pub stage_more_split : IsPrime p → (from : List (List ℕ)) → AreSplit p names r from (stage f block i) → AreSplit p names r from (stage g (slice_set (slice_set block i v) i w) (i + 1))

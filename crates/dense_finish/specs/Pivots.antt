@@ -1,10 +1,13 @@
 -- The pivots that an elimination has found, and the rows of its block meanwhile.
-use Rattle.std.specs.Prelude.{◌≡◌, ◌≢◌, ◌<◌, ◌≤◌, ◌+◌, ℕ, true, false, List, [], ◌∷◌, ◌++◌, length, slice_index, slice_index_or, slice_set}
+use Rattle.std.specs.Prelude.{◌≡◌, ◌≢◌, ◌<◌, ◌≤◌, ◌+◌, ◌-◌, ℕ, true, false, List, [], ◌∷◌, ◌++◌, length, slice_index, slice_index_or, slice_set}
 use Rattle.residue_words.specs.Matrix.{Matrix, IsMatrix, entry}
+use Rattle.residue_words.specs.Residues.{IsPrime}
 use Rattle.residue_words.specs.declared.plain.Pair.{Pair}
 use Rattle.row_space.specs.Factors.{row_at, col_at}
 use Rattle.row_space.specs.Rows.{HasSteps}
+use Rattle.sparse_rows.specs.Rows.{AreBelow, AreRising}
 use Rattle.sparse_rows.specs.Stored.{with_row}
+use Rattle.sparse_rows.specs.declared.rows.TheConstants.{LARGEST_SIZE}
 use Rattle.dense_finish.specs.Block.{AreVectors, block_row, entry_of}
 use Rattle.dense_finish.specs.Dense.{Scatters}
 use Rattle.dense_finish.specs.Panel.{ArePivots, Continues, PanelRows}
@@ -98,6 +101,13 @@ abbrev pub KeepsSplit : ℕ → List ℕ → Stage → Stage → Type 0
 KeepsSplit p columns old new = (block : List (List ℕ)) →
     AreSplit p columns (count old.pivots) block old → AreSplit p columns (count old.pivots) block new
 
+-- the pivots of `old` are the first of `new`
+pub record KeepsPivots (columns : List ℕ) (old new : Pivots) : Type 0 where
+  pub few : count old ≤ count new
+  pub places : (k : ℕ) → k < count old → slice_index new.columns.items k ≡ slice_index old.columns.items k
+  pub entries : (k j : ℕ) → k < count old → j < length columns →
+      filled_entry new.u.matrix columns k j ≡ filled_entry old.u.matrix columns k j
+
 -- all rows of the block split by all pivots
 abbrev pub SplitBy : ℕ → List ℕ → Pivots → List (List ℕ) → List (List ℕ) → Type 0
 SplitBy p columns f block rows = AreSplit p columns (count f) block (stage f rows (length block))
@@ -108,6 +118,43 @@ pub record IsPanelFrom (p : ℕ) (columns : List ℕ) (r : ℕ) (f : Pivots) (pa
   pub pivots : ArePivots p panel
   pub total : r + length panel.columns ≡ count f
   pub continues : Continues (pivot_sequence p columns f) r panel
+
+-- a stage with the panel of its last pivots
+pub record Round : Type 0 where
+  pub pivots : Pivots
+  pub panel : PanelRows
+  pub rows : List (List ℕ)
+  pub done : ℕ
+
+abbrev pub round : Pivots → PanelRows → List (List ℕ) → ℕ → Round
+round f panel rows i = record { pivots = f; panel = panel; rows = rows; done = i }
+
+abbrev pub stage_of : Round → Stage
+stage_of s = stage s.pivots s.rows s.done
+
+-- how many pivots come before the panel's
+abbrev pub before_panel : Round → ℕ
+before_panel s = count s.pivots - length s.panel.columns
+
+-- an elimination of a block with these columns of a matrix can go on from here
+pub record CanGoOn (p : ℕ) (columns : List ℕ) (s : Round) : Type 0 where
+  pub low : length s.rows ≤ LARGEST_SIZE
+  pub few : length columns ≤ LARGEST_SIZE
+  pub inside : AreBelow s.pivots.u.matrix.width columns
+  pub rising : AreRising columns
+  pub found : AreFound p columns s.pivots.u.matrix.width s.done s.pivots
+  pub eliminated : AreEliminated p (length columns) s.done s.pivots s.rows
+  pub holds : IsPanelFrom p columns (before_panel s) s.pivots s.panel
+
+-- the pivots of more rows are found, behind those of `old`, and are the panel's: whatever block splits into `old`, its rows
+-- ahead by the pivots before the panel's, splits into `new`, whose rows ahead are reduced by all pivots of `old`
+pub record FindsPanel (p : ℕ) (columns : List ℕ) (old new : Round) : Type 0 where
+  pub found : AreFound p columns old.pivots.u.matrix.width new.done new.pivots
+  pub eliminated : AreEliminated p (length columns) new.done new.pivots new.rows
+  pub holds : IsPanelFrom p columns (count old.pivots) new.pivots new.panel
+  pub kept : KeepsPivots columns old.pivots new.pivots
+  pub split : IsPrime p → (block : List (List ℕ)) → AreSplit p columns (before_panel old) block (stage_of old) →
+      AreSplit p columns (count old.pivots) block (stage_of new)
 
 -- the pivots' places in the matrix, whose rows and columns with entries are these
 pub record ArePivotPlaces (f_rows f_columns rows columns : List ℕ) (pivots : List Pair) : Type 0 where

@@ -5,10 +5,12 @@ ghost use Rattle.residue_words.specs.Residues.{IsPrime};
 ghost use Rattle.sparse_rows.specs.Rows.{AreRising};
 ghost use Rattle.sparse_rows.specs.declared.rows.TheConstants.{LARGEST_SIZE};
 ghost use Rattle.dense_finish.specs.Block.{AreVectors};
+ghost use Rattle.dense_finish.specs.Panel.{ArePivots, PanelReducesEach};
+ghost use Rattle.dense_finish.specs.Units.{AreUnits};
 ghost use Rattle.dense_finish.specs.Dense.{IsFirstFree, IsPivotOf, KeepsCoefficients};
 ghost use Rattle.dense_finish.specs.Factors.{IsFactored};
 ghost use Rattle.sparse_rows.specs.Rows.{AreBelow};
-ghost use Rattle.dense_finish.specs.Pivots.{AddsPivot, AreEliminated, AreFound, IsPanelFrom, KeepsSplit, SplitBy, count, pivot_at, stage};
+ghost use Rattle.dense_finish.specs.Pivots.{AddsPivot, AreEliminated, AreFound, CanGoOn, FindsPanel, IsPanelFrom, KeepsPivots, KeepsSplit, SplitBy, count, pivot_at, round, stage};
 
 use crate::block::block_of;
 use crate::dense::Dense;
@@ -20,7 +22,10 @@ use crate::residue::Residue;
 use residue_words::{LANE_BOUND, Modulus};
 use sparse_rows::Rows;
 use std::alloc::{AllocError, Global};
-use std::thread::Threads;
+use std::thread::{Threads, join_mut};
+
+// About so many rows could be reduced by a panel's pivots while these are found.
+const FINDING: usize = 96;
 
 /// Factors of a matrix, by so many workers: the same for every number of them.
 ///
@@ -106,14 +111,161 @@ pub(crate) fn eliminate<R: Threads + Sync, W: Reducing>(
         SplitBy p.now columns.now pivots block.old block.new) }
 {
     let mut pivots = Pivots::new(alloc, columns, width, p)?;
-    let mut start = 0;
-    while start < block.len() {
-        let end = block.len().min(start + PANEL);
-        let panel = find_pivots(alloc, block, start, end, columns, p, &mut pivots)?;
-        panel.reduce_behind(rt, alloc, block, end, p, workers)?;
-        start = end;
+    let mut panel = Panel::new(alloc, columns.len());
+    let mut done = 0;
+    while done < block.len() {
+        let end = block.len().min(done + PANEL);
+        panel = next_panel(
+            rt,
+            alloc,
+            &panel,
+            done,
+            end,
+            columns,
+            p,
+            &mut pivots,
+            block,
+            workers,
+        )?;
+        done = end;
     }
     Ok(pivots)
+}
+
+// Takes a panel's pivots out of the rows from start on, and finds those of the rows up to end meanwhile.
+fn next_panel<R: Threads + Sync, W: Reducing>(
+    rt: &R,
+    alloc: Global,
+    panel: &Panel<W>,
+    start: usize,
+    end: usize,
+    columns: &[u32],
+    p: &Modulus,
+    pivots: &mut Pivots,
+    block: &mut [Dense<W>],
+    workers: usize,
+) -> Result<Panel<W>, AllocError>
+    requires modulus { W.serves p.now }
+    requires some { 1 ≤ workers }
+    requires order { start ≤ end }
+    requires end { end ≤ length block.old }
+    requires ready { CanGoOn p.now columns.now (round pivots.old panel.now block.old start) }
+    ensures { IfOk result (λ next. FindsPanel p.now columns.now
+        (round pivots.old panel.now block.old start) (round pivots.new next block.new end)) }
+{
+    let (units, first) = panel.units(rt, alloc, p, workers)?;
+    if workers == 1 || panel.is_empty() {
+        return reduce_and_find(
+            alloc, panel, &units, first, start, end, columns, p, pivots, block,
+        );
+    }
+    let cut = rows_of_finder(start, end, block.len(), workers);
+    let (own, others) = block.split_at_mut(cut);
+    find_beside(
+        rt,
+        alloc,
+        panel,
+        &units,
+        first,
+        start,
+        end,
+        columns,
+        p,
+        pivots,
+        own,
+        others,
+        workers - 1,
+    )
+}
+
+// How many of the rows up to `height` are the finder's, one of so many workers: it reduces fewer of those from start on than the
+// others, since it finds the pivots of those up to end.
+fn rows_of_finder(start: usize, end: usize, height: usize, workers: usize) -> usize
+    requires some { 1 ≤ workers }
+    requires start { start ≤ height }
+    requires end { end ≤ height }
+    requires low { height ≤ LARGEST_SIZE }
+    ensures found { end ≤ result }
+    ensures inside { result ≤ height }
+{
+    let share = (height - start + FINDING) / workers;
+    let own = start + share.saturating_sub(FINDING).min(height - start);
+    end.max(own)
+}
+
+// Takes a panel's pivots out of the finder's rows from start on, and finds those of its rows up to end, while helpers take them
+// out of the other rows.
+fn find_beside<R: Threads + Sync, W: Reducing>(
+    rt: &R,
+    alloc: Global,
+    panel: &Panel<W>,
+    units: &[Dense<W>],
+    first: usize,
+    start: usize,
+    end: usize,
+    columns: &[u32],
+    p: &Modulus,
+    pivots: &mut Pivots,
+    own: &mut [Dense<W>],
+    others: &mut [Dense<W>],
+    helpers: usize,
+) -> Result<Panel<W>, AllocError>
+    requires modulus { W.serves p.now }
+    requires some { 1 ≤ helpers }
+    requires order { start ≤ end }
+    requires end { end ≤ length own.old }
+    requires ready { CanGoOn p.now columns.now (round pivots.old panel.now own.old start) }
+    requires others { AreVectors p.now panel.now.width others.old }
+    requires units { AreUnits p.now panel.now first units.now }
+    ensures own { IfOk result (λ next. FindsPanel p.now columns.now
+        (round pivots.old panel.now own.old start) (round pivots.new next own.new end)) }
+    ensures others { PanelReducesEach p.now panel.now others.old others.new }
+{
+    let mut help = ||
+        requires { W.serves p.now × (1 ≤ helpers) × AreVectors p.now panel.now.width others.now
+            × ArePivots p.now panel.now × AreUnits p.now panel.now first units.now }
+        ensures { PanelReducesEach p.entry.now panel.entry.now others.entry.now others.exit.now }
+    { panel.share(rt, units, first, others, p, helpers) };
+    let mut find = || -> Result<Panel<W>, AllocError>
+        requires { W.serves p.now × (start ≤ end) × (end ≤ length own.now)
+            × CanGoOn p.now columns.now (round pivots.now panel.now own.now start)
+            × AreUnits p.now panel.now first units.now }
+        ensures { IfOk result (λ next. FindsPanel p.entry.now columns.entry.now
+            (round pivots.entry.now panel.entry.now own.entry.now start)
+            (round pivots.exit.now next own.exit.now end)) }
+    {
+        reduce_and_find(
+            alloc, panel, units, first, start, end, columns, p, pivots, own,
+        )
+    };
+    let (found, ()) = join_mut(rt, &mut find, &mut help);
+    found
+}
+
+// Takes a panel's pivots out of the rows from start on, and finds those of the rows up to end.
+fn reduce_and_find<W: Reducing>(
+    alloc: Global,
+    panel: &Panel<W>,
+    units: &[Dense<W>],
+    first: usize,
+    start: usize,
+    end: usize,
+    columns: &[u32],
+    p: &Modulus,
+    pivots: &mut Pivots,
+    block: &mut [Dense<W>],
+) -> Result<Panel<W>, AllocError>
+    requires modulus { W.serves p.now }
+    requires order { start ≤ end }
+    requires end { end ≤ length block.old }
+    requires ready { CanGoOn p.now columns.now (round pivots.old panel.now block.old start) }
+    requires units { AreUnits p.now panel.now first units.now }
+    ensures { IfOk result (λ next. FindsPanel p.now columns.now
+        (round pivots.old panel.now block.old start) (round pivots.new next block.new end)) }
+{
+    panel.reduce_behind(units, first, block, start, p);
+    let next = find_pivots(alloc, block, start, end, columns, p, pivots)?;
+    Ok(next)
 }
 
 // Finds the pivots of the rows from start to end, each reduced by those before it.
@@ -139,6 +291,7 @@ fn find_pivots<W: Residue>(
     ensures eliminated { IfOk result (λ _.
         AreEliminated p.now (length columns.now) end pivots.new block.new) }
     ensures panel { IfOk result (IsPanelFrom p.now columns.now (count pivots.old) pivots.new) }
+    ensures kept { IfOk result (λ _. KeepsPivots columns.now pivots.old pivots.new) }
     ensures split { IsPrime p.now → IfOk result (λ _. KeepsSplit p.now columns.now
         (stage pivots.old block.old start) (stage pivots.new block.new end)) }
 {

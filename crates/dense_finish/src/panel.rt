@@ -1,5 +1,5 @@
 // The pivots of one panel, and what they leave of other rows.
-ghost use Rattle.std.specs.Prelude.{◌≡◌, ◌<◌, ◌≤◌, ℕ, length, IfOk, OnOk, OnErr};
+ghost use Rattle.std.specs.Prelude.{◌≡◌, ◌<◌, ◌≤◌, ◌↔◌, ℕ, length, IfOk, OnOk, OnErr, IsTrue};
 ghost use Rattle.residue_words.specs.Matrix.{IsVector};
 ghost use Rattle.dense_finish.specs.Block.{AreVectors, block_row, entry_of};
 ghost use Rattle.dense_finish.specs.Panel.{ArePivots, PanelReduces, PanelReducesEach, no_pivots, with_pivot};
@@ -58,6 +58,13 @@ impl<W: Residue> Panel<W> {
         Ok(())
     }
 
+    // Whether there is no pivot.
+    pub(crate) fn is_empty(&self) -> bool
+        ensures { IsTrue result ↔ (length self.now.columns ≡ 0) }
+    {
+        self.columns.is_empty()
+    }
+
     // Takes the pivots out of a row.
     pub(crate) fn reduce(&self, row: &mut Dense<W>, p: &Modulus)
         requires modulus { W.serves p.now }
@@ -101,34 +108,49 @@ impl<W: Residue> Panel<W> {
 }
 
 impl<W: Reducing> Panel<W> {
-    // Takes the pivots, if any, out of the rows from `from` on, in as many pieces as workers.
-    pub(crate) fn reduce_behind<R: Threads + Sync>(
+    // What the pivots leave of the unit rows at their columns, made by so many workers, and how many columns come before the first
+    // entry of these rows.
+    pub(crate) fn units<R: Threads + Sync>(
         &self,
         rt: &R,
         alloc: Global,
-        rows: &mut [Dense<W>],
-        from: usize,
         p: &Modulus,
         workers: usize,
-    ) -> Result<(), AllocError>
+    ) -> Result<(Vec<Dense<W>>, usize), AllocError>
         requires modulus { W.serves p.now }
         requires some { 1 ≤ workers }
-        requires inside { from ≤ length rows.old }
-        requires residues { AreVectors p.now self.now.width rows.old }
         requires pivots { ArePivots p.now self.now }
-        ensures long { length rows.new ≡ length rows.old }
-        ensures before { (t : ℕ) → t < from → block_row rows.new t ≡ block_row rows.old t }
-        ensures behind { OnOk result ((t : ℕ) → from ≤ t → t < length rows.old
-            → PanelReduces p.now self.now (block_row rows.old t) (block_row rows.new t)) }
+        ensures { IfOk result (λ units. AreUnits p.now self.now units.1 units.0.items) }
     {
-        if self.columns.is_empty() {
-            return Ok(());
-        }
         let mut units = self.unit_rows(alloc, p)?;
         self.reduce_shared(rt, &mut units, p, workers);
         let first = zeros_before(&units, self.width);
-        self.share(rt, &units, first, &mut rows[from..], p, workers);
-        Ok(())
+        Ok((units, first))
+    }
+
+    // Takes the pivots, if any, out of the rows from `from` on, by the units.
+    pub(crate) fn reduce_behind(
+        &self,
+        units: &[Dense<W>],
+        first: usize,
+        rows: &mut [Dense<W>],
+        from: usize,
+        p: &Modulus,
+    )
+        requires modulus { W.serves p.now }
+        requires inside { from ≤ length rows.old }
+        requires residues { AreVectors p.now self.now.width rows.old }
+        requires pivots { ArePivots p.now self.now }
+        requires units { AreUnits p.now self.now first units.now }
+        ensures long { length rows.new ≡ length rows.old }
+        ensures before { (t : ℕ) → t < from → block_row rows.new t ≡ block_row rows.old t }
+        ensures behind { (t : ℕ) → from ≤ t → t < length rows.old
+            → PanelReduces p.now self.now (block_row rows.old t) (block_row rows.new t) }
+    {
+        if self.is_empty() {
+            return;
+        }
+        W::take_out(self, units, first, &mut rows[from..], p);
     }
 
     // Takes the pivots out of each row, one after the other, by so many workers.
@@ -163,7 +185,7 @@ impl<W: Reducing> Panel<W> {
     }
 
     // Takes the pivots out of each row by the units, by so many workers.
-    fn share<R: Threads + Sync>(
+    pub(crate) fn share<R: Threads + Sync>(
         &self,
         rt: &R,
         units: &[Dense<W>],

@@ -1,11 +1,11 @@
-use Rattle.std.proofs.Common.{ℕ, ◌≡◌, ◌<◌, ◌∙◌, false, ap, arith, length, slice_index, slice_index_or, slice_set, subst, sym}
+use Rattle.std.proofs.Common.{◌≡◌, ◌<◌, ◌∙◌, false, ap, arith, length, slice_index, slice_index_or, slice_set, subst, sym}
 use Rattle.std.proofs.lemmas.List.{get_or-set_same}
 use Rattle.residue_words.specs.Matrix.{IsVector}
 use Rattle.dense_finish.specs.Dense.{IsZeroAtFree, IsFirstFree, IsPivotOf, KeepsCoefficients}
 use Rattle.dense_finish.proofs.BlockRows.{read_row, reduced_row}
 use Rattle.dense_finish.proofs.Growing.{found_own}
 use Rattle.dense_finish.proofs.Progress.{panel_begins}
-use Rattle.dense_finish.proofs.Stages.{reduced_vector, stage_more, stage_more_split, stage_same, stage_same_split}
+use Rattle.dense_finish.proofs.Stages.{kept_same, reduced_vector, stage_more, stage_more_kept, stage_more_split, stage_same, stage_same_split}
 use Rattle.dense_finish.proofs.elimination.find_pivots.Goals as goal
 use Rattle.dense_finish.proofs.elimination.find_pivots.Goals.{in-Some+in_ok-pivot+in_ok-push, in_default}
 
@@ -16,6 +16,7 @@ loop-i-init g c = record {
     eliminated = c.requires.eliminated;
     holds = rw c.new-panel.ensures (panel_begins c.args.columns.now c.args.pivots.now);
   };
+  kept = kept_same;
   split = λ prime from h. h;
 }
 
@@ -83,6 +84,7 @@ loop-i-preserved g c =
           subst (λ u. KeepsCoefficients c.args.p.now w.in-Some.c taken u w.take_pivot.new.row) read w.in_ok-pivot.ensures.kept in
           rw (w.block-is, w.pivots-is, w.panel-is, w.in_ok-push.ensures.pivot) record {
             state = stage_more state inside reduced first w.in_ok-pivot.ensures.added pivot kept;
+            kept = stage_more_kept state inside reduced first w.in_ok-pivot.ensures.added pivot kept c.loop-i.invariant.kept;
             split = λ prime from h. stage_more_split state inside reduced first w.in_ok-pivot.ensures.added pivot kept prime from (c.loop-i.invariant.split prime from h);
           }
       | in_default w ↦
@@ -90,6 +92,7 @@ loop-i-preserved g c =
           λ j l free. ap (λ u. slice_index u j) (sym left) ∙ w.in_default.ensures.none j (omega (arith, ap length left)) (ap (λ t. slice_index_or t j false) c.deref.ensures.value ∙ free) in
           rw (w.block-is, w.pivots-is, w.panel-is) record {
             state = stage_same state inside reduced none;
+            kept = c.loop-i.invariant.kept;
             split = λ prime from h. stage_same_split state inside reduced from (c.loop-i.invariant.split prime from h);
           }
     ]
@@ -102,6 +105,9 @@ returns-clause-eliminated g c = let end : c.loop-i.i ≡ c.args.end = omega arit
 
 pub returns-clause-panel : goal.returns-clause-panel
 returns-clause-panel g c = c.loop-i.invariant.state.holds
+
+pub returns-clause-kept : goal.returns-clause-kept
+returns-clause-kept g c = c.loop-i.invariant.kept
 
 pub returns-clause-split : goal.returns-clause-split
 returns-clause-split g c = let end : c.loop-i.i ≡ c.args.end = omega arith in rw (← end) c.loop-i.invariant.split
