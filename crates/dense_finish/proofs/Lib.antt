@@ -2,6 +2,7 @@ pub mod Adding
 pub mod AddingEach
 pub mod Assembling
 pub mod BlockRows
+pub mod Blocks
 pub mod Dividing
 pub mod Filling
 pub mod Gathering

@@ -1,16 +1,61 @@
 // The dense block of a sparse matrix.
 ghost use Rattle.std.specs.Prelude.{◌≡◌, IfOk};
+ghost use Rattle.std.specs.Thread.{IsSync, IsSend};
 ghost use Rattle.dense_finish.specs.Block.{IsBlock};
-ghost use Rattle.sparse_rows.specs.Rows.{AreFilled, AreOccupied};
+ghost use Rattle.sparse_rows.specs.Rows.{AreBelow, AreOccupied};
 
 use crate::dense::Dense;
 use crate::residue::Residue;
 use residue_words::Modulus;
 use sparse_rows::Rows;
 use std::alloc::{AllocError, Global};
+use std::thread::{Threads, join};
 
-// The entries at the rows and columns that have one.
-pub(crate) fn block_of<W: Residue>(
+// The entries of these rows at the columns that have one, made by so many workers: each makes some of the rows.
+pub(crate) fn shared_block<R: Threads + Sync, W: Residue>(
+    rt: &R,
+    alloc: Global,
+    rows: &Rows,
+    filled_rows: &[u32],
+    columns: &[u32],
+    p: &Modulus,
+    workers: usize,
+) -> Result<Vec<Dense<W>>, AllocError>
+    requires modulus { W.serves p.now }
+    requires same { p.now ≡ rows.now.modulus }
+    requires rows { AreBelow rows.now.matrix.height filled_rows.now }
+    requires columns { AreOccupied rows.now.matrix columns.now }
+    ensures { IfOk result (λ block. IsBlock p.now rows.now.matrix filled_rows.now columns.now block.items) }
+{
+    if workers <= 1 {
+        return block_of(alloc, rows, filled_rows, columns, p);
+    }
+    let fewer = workers / 2;
+    let others = workers - fewer;
+    let (a, b) = filled_rows.split_at(filled_rows.len() / 2);
+    let (front, back) = join(
+        rt,
+        || -> Result<Vec<Dense<W>>, AllocError>
+            requires { IsSync R.row × IsSend W.row × W.serves p.now × (p.now ≡ rows.now.modulus)
+                × AreBelow rows.now.matrix.height a.now × AreOccupied rows.now.matrix columns.now }
+            ensures { IfOk result (λ block.
+                IsBlock p.entry.now rows.entry.now.matrix a.entry.now columns.entry.now block.items) }
+        { shared_block(rt, alloc, rows, a, columns, p, fewer) },
+        || -> Result<Vec<Dense<W>>, AllocError>
+            requires { IsSync R.row × IsSend W.row × W.serves p.now × (p.now ≡ rows.now.modulus)
+                × AreBelow rows.now.matrix.height b.now × AreOccupied rows.now.matrix columns.now }
+            ensures { IfOk result (λ block.
+                IsBlock p.entry.now rows.entry.now.matrix b.entry.now columns.entry.now block.items) }
+        { shared_block(rt, alloc, rows, b, columns, p, others) },
+    );
+    let mut block = front?;
+    let mut rest = back?;
+    block.append(&mut rest)?;
+    Ok(block)
+}
+
+// The entries of these rows at the columns that have one.
+fn block_of<W: Residue>(
     alloc: Global,
     rows: &Rows,
     filled_rows: &[u32],
@@ -19,7 +64,7 @@ pub(crate) fn block_of<W: Residue>(
 ) -> Result<Vec<Dense<W>>, AllocError>
     requires modulus { W.serves p.now }
     requires same { p.now ≡ rows.now.modulus }
-    requires rows { AreFilled rows.now.matrix filled_rows.now }
+    requires rows { AreBelow rows.now.matrix.height filled_rows.now }
     requires columns { AreOccupied rows.now.matrix columns.now }
     ensures { IfOk result (λ block. IsBlock p.now rows.now.matrix filled_rows.now columns.now block.items) }
 {

@@ -12,7 +12,7 @@ ghost use Rattle.dense_finish.specs.Factors.{IsFactored};
 ghost use Rattle.sparse_rows.specs.Rows.{AreBelow};
 ghost use Rattle.dense_finish.specs.Pivots.{AddsPivot, AreEliminated, AreFound, CanGoOn, FindsPanel, IsPanelFrom, KeepsPivots, KeepsSplit, SplitBy, count, pivot_at, round, stage};
 
-use crate::block::block_of;
+use crate::block::shared_block;
 use crate::dense::Dense;
 use crate::factors::{Factors, left_factor};
 use crate::panel::{PANEL, Panel};
@@ -66,7 +66,7 @@ fn finish_in<R: Threads + Sync, W: Reducing>(
     let height = rows.height();
     let filled = rows.filled(alloc)?;
     let columns = rows.occupied(alloc)?;
-    let mut block = block_of::<W>(alloc, rows, &filled, &columns, p)?;
+    let mut block = shared_block::<R, W>(rt, alloc, rows, &filled, &columns, p, workers)?;
     let pivots = eliminate(rt, alloc, &mut block, &columns, rows.width(), p, workers)?;
     let l = left_factor(
         alloc,

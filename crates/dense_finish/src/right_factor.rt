@@ -2,7 +2,7 @@
 ghost use Rattle.std.specs.Prelude.{◌≡◌, ◌≤◌, IfOk};
 ghost use Rattle.dense_finish.specs.Factors.{IsRightFactored};
 
-use crate::block::block_of;
+use crate::block::shared_block;
 use crate::elimination::eliminate;
 use crate::pivots::Pivots;
 use crate::reducing::Reducing;
@@ -59,7 +59,7 @@ fn finish_right_in<R: Threads + Sync, W: Reducing>(
     let width = rows.width();
     let filled = rows.filled(alloc)?;
     let columns = rows.occupied(alloc)?;
-    let mut block = block_of::<W>(alloc, &rows, &filled, &columns, p)?;
+    let mut block = shared_block::<R, W>(rt, alloc, &rows, &filled, &columns, p, workers)?;
     drop(rows);
     let pivots = eliminate(rt, alloc, &mut block, &columns, width, p, workers)?;
     let places = pivots.places(alloc, &filled, &columns)?;

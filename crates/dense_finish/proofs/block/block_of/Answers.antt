@@ -14,7 +14,7 @@ loop-i-init g c =
 pub of_entries-requires-clause-known : goal.of_entries-requires-clause-known
 of_entries-requires-clause-known g c κs within =
     let A = c.args.rows.now.matrix in
-    column_known A c.args.columns.now (slice_index c.args.filled_rows.now c.loop-i.i-index) c.requires.columns (c.requires.rows.below c.loop-i.i-index (omega arith)) c.cols.result.now c.vals.result.now
+    column_known A c.args.columns.now (slice_index c.args.filled_rows.now c.loop-i.i-index) c.requires.columns (c.requires.rows c.loop-i.i-index (omega arith)) c.cols.result.now c.vals.result.now
     c.cols.ensures.support c.vals.ensures.values (c.cols.ensures.same_length ∙ ap length (sym c.vals.ensures.values)) c.cols.ensures.ascending c.vals.ensures.positive c.cols.ensures.below_width
 
 pub loop-i-preserved : goal.loop-i-preserved
