@@ -6,8 +6,8 @@ use crate::check;
 use certificates::{CertKind, Certificate};
 use residue_words::Modulus;
 use residue_words::plain::Pair;
-use sparse_rows::{LARGEST_SIZE, List, Rows, RowsBuilder};
-use std::alloc::{AllocError, Global};
+use sparse_rows::{List, Rows};
+use std::alloc::Global;
 use std::test::Fail;
 
 // The height and the width of a matrix, and its entries.
@@ -47,366 +47,234 @@ const NOTHING: Table = (0, 0, &[]);
 
 const HUGE: u32 = 2_147_483_647;
 
-// On X first; what a comment says holds up to the next.
+// The rank of X.
+const RANK: Case = Case {
+    a: (3, 3, X),
+    kind: CertKind::Rank,
+    p: 7,
+    pivots: PIVOTS,
+    l: (3, 2, LEFT),
+    u: (2, 3, RIGHT),
+    last: NOTHING,
+    valid: true,
+};
+
+// The form of X.
+const FORM: Case = Case {
+    kind: CertKind::Rref,
+    last: (2, 3, RIGHT),
+    ..RANK
+};
+
+// The kernel of X.
+const KERNEL: Case = Case {
+    kind: CertKind::Kernel,
+    last: (1, 3, &[(0, 0, 5), (0, 1, 1)]),
+    ..RANK
+};
+
+// The kernel of a matrix without rows.
+const ROWLESS: Case = Case {
+    a: (0, 2, &[]),
+    kind: CertKind::Kernel,
+    pivots: &[],
+    l: (0, 0, &[]),
+    u: (0, 2, &[]),
+    last: (2, 2, &[(0, 0, 1), (1, 1, 1)]),
+    ..RANK
+};
+
+// The rank of a matrix whose sizes cost nothing by themselves.
+const FAR: Case = Case {
+    a: (HUGE, HUGE, &[(5, 2147483646, 3)]),
+    pivots: &[(5, 2147483646)],
+    l: (HUGE, 1, &[(5, 0, 3)]),
+    u: (1, HUGE, &[(0, 2147483646, 1)]),
+    ..RANK
+};
+
+// What a comment says holds up to the next.
 const CASES: &[Case] = &[
     // Ranks.
-    Case {
-        a: (3, 3, X),
-        kind: CertKind::Rank,
-        p: 7,
-        pivots: PIVOTS,
-        l: (3, 2, LEFT),
-        u: (2, 3, RIGHT),
-        last: NOTHING,
-        valid: true,
-    },
+    RANK,
     // The product is another.
     Case {
-        a: (3, 3, X),
-        kind: CertKind::Rank,
-        p: 7,
-        pivots: PIVOTS,
         l: (
             3,
             2,
             &[(0, 0, 2), (0, 1, 1), (1, 0, 1), (2, 0, 4), (2, 1, 1)],
         ),
-        u: (2, 3, RIGHT),
-        last: NOTHING,
         valid: false,
+        ..RANK
     },
     // The product is right, and the pivots are in the wrong order.
     Case {
-        a: (3, 3, X),
-        kind: CertKind::Rank,
-        p: 7,
         pivots: &[(0, 2), (1, 0)],
-        l: (3, 2, LEFT),
-        u: (2, 3, RIGHT),
-        last: NOTHING,
         valid: false,
+        ..RANK
     },
     // A row and a column stand twice.
     Case {
-        a: (3, 3, X),
-        kind: CertKind::Rank,
-        p: 7,
         pivots: &[(1, 0), (1, 0)],
-        l: (3, 2, LEFT),
-        u: (2, 3, RIGHT),
-        last: NOTHING,
         valid: false,
+        ..RANK
     },
     // A pivot lies outside.
     Case {
-        a: (3, 3, X),
-        kind: CertKind::Rank,
-        p: 7,
         pivots: &[(1, 0), (3, 2)],
-        l: (3, 2, LEFT),
-        u: (2, 3, RIGHT),
-        last: NOTHING,
         valid: false,
+        ..RANK
     },
     Case {
-        a: (3, 3, X),
-        kind: CertKind::Rank,
-        p: 7,
         pivots: &[(1, 0), (0, 3)],
-        l: (3, 2, LEFT),
-        u: (2, 3, RIGHT),
-        last: NOTHING,
         valid: false,
+        ..RANK
     },
     // Another modulus.
     Case {
-        a: (3, 3, X),
-        kind: CertKind::Rank,
         p: 5,
-        pivots: PIVOTS,
-        l: (3, 2, LEFT),
-        u: (2, 3, RIGHT),
-        last: NOTHING,
         valid: false,
+        ..RANK
     },
     // More pivots than rows, and none.
     Case {
-        a: (3, 3, X),
-        kind: CertKind::Rank,
-        p: 7,
         pivots: &[(0, 0), (1, 1), (2, 2), (3, 3)],
         l: (3, 4, &[]),
         u: (4, 3, &[]),
-        last: NOTHING,
         valid: false,
+        ..RANK
     },
     Case {
-        a: (3, 3, X),
-        kind: CertKind::Rank,
-        p: 7,
         pivots: &[],
         l: (3, 0, &[]),
         u: (0, 3, &[]),
-        last: NOTHING,
         valid: false,
+        ..RANK
     },
     Case {
         a: (2, 2, &[]),
-        kind: CertKind::Rank,
-        p: 7,
         pivots: &[],
         l: (2, 0, &[]),
         u: (0, 2, &[]),
-        last: NOTHING,
-        valid: true,
+        ..RANK
     },
     // Sizes that don't fit.
     Case {
-        a: (3, 3, X),
-        kind: CertKind::Rank,
-        p: 7,
-        pivots: PIVOTS,
-        l: (2, 2, LEFT),
-        u: (2, 3, RIGHT),
-        last: NOTHING,
+        l: (2, 2, &[(0, 0, 2), (0, 1, 1), (1, 0, 1)]),
         valid: false,
+        ..RANK
     },
     Case {
-        a: (3, 3, X),
-        kind: CertKind::Rank,
-        p: 7,
-        pivots: PIVOTS,
-        l: (3, 2, LEFT),
         u: (2, 4, RIGHT),
-        last: NOTHING,
         valid: false,
+        ..RANK
+    },
+    Case {
+        l: (HUGE, HUGE, LEFT),
+        valid: false,
+        ..RANK
     },
     // Echelon forms.
-    Case {
-        a: (3, 3, X),
-        kind: CertKind::Rref,
-        p: 7,
-        pivots: PIVOTS,
-        l: (3, 2, LEFT),
-        u: (2, 3, RIGHT),
-        last: (2, 3, RIGHT),
-        valid: true,
-    },
+    FORM,
     // Another row isn't 0 at a lead.
     Case {
-        a: (3, 3, X),
-        kind: CertKind::Rref,
-        p: 7,
-        pivots: PIVOTS,
-        l: (3, 2, LEFT),
-        u: (2, 3, RIGHT),
         last: (2, 3, &[(0, 0, 1), (0, 1, 2), (0, 2, 1), (1, 2, 1)]),
         valid: false,
+        ..FORM
     },
     // Leads that fall, a lead that isn't 1, a row of zeros.
     Case {
-        a: (3, 3, X),
-        kind: CertKind::Rref,
-        p: 7,
-        pivots: PIVOTS,
-        l: (3, 2, LEFT),
-        u: (2, 3, RIGHT),
         last: (2, 3, &[(0, 2, 1), (1, 0, 1), (1, 1, 2)]),
         valid: false,
+        ..FORM
     },
     Case {
-        a: (3, 3, X),
-        kind: CertKind::Rref,
-        p: 7,
-        pivots: PIVOTS,
-        l: (3, 2, LEFT),
-        u: (2, 3, RIGHT),
         last: (2, 3, &[(0, 0, 1), (0, 1, 2), (1, 2, 3)]),
         valid: false,
+        ..FORM
     },
     Case {
-        a: (3, 3, X),
-        kind: CertKind::Rref,
-        p: 7,
-        pivots: PIVOTS,
-        l: (3, 2, LEFT),
-        u: (2, 3, RIGHT),
         last: (2, 3, &[(0, 0, 1), (0, 1, 2)]),
         valid: false,
+        ..FORM
     },
     // Another form.
     Case {
-        a: (3, 3, X),
-        kind: CertKind::Rref,
-        p: 7,
-        pivots: PIVOTS,
-        l: (3, 2, LEFT),
-        u: (2, 3, RIGHT),
         last: (2, 3, &[(0, 0, 1), (0, 1, 3), (1, 2, 1)]),
         valid: false,
+        ..FORM
     },
     Case {
-        a: (3, 3, X),
-        kind: CertKind::Rref,
-        p: 7,
-        pivots: PIVOTS,
-        l: (3, 2, LEFT),
-        u: (2, 3, RIGHT),
         last: (3, 3, &[(0, 0, 1), (1, 1, 1), (2, 2, 1)]),
         valid: false,
+        ..FORM
     },
     // Kernel bases.
+    KERNEL,
+    ROWLESS,
+    // An end that isn't 1, a vector that isn't null, too few, and ends that fall.
     Case {
-        a: (3, 3, X),
-        kind: CertKind::Kernel,
-        p: 7,
-        pivots: PIVOTS,
-        l: (3, 2, LEFT),
-        u: (2, 3, RIGHT),
-        last: (1, 3, &[(0, 0, 5), (0, 1, 1)]),
-        valid: true,
-    },
-    // An end that isn't 1, a vector that isn't null, and too few.
-    Case {
-        a: (3, 3, X),
-        kind: CertKind::Kernel,
-        p: 7,
-        pivots: PIVOTS,
-        l: (3, 2, LEFT),
-        u: (2, 3, RIGHT),
         last: (1, 3, &[(0, 0, 3), (0, 1, 2)]),
         valid: false,
+        ..KERNEL
     },
     Case {
-        a: (3, 3, X),
-        kind: CertKind::Kernel,
-        p: 7,
-        pivots: PIVOTS,
-        l: (3, 2, LEFT),
-        u: (2, 3, RIGHT),
         last: (1, 3, &[(0, 0, 4), (0, 1, 1)]),
         valid: false,
+        ..KERNEL
     },
     Case {
-        a: (3, 3, X),
-        kind: CertKind::Kernel,
-        p: 7,
-        pivots: PIVOTS,
-        l: (3, 2, LEFT),
-        u: (2, 3, RIGHT),
         last: (0, 3, &[]),
         valid: false,
+        ..KERNEL
     },
     Case {
-        a: (0, 2, &[]),
-        kind: CertKind::Kernel,
-        p: 7,
-        pivots: &[],
-        l: (0, 0, &[]),
-        u: (0, 2, &[]),
-        last: (2, 2, &[(0, 0, 1), (1, 1, 1)]),
-        valid: true,
-    },
-    Case {
-        a: (0, 2, &[]),
-        kind: CertKind::Kernel,
-        p: 7,
-        pivots: &[],
-        l: (0, 0, &[]),
-        u: (0, 2, &[]),
         last: (2, 2, &[(0, 1, 1), (1, 0, 1)]),
         valid: false,
+        ..ROWLESS
     },
     // Sizes that cost nothing by themselves.
+    FAR,
     Case {
-        a: (HUGE, HUGE, &[(5, 2147483646, 3)]),
-        kind: CertKind::Rank,
-        p: 7,
-        pivots: &[(5, 2147483646)],
-        l: (HUGE, 1, &[(5, 0, 3)]),
-        u: (1, HUGE, &[(0, 2147483646, 1)]),
-        last: NOTHING,
-        valid: true,
-    },
-    Case {
-        a: (HUGE, HUGE, &[(5, 2147483646, 3)]),
         kind: CertKind::Rref,
-        p: 7,
-        pivots: &[(5, 2147483646)],
-        l: (HUGE, 1, &[(5, 0, 3)]),
-        u: (1, HUGE, &[(0, 2147483646, 1)]),
         last: (1, HUGE, &[(0, 2147483646, 1)]),
-        valid: true,
+        ..FAR
     },
     Case {
         a: (HUGE, HUGE, &[(5, 2147483646, 3), (7, 3, 1)]),
-        kind: CertKind::Rank,
-        p: 7,
-        pivots: &[(5, 2147483646)],
-        l: (HUGE, 1, &[(5, 0, 3)]),
-        u: (1, HUGE, &[(0, 2147483646, 1)]),
-        last: NOTHING,
         valid: false,
+        ..FAR
     },
     Case {
         a: (HUGE, HUGE, &[(5, 2147483646, 3), (7, 2147483646, 1)]),
-        kind: CertKind::Rank,
-        p: 7,
-        pivots: &[(5, 2147483646)],
-        l: (HUGE, 1, &[(5, 0, 3)]),
-        u: (1, HUGE, &[(0, 2147483646, 1)]),
-        last: NOTHING,
         valid: false,
+        ..FAR
     },
     Case {
-        a: (HUGE, HUGE, &[(5, 2147483646, 3)]),
-        kind: CertKind::Rank,
-        p: 7,
-        pivots: &[(5, 2147483646)],
         l: (HUGE, 1, &[(5, 0, 3), (7, 0, 1)]),
-        u: (1, HUGE, &[(0, 2147483646, 1)]),
-        last: NOTHING,
         valid: false,
+        ..FAR
     },
     Case {
-        a: (HUGE, HUGE, &[(5, 2147483646, 3)]),
         kind: CertKind::Kernel,
-        p: 7,
-        pivots: &[(5, 2147483646)],
-        l: (HUGE, 1, &[(5, 0, 3)]),
-        u: (1, HUGE, &[(0, 2147483646, 1)]),
         last: (2147483646, HUGE, &[]),
         valid: false,
-    },
-    Case {
-        a: (3, 3, X),
-        kind: CertKind::Rank,
-        p: 7,
-        pivots: PIVOTS,
-        l: (HUGE, HUGE, LEFT),
-        u: (2, 3, RIGHT),
-        last: NOTHING,
-        valid: false,
+        ..FAR
     },
 ];
 
-// The matrix of these sizes modulo 7 with those of the entries that fit.
-fn built(alloc: Global, table: &Table) -> Result<Rows, AllocError>
+// The matrix of these sizes modulo 7 with these entries.
+fn built(alloc: Global, table: &Table) -> Result<Rows, Fail>
     ensures { IfOk result (λ rows. rows.modulus ≡ 7) }
 {
-    let m = table.0.min(LARGEST_SIZE);
-    let n = table.1.min(LARGEST_SIZE);
-    let mut builder = RowsBuilder::new(alloc, m, n, Modulus::new(7))?;
-    for (i, j, v) in table.2 {
-        if *i < m && *j < n && *v < 7 {
-            builder.push(*i, *j, *v)?;
-        }
+    match Rows::checked_from_triples(alloc, table.0, table.1, &Modulus::new(7), table.2)? {
+        Some(rows) => Ok(rows),
+        None => Err(Fail::new("a place is outside")),
     }
-    builder.finish()
 }
 
 // The certificate, with as many pivots as its rank is.
-fn certificate(alloc: Global, case: &Case) -> Result<Certificate, AllocError>
+fn certificate(alloc: Global, case: &Case) -> Result<Certificate, Fail>
     ensures { IfOk result (IsFormed 7) }
 {
     let mut pivots = List::new(alloc);
