@@ -1,5 +1,5 @@
 -- The rounds of an elimination, and a block that is cut: of its second part the rows are reduced alone.
-use Rattle.std.proofs.Common.{ℕ, ◌≡◌, ◌+◌, ◌-◌, ◌<◌, ◌≤◌, ◌∙◌, inl, inr, List, [], ◌++◌, ap, arith, drop, length, length-append, length-drop, slice_index, subst, sym, take}
+use Rattle.std.proofs.Common.{ℕ, ◌≡◌, ◌+◌, ◌-◌, ◌<◌, ◌≤◌, ◌∙◌, inl, inr, List, [], ◌++◌, ap, arith, drop, length, length-append, length-drop, refl, slice_index, subst, sym, take}
 use Rattle.std.proofs.lemmas.Bool.{cases_lt}
 use Rattle.std.proofs.lemmas.List.{get_or-append_right, get_or-drop, get_or-take, get_or_append_left, length-take-le}
 use Rattle.residue_words.specs.Matrix.{IsVector}
@@ -9,6 +9,7 @@ use Rattle.dense_finish.specs.Block.{AreVectors, block_row}
 use Rattle.dense_finish.specs.Panel.{PanelReducesEach, PanelRows, no_pivots}
 use Rattle.dense_finish.specs.Pivots.{AreEliminated, AreSplit, CanGoOn, FindsPanel, IsPanelFrom, Round, before_panel, count, pivot_sequence, round, stage, stage_of}
 use Rattle.dense_finish.specs.Splitting.{IsSplit}
+use Rattle.dense_finish.specs.Units.{AreUnits}
 use Rattle.dense_finish.proofs.Growing.{found_own}
 use Rattle.dense_finish.proofs.Progress.{panel_begins, reduced_split, split_begins}
 use Rattle.dense_finish.proofs.Splitting.{split_same}
@@ -24,6 +25,9 @@ pub split_start : {p : ℕ} (names : List ℕ) (block : List (List ℕ)) (f : Pi
 split_start {p} names block f none =
     let all : count f ≡ before_panel (round f (no_pivots (length names)) block 0) = omega arith in
     subst (λ r. AreSplit p names r block (stage f block 0)) all (split_begins names block f none)
+
+pub no_units : {p n : ℕ} → AreUnits p (no_pivots n) 0 []
+no_units = record { long = refl; reduced = λ k l. absurd (omega arith); before = λ k j l. absurd (omega arith) }
 
 -- what is found goes on
 module _ {p : ℕ} {names : List ℕ} {old new : Round} (finds : FindsPanel p names old new) where

@@ -24,8 +24,16 @@ use sparse_rows::Rows;
 use std::alloc::{AllocError, Global};
 use std::thread::{Threads, join_mut};
 
-// About so many rows could be reduced by a panel's pivots while these are found.
-const FINDING: usize = 96;
+// About so many rows could be reduced by a panel's pivots while these and their units are found.
+const FINDING: usize = 144;
+
+// A panel's pivots, and what they leave of the unit rows at their columns, which is 0 before column `first`.
+#[derive(Drop)]
+struct Found<W: Residue> {
+    panel: Panel<W>,
+    units: Vec<Dense<W>>,
+    first: usize,
+}
 
 /// Factors of a matrix, by so many workers: the same for every number of them.
 ///
@@ -111,14 +119,18 @@ pub(crate) fn eliminate<R: Threads + Sync, W: Reducing>(
         SplitBy p.now columns.now pivots block.old block.new) }
 {
     let mut pivots = Pivots::new(alloc, columns, width, p)?;
-    let mut panel = Panel::new(alloc, columns.len());
+    let mut found = Found {
+        panel: Panel::new(alloc, columns.len()),
+        units: Vec::new(alloc),
+        first: 0,
+    };
     let mut done = 0;
     while done < block.len() {
         let end = block.len().min(done + PANEL);
-        panel = next_panel(
+        found = next_panel(
             rt,
             alloc,
-            &panel,
+            &found,
             done,
             end,
             columns,
@@ -136,7 +148,7 @@ pub(crate) fn eliminate<R: Threads + Sync, W: Reducing>(
 fn next_panel<R: Threads + Sync, W: Reducing>(
     rt: &R,
     alloc: Global,
-    panel: &Panel<W>,
+    found: &Found<W>,
     start: usize,
     end: usize,
     columns: &[u32],
@@ -144,29 +156,26 @@ fn next_panel<R: Threads + Sync, W: Reducing>(
     pivots: &mut Pivots,
     block: &mut [Dense<W>],
     workers: usize,
-) -> Result<Panel<W>, AllocError>
+) -> Result<Found<W>, AllocError>
     requires modulus { W.serves p.now }
     requires some { 1 ≤ workers }
     requires order { start ≤ end }
     requires end { end ≤ length block.old }
-    requires ready { CanGoOn p.now columns.now (round pivots.old panel.now block.old start) }
-    ensures { IfOk result (λ next. FindsPanel p.now columns.now
-        (round pivots.old panel.now block.old start) (round pivots.new next block.new end)) }
+    requires ready { CanGoOn p.now columns.now (round pivots.old found.now.panel block.old start) }
+    requires units { AreUnits p.now found.now.panel found.now.first found.now.units.items }
+    ensures found { IfOk result (λ next. FindsPanel p.now columns.now
+        (round pivots.old found.now.panel block.old start) (round pivots.new next.panel block.new end)) }
+    ensures units { IfOk result (λ next. AreUnits p.now next.panel next.first next.units.items) }
 {
-    let (units, first) = panel.units(rt, alloc, p, workers)?;
-    if workers == 1 || panel.is_empty() {
-        return reduce_and_find(
-            alloc, panel, &units, first, start, end, columns, p, pivots, block,
-        );
+    if workers == 1 || found.panel.is_empty() {
+        return reduce_and_find(alloc, found, start, end, columns, p, pivots, block);
     }
     let cut = rows_of_finder(start, end, block.len(), workers);
     let (own, others) = block.split_at_mut(cut);
     find_beside(
         rt,
         alloc,
-        panel,
-        &units,
-        first,
+        found,
         start,
         end,
         columns,
@@ -198,9 +207,7 @@ fn rows_of_finder(start: usize, end: usize, height: usize, workers: usize) -> us
 fn find_beside<R: Threads + Sync, W: Reducing>(
     rt: &R,
     alloc: Global,
-    panel: &Panel<W>,
-    units: &[Dense<W>],
-    first: usize,
+    found: &Found<W>,
     start: usize,
     end: usize,
     columns: &[u32],
@@ -209,63 +216,72 @@ fn find_beside<R: Threads + Sync, W: Reducing>(
     own: &mut [Dense<W>],
     others: &mut [Dense<W>],
     helpers: usize,
-) -> Result<Panel<W>, AllocError>
+) -> Result<Found<W>, AllocError>
     requires modulus { W.serves p.now }
     requires some { 1 ≤ helpers }
     requires order { start ≤ end }
     requires end { end ≤ length own.old }
-    requires ready { CanGoOn p.now columns.now (round pivots.old panel.now own.old start) }
-    requires others { AreVectors p.now panel.now.width others.old }
-    requires units { AreUnits p.now panel.now first units.now }
+    requires ready { CanGoOn p.now columns.now (round pivots.old found.now.panel own.old start) }
+    requires others { AreVectors p.now found.now.panel.width others.old }
+    requires units { AreUnits p.now found.now.panel found.now.first found.now.units.items }
     ensures own { IfOk result (λ next. FindsPanel p.now columns.now
-        (round pivots.old panel.now own.old start) (round pivots.new next own.new end)) }
-    ensures others { PanelReducesEach p.now panel.now others.old others.new }
+        (round pivots.old found.now.panel own.old start) (round pivots.new next.panel own.new end)) }
+    ensures units { IfOk result (λ next. AreUnits p.now next.panel next.first next.units.items) }
+    ensures others { PanelReducesEach p.now found.now.panel others.old others.new }
 {
     let mut help = ||
-        requires { W.serves p.now × (1 ≤ helpers) × AreVectors p.now panel.now.width others.now
-            × ArePivots p.now panel.now × AreUnits p.now panel.now first units.now }
-        ensures { PanelReducesEach p.entry.now panel.entry.now others.entry.now others.exit.now }
-    { panel.share(rt, units, first, others, p, helpers) };
-    let mut find = || -> Result<Panel<W>, AllocError>
-        requires { W.serves p.now × (start ≤ end) × (end ≤ length own.now)
-            × CanGoOn p.now columns.now (round pivots.now panel.now own.now start)
-            × AreUnits p.now panel.now first units.now }
-        ensures { IfOk result (λ next. FindsPanel p.entry.now columns.entry.now
-            (round pivots.entry.now panel.entry.now own.entry.now start)
-            (round pivots.exit.now next own.exit.now end)) }
+        requires { W.serves p.now × (1 ≤ helpers) × AreVectors p.now found.now.panel.width others.now
+            × ArePivots p.now found.now.panel
+            × AreUnits p.now found.now.panel found.now.first found.now.units.items }
+        ensures { PanelReducesEach p.entry.now found.entry.now.panel others.entry.now others.exit.now }
     {
-        reduce_and_find(
-            alloc, panel, units, first, start, end, columns, p, pivots, own,
-        )
+        found
+            .panel
+            .share(rt, &found.units, found.first, others, p, helpers)
     };
-    let (found, ()) = join_mut(rt, &mut find, &mut help);
-    found
+    let mut find = || -> Result<Found<W>, AllocError>
+        requires { W.serves p.now × (start ≤ end) × (end ≤ length own.now)
+            × CanGoOn p.now columns.now (round pivots.now found.now.panel own.now start)
+            × AreUnits p.now found.now.panel found.now.first found.now.units.items }
+        ensures { IfOk result (λ next. FindsPanel p.entry.now columns.entry.now
+            (round pivots.entry.now found.entry.now.panel own.entry.now start)
+            (round pivots.exit.now next.panel own.exit.now end))
+            × IfOk result (λ next. AreUnits p.entry.now next.panel next.first next.units.items) }
+    { reduce_and_find(alloc, found, start, end, columns, p, pivots, own) };
+    let (next, ()) = join_mut(rt, &mut find, &mut help);
+    next
 }
 
 // Takes a panel's pivots out of the rows from start on, and finds those of the rows up to end.
 fn reduce_and_find<W: Reducing>(
     alloc: Global,
-    panel: &Panel<W>,
-    units: &[Dense<W>],
-    first: usize,
+    found: &Found<W>,
     start: usize,
     end: usize,
     columns: &[u32],
     p: &Modulus,
     pivots: &mut Pivots,
     block: &mut [Dense<W>],
-) -> Result<Panel<W>, AllocError>
+) -> Result<Found<W>, AllocError>
     requires modulus { W.serves p.now }
     requires order { start ≤ end }
     requires end { end ≤ length block.old }
-    requires ready { CanGoOn p.now columns.now (round pivots.old panel.now block.old start) }
-    requires units { AreUnits p.now panel.now first units.now }
-    ensures { IfOk result (λ next. FindsPanel p.now columns.now
-        (round pivots.old panel.now block.old start) (round pivots.new next block.new end)) }
+    requires ready { CanGoOn p.now columns.now (round pivots.old found.now.panel block.old start) }
+    requires units { AreUnits p.now found.now.panel found.now.first found.now.units.items }
+    ensures found { IfOk result (λ next. FindsPanel p.now columns.now
+        (round pivots.old found.now.panel block.old start) (round pivots.new next.panel block.new end)) }
+    ensures units { IfOk result (λ next. AreUnits p.now next.panel next.first next.units.items) }
 {
-    panel.reduce_behind(units, first, block, start, p);
-    let next = find_pivots(alloc, block, start, end, columns, p, pivots)?;
-    Ok(next)
+    found
+        .panel
+        .reduce_behind(&found.units, found.first, block, start, p);
+    let panel = find_pivots(alloc, block, start, end, columns, p, pivots)?;
+    let (units, first) = panel.units(alloc, p)?;
+    Ok(Found {
+        panel,
+        units,
+        first,
+    })
 }
 
 // Finds the pivots of the rows from start to end, each reduced by those before it.

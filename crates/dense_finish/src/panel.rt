@@ -108,22 +108,18 @@ impl<W: Residue> Panel<W> {
 }
 
 impl<W: Reducing> Panel<W> {
-    // What the pivots leave of the unit rows at their columns, made by so many workers, and how many columns come before the first
-    // entry of these rows.
-    pub(crate) fn units<R: Threads + Sync>(
+    // What the pivots leave of the unit rows at their columns, and how many columns come before the first entry of these rows.
+    pub(crate) fn units(
         &self,
-        rt: &R,
         alloc: Global,
         p: &Modulus,
-        workers: usize,
     ) -> Result<(Vec<Dense<W>>, usize), AllocError>
         requires modulus { W.serves p.now }
-        requires some { 1 ≤ workers }
         requires pivots { ArePivots p.now self.now }
         ensures { IfOk result (λ units. AreUnits p.now self.now units.1 units.0.items) }
     {
         let mut units = self.unit_rows(alloc, p)?;
-        self.reduce_shared(rt, &mut units, p, workers);
+        self.reduce_each(&mut units, p);
         let first = zeros_before(&units, self.width);
         Ok((units, first))
     }
@@ -151,37 +147,6 @@ impl<W: Reducing> Panel<W> {
             return;
         }
         W::take_out(self, units, first, &mut rows[from..], p);
-    }
-
-    // Takes the pivots out of each row, one after the other, by so many workers.
-    fn reduce_shared<R: Threads + Sync>(
-        &self,
-        rt: &R,
-        rows: &mut [Dense<W>],
-        p: &Modulus,
-        workers: usize,
-    )
-        requires modulus { W.serves p.now }
-        requires some { 1 ≤ workers }
-        requires residues { AreVectors p.now self.now.width rows.old }
-        requires pivots { ArePivots p.now self.now }
-        ensures { PanelReducesEach p.now self.now rows.old rows.new }
-    {
-        if workers == 1 || rows.is_empty() {
-            self.reduce_each(rows, p);
-            return;
-        }
-        let size = rows.len().div_ceil(workers);
-        par_chunks_mut_for_each(
-            rt,
-            rows,
-            size,
-            |_at: usize, piece: &mut [Dense<W>]|
-                requires { W.serves p.now × AreVectors p.now self.now.width piece.old
-                    × ArePivots p.now self.now }
-                ensures { PanelReducesEach p.entry.now self.entry.now piece.old piece.new }
-            { self.reduce_each(piece, p) },
-        );
     }
 
     // Takes the pivots out of each row by the units, by so many workers.

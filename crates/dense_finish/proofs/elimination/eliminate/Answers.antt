@@ -2,7 +2,7 @@ use Rattle.std.proofs.Common.{◌≡◌, ◌∙◌, arith, length, subst}
 use Rattle.dense_finish.specs.Pivots.{AreFound, count}
 use Rattle.dense_finish.proofs.Progress.{eliminated_begins}
 use Rattle.dense_finish.proofs.Growing.{found_own}
-use Rattle.dense_finish.proofs.Rounds.{holds_begins, ready_next, split_ends, split_next, split_start}
+use Rattle.dense_finish.proofs.Rounds.{holds_begins, no_units, ready_next, split_ends, split_next, split_start}
 use Rattle.dense_finish.proofs.elimination.eliminate.Goals as goal
 
 pub loop-done-init : goal.loop-done-init
@@ -10,7 +10,7 @@ loop-done-init g c =
     let pivots = c.in_ok-pivots.pivots in
     let block = c.args.block.now in
     let names = c.args.columns.now in
-    rw c.new-panel.ensures record {
+    rw (c.new-2.ensures, c.new-3.ensures.items) record {
       inside = omega arith;
       wide = c.in_ok-pivots.ensures.found.wide;
       ready = record {
@@ -22,17 +22,19 @@ loop-done-init g c =
         eliminated = eliminated_begins block pivots c.in_ok-pivots.ensures.none c.requires.residues;
         holds = holds_begins names pivots block;
       };
+      units = no_units;
       split = λ prime. split_start names block pivots c.in_ok-pivots.ensures.none;
     }
 
 pub loop-done-preserved : goal.loop-done-preserved
 loop-done-preserved g c =
-    let finds = c.in_ok-panel.ensures in
+    let finds = c.in_ok-found.ensures.found in
     let before = c.loop-done.invariant in
     record {
       inside = omega arith;
       wide = finds.found.wide ∙ before.wide;
       ready = ready_next finds before.ready c.next_panel.auto.block;
+      units = c.in_ok-found.ensures.units;
       split = λ prime. split_next finds c.args.block.now prime (before.split prime);
     }
 

@@ -9,14 +9,14 @@ find_pivots-requires-clause-eliminated g c κs within =
     eliminated_behind c.requires.ready.found c.reduce_behind.ensures.long c.reduce_behind.ensures.before
     (λ t a l. subst (λ n. IsVector c.args.p.now n (block_row c.reduce_behind.new.rows t)) c.requires.ready.holds.wide (c.reduce_behind.ensures.behind t a l).vector) c.requires.ready.eliminated
 
-pub returns : goal.returns
-returns g c =
+pub returns-clause-found : goal.returns-clause-found
+returns-clause-found g c =
     let ready = c.requires.ready in
     record {
-      found = c.in_ok-next.ensures.found;
-      eliminated = c.in_ok-next.ensures.eliminated;
-      holds = c.in_ok-next.ensures.panel;
-      kept = c.in_ok-next.ensures.kept;
+      found = c.in_ok-panel.ensures.found;
+      eliminated = c.in_ok-panel.ensures.eliminated;
+      holds = c.in_ok-panel.ensures.panel;
+      kept = c.in_ok-panel.ensures.kept;
       split = λ prime block before.
-          c.in_ok-next.ensures.split prime block (split_behind ready.holds ready.found.steps c.reduce_behind.ensures.long c.reduce_behind.ensures.before c.reduce_behind.ensures.behind before);
+          c.in_ok-panel.ensures.split prime block (split_behind ready.holds ready.found.steps c.reduce_behind.ensures.long c.reduce_behind.ensures.before c.reduce_behind.ensures.behind before);
     }
