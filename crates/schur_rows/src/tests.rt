@@ -1,6 +1,5 @@
 // What the leftmost pivots leave of scattered matrices: by flat rows as by walks, and by chunks as at once.
-ghost use Rattle.std.specs.Prelude.{◌≡◌, ◌<◌, ◌≤◌};
-ghost use Rattle.sparse_rows.specs.declared.rows.TheConstants.{LARGEST_SIZE};
+ghost use Rattle.std.specs.Prelude.{◌<◌, ◌≤◌};
 
 use crate::complement;
 use crate::row_reducer::RowReducer;
@@ -8,39 +7,28 @@ use crate::streamed::{ChunkSize, basis_by};
 use dense_finish::finish;
 use fl_pivots::leftmost;
 use residue_words::Modulus;
-use sparse_rows::{LARGEST_SIZE, Rows, RowsBuilder};
+use sparse_rows::Rows;
 use std::alloc::{AllocError, Global};
 use std::test::Fail;
 use std::thread::Threads;
 use triangular_solve::Triangle;
 
-// So many values for each row, at places that a generator scatters over the columns.
-fn places(alloc: Global, m: u32, n: u32, per: u32) -> Result<Vec<(u32, u32, u64)>, AllocError>
+// The matrix modulo 7 with so many values for each row, at places that a generator scatters over the columns.
+fn scattered(alloc: Global, m: u32, n: u32, per: u32) -> Result<Rows, Fail>
     requires { 0 < n }
 {
-    let mut places = Vec::new(alloc);
+    let mut triples = Vec::new(alloc);
     let mut state: u32 = 1;
     for i in 0..m {
         for _ in 0..per {
             state = state.wrapping_mul(1103515245).wrapping_add(12345);
-            places.push((i, (state >> 8) % n, u64::from((state >> 4) % 7)))?;
+            triples.push((i, (state >> 8) % n, u64::from((state >> 4) % 7)))?;
         }
     }
-    Ok(places)
-}
-
-// The matrix modulo 7 with these values.
-fn built(alloc: Global, m: u32, n: u32, places: &[(u32, u32, u64)]) -> Result<Rows, AllocError>
-    requires height { m ≤ LARGEST_SIZE }
-    requires width { n ≤ LARGEST_SIZE }
-{
-    let mut builder = RowsBuilder::new(alloc, m, n, Modulus::new(7))?;
-    for (i, j, v) in places {
-        if *i < m && *j < n && *v < 7 {
-            builder.push(*i, *j, *v)?;
-        }
+    match Rows::checked_from_triples(alloc, m, n, &Modulus::new(7), &triples)? {
+        Some(rows) => Ok(rows),
+        None => Err(Fail::new("a place is outside")),
     }
-    builder.finish()
 }
 
 // Whether two matrices have the same entries.
@@ -125,9 +113,8 @@ const SCATTERED: &[(u32, u32, u32)] = &[
 fn ways_and_chunks_agree(rt: HostRuntime) -> Result<(), Fail> {
     let alloc = rt.alloc();
     for (m, n, per) in SCATTERED {
-        assert!(rt; *m <= LARGEST_SIZE && 0 < *n && *n <= LARGEST_SIZE);
-        let places = places(alloc, *m, *n, *per)?;
-        let rows = built(alloc, *m, *n, places.as_slice())?;
+        assert!(rt; 0 < *n);
+        let rows = scattered(alloc, *m, *n, *per)?;
         assert!(rt; ways_agree(&rt, alloc, &rows)?, "at {m} {n} {per}");
     }
     Ok(())
