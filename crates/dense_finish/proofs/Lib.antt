@@ -9,11 +9,11 @@ pub mod Gathering
 pub mod Growing
 pub mod Indexing
 pub mod LeftThere
+pub mod PanelStages
 pub mod Parts
 pub mod ProductSums
 pub mod Progress
 pub mod Putting
-pub mod Rounds
 pub mod Splitting
 pub mod Stages
 pub mod TakingOut

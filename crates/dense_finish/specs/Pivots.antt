@@ -120,24 +120,24 @@ pub record IsPanelFrom (p : ℕ) (columns : List ℕ) (r : ℕ) (f : Pivots) (pa
   pub continues : Continues (pivot_sequence p columns f) r panel
 
 -- a stage with the panel of its last pivots
-pub record Round : Type 0 where
+pub record PanelStage : Type 0 where
   pub pivots : Pivots
   pub panel : PanelRows
   pub rows : List (List ℕ)
   pub done : ℕ
 
-abbrev pub round : Pivots → PanelRows → List (List ℕ) → ℕ → Round
-round f panel rows i = record { pivots = f; panel = panel; rows = rows; done = i }
+abbrev pub panel_stage : Pivots → PanelRows → List (List ℕ) → ℕ → PanelStage
+panel_stage f panel rows i = record { pivots = f; panel = panel; rows = rows; done = i }
 
-abbrev pub stage_of : Round → Stage
+abbrev pub stage_of : PanelStage → Stage
 stage_of s = stage s.pivots s.rows s.done
 
 -- how many pivots come before the panel's
-abbrev pub before_panel : Round → ℕ
+abbrev pub before_panel : PanelStage → ℕ
 before_panel s = count s.pivots - length s.panel.columns
 
 -- an elimination of a block with these columns of a matrix can go on from here
-pub record CanGoOn (p : ℕ) (columns : List ℕ) (s : Round) : Type 0 where
+pub record CanGoOn (p : ℕ) (columns : List ℕ) (s : PanelStage) : Type 0 where
   pub low : length s.rows ≤ LARGEST_SIZE
   pub few : length columns ≤ LARGEST_SIZE
   pub inside : AreBelow s.pivots.u.matrix.width columns
@@ -148,7 +148,7 @@ pub record CanGoOn (p : ℕ) (columns : List ℕ) (s : Round) : Type 0 where
 
 -- the pivots of more rows are found, behind those of `old`, and are the panel's: whatever block splits into `old`, its rows
 -- ahead by the pivots before the panel's, splits into `new`, whose rows ahead are reduced by all pivots of `old`
-pub record FindsPanel (p : ℕ) (columns : List ℕ) (old new : Round) : Type 0 where
+pub record FindsPanel (p : ℕ) (columns : List ℕ) (old new : PanelStage) : Type 0 where
   pub found : AreFound p columns old.pivots.u.matrix.width new.done new.pivots
   pub eliminated : AreEliminated p (length columns) new.done new.pivots new.rows
   pub holds : IsPanelFrom p columns (count old.pivots) new.pivots new.panel

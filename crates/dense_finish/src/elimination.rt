@@ -10,7 +10,7 @@ ghost use Rattle.dense_finish.specs.Units.{AreUnits};
 ghost use Rattle.dense_finish.specs.Dense.{IsFirstFree, IsPivotOf, KeepsCoefficients};
 ghost use Rattle.dense_finish.specs.Factors.{IsFactored};
 ghost use Rattle.sparse_rows.specs.Rows.{AreBelow};
-ghost use Rattle.dense_finish.specs.Pivots.{AddsPivot, AreEliminated, AreFound, CanGoOn, FindsPanel, IsPanelFrom, KeepsPivots, KeepsSplit, SplitBy, count, pivot_at, round, stage};
+ghost use Rattle.dense_finish.specs.Pivots.{AddsPivot, AreEliminated, AreFound, CanGoOn, FindsPanel, IsPanelFrom, KeepsPivots, KeepsSplit, SplitBy, count, pivot_at, panel_stage, stage};
 
 use crate::block::shared_block;
 use crate::dense::Dense;
@@ -161,10 +161,11 @@ fn next_panel<R: Threads + Sync, W: Reducing>(
     requires some { 1 ≤ workers }
     requires order { start ≤ end }
     requires end { end ≤ length block.old }
-    requires ready { CanGoOn p.now columns.now (round pivots.old found.now.panel block.old start) }
+    requires ready { CanGoOn p.now columns.now (panel_stage pivots.old found.now.panel block.old start) }
     requires units { AreUnits p.now found.now.panel found.now.first found.now.units.items }
     ensures found { IfOk result (λ next. FindsPanel p.now columns.now
-        (round pivots.old found.now.panel block.old start) (round pivots.new next.panel block.new end)) }
+        (panel_stage pivots.old found.now.panel block.old start)
+        (panel_stage pivots.new next.panel block.new end)) }
     ensures units { IfOk result (λ next. AreUnits p.now next.panel next.first next.units.items) }
 {
     if workers == 1 || found.panel.is_empty() {
@@ -221,11 +222,12 @@ fn find_beside<R: Threads + Sync, W: Reducing>(
     requires some { 1 ≤ helpers }
     requires order { start ≤ end }
     requires end { end ≤ length own.old }
-    requires ready { CanGoOn p.now columns.now (round pivots.old found.now.panel own.old start) }
+    requires ready { CanGoOn p.now columns.now (panel_stage pivots.old found.now.panel own.old start) }
     requires others { AreVectors p.now found.now.panel.width others.old }
     requires units { AreUnits p.now found.now.panel found.now.first found.now.units.items }
     ensures own { IfOk result (λ next. FindsPanel p.now columns.now
-        (round pivots.old found.now.panel own.old start) (round pivots.new next.panel own.new end)) }
+        (panel_stage pivots.old found.now.panel own.old start)
+        (panel_stage pivots.new next.panel own.new end)) }
     ensures units { IfOk result (λ next. AreUnits p.now next.panel next.first next.units.items) }
     ensures others { PanelReducesEach p.now found.now.panel others.old others.new }
 {
@@ -241,11 +243,11 @@ fn find_beside<R: Threads + Sync, W: Reducing>(
     };
     let mut find = || -> Result<Found<W>, AllocError>
         requires { W.serves p.now × (start ≤ end) × (end ≤ length own.now)
-            × CanGoOn p.now columns.now (round pivots.now found.now.panel own.now start)
+            × CanGoOn p.now columns.now (panel_stage pivots.now found.now.panel own.now start)
             × AreUnits p.now found.now.panel found.now.first found.now.units.items }
         ensures { IfOk result (λ next. FindsPanel p.entry.now columns.entry.now
-            (round pivots.entry.now found.entry.now.panel own.entry.now start)
-            (round pivots.exit.now next.panel own.exit.now end))
+            (panel_stage pivots.entry.now found.entry.now.panel own.entry.now start)
+            (panel_stage pivots.exit.now next.panel own.exit.now end))
             × IfOk result (λ next. AreUnits p.entry.now next.panel next.first next.units.items) }
     { reduce_and_find(alloc, found, start, end, columns, p, pivots, own) };
     let (next, ()) = join_mut(rt, &mut find, &mut help);
@@ -266,10 +268,11 @@ fn reduce_and_find<W: Reducing>(
     requires modulus { W.serves p.now }
     requires order { start ≤ end }
     requires end { end ≤ length block.old }
-    requires ready { CanGoOn p.now columns.now (round pivots.old found.now.panel block.old start) }
+    requires ready { CanGoOn p.now columns.now (panel_stage pivots.old found.now.panel block.old start) }
     requires units { AreUnits p.now found.now.panel found.now.first found.now.units.items }
     ensures found { IfOk result (λ next. FindsPanel p.now columns.now
-        (round pivots.old found.now.panel block.old start) (round pivots.new next.panel block.new end)) }
+        (panel_stage pivots.old found.now.panel block.old start)
+        (panel_stage pivots.new next.panel block.new end)) }
     ensures units { IfOk result (λ next. AreUnits p.now next.panel next.first next.units.items) }
 {
     found

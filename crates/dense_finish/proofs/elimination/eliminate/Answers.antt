@@ -2,7 +2,7 @@ use Rattle.std.proofs.Common.{◌≡◌, ◌∙◌, arith, length, subst}
 use Rattle.dense_finish.specs.Pivots.{AreFound, count}
 use Rattle.dense_finish.proofs.Progress.{eliminated_begins}
 use Rattle.dense_finish.proofs.Growing.{found_own}
-use Rattle.dense_finish.proofs.Rounds.{holds_begins, no_units, ready_next, split_ends, split_next, split_start}
+use Rattle.dense_finish.proofs.PanelStages.{holds_begins, no_units, ready_next, split_ends, split_next, split_start}
 use Rattle.dense_finish.proofs.elimination.eliminate.Goals as goal
 
 pub loop-done-init : goal.loop-done-init

@@ -1,8 +1,8 @@
 use Rattle.std.proofs.Common.{◌∙◌, ap, arith, length, subst}
 use Rattle.std.proofs.lemmas.Result.{IfOk-weaker}
-use Rattle.dense_finish.specs.Pivots.{FindsPanel, round}
+use Rattle.dense_finish.specs.Pivots.{FindsPanel, panel_stage}
 use Rattle.dense_finish.specs.Panel.{PanelReducesEach}
-use Rattle.dense_finish.proofs.Rounds.{finds_joined, front_ready}
+use Rattle.dense_finish.proofs.PanelStages.{finds_joined, front_ready}
 use Rattle.dense_finish.proofs.elimination.next_panel.Goals as goal
 
 pub find_beside-requires-clause-ready : goal.find_beside-requires-clause-ready
@@ -22,5 +22,5 @@ returns-clause-found g c =
     let back = c.split_at_mut-own.ensures.back in
     IfOk-weaker c.find_beside.result _ _ (λ next h.
     finds_joined others (omega (arith, cut.found, c.requires.order)) cut.inside c.requires.ready cut.found (c.find_beside.auto.own ∙ ap length front) (c.find_beside.auto.others ∙ ap length back)
-    (subst (λ rows. FindsPanel p names (round f panel rows c.args.start) (round c.find_beside.new.pivots next.panel own c.args.end)) front h)
+    (subst (λ rows. FindsPanel p names (panel_stage f panel rows c.args.start) (panel_stage c.find_beside.new.pivots next.panel own c.args.end)) front h)
     (subst (λ rows. PanelReducesEach p panel rows others) back c.find_beside.ensures.others)) c.find_beside.ensures.own

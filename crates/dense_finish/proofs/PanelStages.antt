@@ -7,7 +7,7 @@ use Rattle.residue_words.specs.Residues.{IsPrime}
 use Rattle.dense_finish.specs.declared.pivots.Pivots.{Pivots}
 use Rattle.dense_finish.specs.Block.{AreVectors, block_row}
 use Rattle.dense_finish.specs.Panel.{PanelReducesEach, PanelRows, no_pivots}
-use Rattle.dense_finish.specs.Pivots.{AreEliminated, AreSplit, CanGoOn, FindsPanel, IsPanelFrom, Round, before_panel, count, pivot_sequence, round, stage, stage_of}
+use Rattle.dense_finish.specs.Pivots.{AreEliminated, AreSplit, CanGoOn, FindsPanel, IsPanelFrom, PanelStage, before_panel, count, pivot_sequence, panel_stage, stage, stage_of}
 use Rattle.dense_finish.specs.Splitting.{IsSplit}
 use Rattle.dense_finish.specs.Units.{AreUnits}
 use Rattle.dense_finish.proofs.Growing.{found_own}
@@ -15,22 +15,22 @@ use Rattle.dense_finish.proofs.Progress.{panel_begins, reduced_split, split_begi
 use Rattle.dense_finish.proofs.Splitting.{split_same}
 
 -- without a pivot yet
-pub holds_begins : {p : ℕ} (names : List ℕ) (f : Pivots) (block : List (List ℕ)) → IsPanelFrom p names (before_panel (round f (no_pivots (length names)) block 0)) f (no_pivots (length names))
+pub holds_begins : {p : ℕ} (names : List ℕ) (f : Pivots) (block : List (List ℕ)) → IsPanelFrom p names (before_panel (panel_stage f (no_pivots (length names)) block 0)) f (no_pivots (length names))
 holds_begins {p} names f block =
-    let all : count f ≡ before_panel (round f (no_pivots (length names)) block 0) = omega arith in
+    let all : count f ≡ before_panel (panel_stage f (no_pivots (length names)) block 0) = omega arith in
     subst (λ r. IsPanelFrom p names r f (no_pivots (length names))) all (panel_begins names f)
 
 pub split_start : {p : ℕ} (names : List ℕ) (block : List (List ℕ)) (f : Pivots) → count f ≡ 0 →
-    AreSplit p names (before_panel (round f (no_pivots (length names)) block 0)) block (stage f block 0)
+    AreSplit p names (before_panel (panel_stage f (no_pivots (length names)) block 0)) block (stage f block 0)
 split_start {p} names block f none =
-    let all : count f ≡ before_panel (round f (no_pivots (length names)) block 0) = omega arith in
+    let all : count f ≡ before_panel (panel_stage f (no_pivots (length names)) block 0) = omega arith in
     subst (λ r. AreSplit p names r block (stage f block 0)) all (split_begins names block f none)
 
 pub no_units : {p n : ℕ} → AreUnits p (no_pivots n) 0 []
 no_units = record { long = refl; reduced = λ k l. absurd (omega arith); before = λ k j l. absurd (omega arith) }
 
 -- what is found goes on
-module _ {p : ℕ} {names : List ℕ} {old new : Round} (finds : FindsPanel p names old new) where
+module _ {p : ℕ} {names : List ℕ} {old new : PanelStage} (finds : FindsPanel p names old new) where
   before : count old.pivots ≡ before_panel new
   before = omega (arith, finds.holds.total)
 
@@ -67,7 +67,7 @@ behind_cut cut own others t long l = get_or-append_right own others cut t [] lon
 
 -- an elimination that can go on can do so on the first rows
 pub front_ready : {p i : ℕ} {names : List ℕ} {f : Pivots} {panel : PanelRows} {rows : List (List ℕ)} (cut : ℕ) → i ≤ cut → cut ≤ length rows →
-    CanGoOn p names (round f panel rows i) → CanGoOn p names (round f panel (take cut rows) i)
+    CanGoOn p names (panel_stage f panel rows i) → CanGoOn p names (panel_stage f panel (take cut rows) i)
 front_ready {p} {i} {names} {f} {panel} {rows} cut done inside ready = record {
   low = omega (arith, ready.low, long);
   few = ready.few;
@@ -88,7 +88,7 @@ front_ready {p} {i} {names} {f} {panel} {rows} cut done inside ready = record {
     long = front_long cut rows inside
 
 -- the other rows are the panel's to reduce
-pub behind_vectors : {p i : ℕ} {names : List ℕ} {f : Pivots} {panel : PanelRows} {rows : List (List ℕ)} (cut : ℕ) → CanGoOn p names (round f panel rows i) → AreVectors p panel.width (drop cut rows)
+pub behind_vectors : {p i : ℕ} {names : List ℕ} {f : Pivots} {panel : PanelRows} {rows : List (List ℕ)} (cut : ℕ) → CanGoOn p names (panel_stage f panel rows i) → AreVectors p panel.width (drop cut rows)
 behind_vectors {p} {i} {names} {f} {panel} {rows} cut ready = λ t l.
     let there : cut + t < length rows = omega (arith, l, length-drop cut rows) in
     subst (IsVector p panel.width) (sym (get_or-drop cut rows t []))
@@ -113,8 +113,8 @@ front_split {p} {i} {r} {names} {f} {rows} {block} cut inside split = record {
 
 -- of the first rows the pivots are found, and the others are reduced
 module _ {p i cut end : ℕ} {names : List ℕ} {f g : Pivots} {panel next : PanelRows} {rows own : List (List ℕ)} (others : List (List ℕ)) (done : i ≤ cut) (inside : cut ≤ length rows)
-    (ready : CanGoOn p names (round f panel rows i)) (ends : end ≤ cut) (own_long : length own ≡ length (take cut rows))
-    (others_long : length others ≡ length (drop cut rows)) (finds : FindsPanel p names (round f panel (take cut rows) i) (round g next own end))
+    (ready : CanGoOn p names (panel_stage f panel rows i)) (ends : end ≤ cut) (own_long : length own ≡ length (take cut rows))
+    (others_long : length others ≡ length (drop cut rows)) (finds : FindsPanel p names (panel_stage f panel (take cut rows) i) (panel_stage g next own end))
     (reduced : PanelReducesEach p panel (drop cut rows) others) where
   size : length own ≡ cut
   size = own_long ∙ front_long cut rows inside
@@ -135,7 +135,7 @@ module _ {p i cut end : ℕ} {names : List ℕ} {f g : Pivots} {panel next : Pan
   }
 
   -- a row of the others splits by all pivots of f
-  split_behind_cut : {block : List (List ℕ)} → AreSplit p names (before_panel (round f panel rows i)) block (stage f rows i) → (t : ℕ) → cut ≤ t → t < length block →
+  split_behind_cut : {block : List (List ℕ)} → AreSplit p names (before_panel (panel_stage f panel rows i)) block (stage f rows i) → (t : ℕ) → cut ≤ t → t < length block →
       IsSplit (pivot_sequence p names g) (count f) (block_row block t) (block_row (own ++ others) t)
   split_behind_cut {block} split t more l =
       let place : cut + (t - cut) ≡ t = omega arith in
@@ -143,11 +143,11 @@ module _ {p i cut end : ℕ} {names : List ℕ} {f g : Pivots} {panel next : Pan
       let old : block_row (drop cut rows) (t - cut) ≡ block_row rows t = get_or-drop cut rows (t - cut) [] ∙ ap (block_row rows) place in
       let here = split.ahead t (omega arith) l in
       let by_f = reduced_split ready.holds ready.found.steps (reduced (t - cut) there)
-      (subst (IsSplit (pivot_sequence p names f) (before_panel (round f panel rows i)) (block_row block t)) (sym old) here) in
+      (subst (IsSplit (pivot_sequence p names f) (before_panel (panel_stage f panel rows i)) (block_row block t)) (sym old) here) in
       subst (IsSplit (pivot_sequence p names g) (count f) (block_row block t)) (sym (behind_cut cut own others t size more))
       (split_same (λ k lk. sym (finds.kept.places k lk)) (λ k j lk lj. sym (finds.kept.entries k j lk lj)) by_f)
 
-  split : IsPrime p → (block : List (List ℕ)) → AreSplit p names (before_panel (round f panel rows i)) block (stage f rows i) →
+  split : IsPrime p → (block : List (List ℕ)) → AreSplit p names (before_panel (panel_stage f panel rows i)) block (stage f rows i) →
       AreSplit p names (count f) block (stage g (own ++ others) end)
   split prime block was =
       let own_split = finds.split prime (take cut block) (front_split cut inside was) in
@@ -166,7 +166,7 @@ module _ {p i cut end : ℕ} {names : List ℕ} {f g : Pivots} {panel next : Pan
         ];
       }
 
-  pub finds_joined : FindsPanel p names (round f panel rows i) (round g next (own ++ others) end)
+  pub finds_joined : FindsPanel p names (panel_stage f panel rows i) (panel_stage g next (own ++ others) end)
   finds_joined = record {
     found = finds.found;
     eliminated = eliminated;
