@@ -7,26 +7,20 @@ use crate::{Trace, read, replay, trace_of, write};
 use optimistic_search::Open;
 use residue_words::Modulus;
 use sms_text::{Kind, MemorySink, Reader, SteadySource, TextError};
-use sparse_rows::{Rows, RowsBuilder};
+use sparse_rows::Rows;
 use std::alloc::{AllocError, Global};
 use std::test::Fail;
 use std::thread::Threads;
 
-// The matrix of m x n modulo 7 with these entries that lie inside.
-fn built(alloc: Global, m: u32, n: u32, entries: &[(u32, u32, u64)]) -> Result<Rows, AllocError>
-    requires height { m ≤ LARGEST_SIZE }
-    requires width { n ≤ LARGEST_SIZE }
+// The matrix of m x n modulo 7 with these entries.
+fn built(alloc: Global, m: u32, n: u32, entries: &[(u32, u32, u64)]) -> Result<Rows, Fail>
     ensures height { IfOk result (λ rows. rows.matrix.height ≡ m) }
     ensures width { IfOk result (λ rows. rows.matrix.width ≡ n) }
 {
-    let mut builder = RowsBuilder::new(alloc, m, n, Modulus::new(7))?;
-    for (i, j, v) in entries {
-        if *i < m && *j < n && *v < 7 {
-            builder.push(*i, *j, *v)?;
-        }
+    match Rows::checked_from_triples(alloc, m, n, &Modulus::new(7), entries)? {
+        Some(rows) => Ok(rows),
+        None => Err(Fail::new("a place is outside")),
     }
-    let rows = builder.finish()?;
-    Ok(rows)
 }
 
 // The rows (1, 0, 0), (1, 1, 1) and (1, 1, 2).
@@ -95,16 +89,25 @@ const REPLAYED: &[(&[u8], bool)] = &[
     (b"trace 7 2\n2 3 0\n3 2 2\n", false),
 ];
 
+// What replaying a text answers, which is written again of the trace that is read from it.
+fn replayed(alloc: Global, rows: &Rows, text: &[u8], at_once: usize) -> Result<bool, Fail>
+    requires { 0 < at_once }
+{
+    let Ok(trace) = read_from(alloc, text, at_once)? else {
+        return Err(Fail::new("not read"));
+    };
+    if !is_written(alloc, &trace, text, &[])? {
+        return Err(Fail::new("written otherwise"));
+    }
+    Ok(replay(alloc, rows, &trace)?)
+}
+
 #[test]
 fn traces_are_lawful_or_not(rt: HostRuntime) -> Result<(), Fail> {
     let rows = built(rt.alloc(), 3, 3, SMALL)?;
     for at_once in [1, 100] {
         for (text, lawful) in REPLAYED {
-            let Ok(trace) = read_from(rt.alloc(), text, at_once)? else {
-                return Err(Fail::new("not read"));
-            };
-            assert_eq!(rt; replay(rt.alloc(), &rows, &trace)?, *lawful);
-            assert!(rt; is_written(rt.alloc(), &trace, text, &[])?);
+            assert_eq!(rt; replayed(rt.alloc(), &rows, text, at_once)?, *lawful);
         }
     }
     Ok(())
@@ -131,16 +134,11 @@ const FAULTY: &[(&[u8], u64, Kind)] = &[
 fn the_first_fault_of_a_text_is_named(rt: HostRuntime) -> Result<(), Fail> {
     for at_once in [1, 100] {
         for (text, line, kind) in FAULTY {
-            match read_from(rt.alloc(), text, at_once)? {
-                Ok(_) => return Err(Fail::new("read")),
-                Err(error) => {
-                    let wanted = TextError::Bad {
-                        line: *line,
-                        kind: *kind,
-                    };
-                    assert_eq!(rt; error, wanted);
-                }
-            }
+            let wanted = TextError::Bad {
+                line: *line,
+                kind: *kind,
+            };
+            assert_eq!(rt; read_from(rt.alloc(), text, at_once)?.err(), Some(wanted));
         }
     }
     Ok(())
@@ -180,9 +178,10 @@ fn leave_a_lawful_trace<R: Threads + Sync>(
 fn a_search_leaves_a_lawful_trace(rt: HostRuntime) -> Result<(), Fail> {
     let small = built(rt.alloc(), 3, 3, SMALL)?;
     let apart = built(rt.alloc(), 2_147_483_647, 2_147_483_647, APART)?;
-    for workers in [1, 2, 64] {
-        assert!(rt; leave_a_lawful_trace(&rt, rt.alloc(), &small, workers)?);
-        assert!(rt; leave_a_lawful_trace(&rt, rt.alloc(), &apart, workers)?);
+    for rows in [&small, &apart] {
+        for workers in [1, 2, 64] {
+            assert!(rt; leave_a_lawful_trace(&rt, rt.alloc(), rows, workers)?);
+        }
     }
     Ok(())
 }
@@ -204,12 +203,12 @@ fn is_found<R: Threads + Sync>(
     size: u32,
     entries: &[(u32, u32, u64)],
     text: &[u8],
-) -> Result<bool, AllocError>
+) -> Result<bool, Fail>
     requires { size < LARGEST_SIZE }
 {
     let rows = built(alloc, size, size, entries)?;
     let trace = trace_of(rt, alloc, &rows, 1, &Open)?;
-    is_written(alloc, &trace, text, &[])
+    Ok(is_written(alloc, &trace, text, &[])?)
 }
 
 #[test]
