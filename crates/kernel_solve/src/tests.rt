@@ -1,5 +1,4 @@
 // Each call on small matrices modulo 7, from tables.
-ghost use Rattle.sparse_rows.specs.declared.rows.TheConstants.{LARGEST_SIZE};
 ghost use Rattle.std.specs.Prelude.{◌≡◌, ◌≤◌, IfOk};
 
 use crate::{
@@ -7,37 +6,33 @@ use crate::{
 };
 use echelon_form::Echelon;
 use residue_words::Modulus;
-use sparse_rows::{Rows, RowsBuilder};
+use sparse_rows::Rows;
 use std::alloc::{AllocError, Global};
 use std::test::Fail;
 use std::thread::Threads;
 
 // The matrix of these places and values.
-fn built(alloc: Global, m: u32, n: u32, triples: &[(u32, u32, u64)]) -> Result<Rows, AllocError>
-    requires height { m ≤ LARGEST_SIZE }
-    requires width { n ≤ LARGEST_SIZE }
+fn built(alloc: Global, m: u32, n: u32, triples: &[(u32, u32, u64)]) -> Result<Rows, Fail>
     ensures modulus { IfOk result (λ rows. rows.modulus ≡ 7) }
     ensures height { IfOk result (λ rows. rows.matrix.height ≡ m) }
     ensures width { IfOk result (λ rows. rows.matrix.width ≡ n) }
 {
-    let mut builder = RowsBuilder::new(alloc, m, n, Modulus::new(7))?;
-    for (i, j, v) in triples {
-        if *i < m && *j < n && *v < 7 {
-            builder.push(*i, *j, *v)?;
-        }
+    match Rows::checked_from_triples(alloc, m, n, &Modulus::new(7), triples)? {
+        Some(rows) => Ok(rows),
+        None => Err(Fail::new("a place is outside")),
     }
-    builder.finish()
 }
 
-// The entries row by row: row, column, value.
-fn listed(alloc: Global, rows: &Rows) -> Result<Vec<(u32, u32, u64)>, AllocError> {
-    let mut list = Vec::new(alloc);
-    for i in 0..rows.height() {
-        for (j, v) in rows.cols(i).iter().zip(rows.vals(i)) {
-            list.push((i, *j, *v))?;
-        }
-    }
-    Ok(list)
+// The entries of the kernel basis of a matrix.
+fn kernel_of<R: Threads + Sync>(
+    rt: &R,
+    alloc: Global,
+    m: u32,
+    n: u32,
+    triples: &[(u32, u32, u64)],
+) -> Result<Vec<(u32, u32, u64)>, Fail> {
+    let form = Echelon::of(rt, alloc, &built(alloc, m, n, triples)?, 1)?;
+    Ok(kernel(alloc, &form)?.triples(alloc)?)
 }
 
 // What the form of a system tells: whether there is a solution, and its entries.
@@ -51,9 +46,20 @@ fn solved<R: Threads + Sync>(
         return Ok((false, Vec::new(alloc)));
     }
     match solution(alloc, &form)? {
-        Found::Solution(x) => Ok((true, listed(alloc, &x)?)),
+        Found::Solution(x) => Ok((true, x.triples(alloc)?)),
         Found::Inconsistent => Ok((false, Vec::new(alloc))),
     }
+}
+
+// The same of a 3 x 3 matrix and a column.
+fn solved_for<R: Threads + Sync>(
+    rt: &R,
+    alloc: Global,
+    a: &[(u32, u32, u64)],
+    b: &[(u32, u32, u64)],
+) -> Result<(bool, Vec<(u32, u32, u64)>), Fail> {
+    let system = built(alloc, 3, 3, a)?.beside(alloc, &built(alloc, 3, 1, b)?)?;
+    Ok(solved(rt, alloc, &system)?)
 }
 
 // Whether there is an inverse, and its entries or those of the null vector.
@@ -62,13 +68,13 @@ fn inverted<R: Threads + Sync>(
     alloc: Global,
     n: u32,
     triples: &[(u32, u32, u64)],
-) -> Result<(bool, Vec<(u32, u32, u64)>), AllocError>
+) -> Result<(bool, Vec<(u32, u32, u64)>), Fail>
     requires { n ≤ 8 }
 {
     let a = built(alloc, n, n, triples)?;
     match inverse(rt, alloc, &a, 2)? {
-        Inverse::Of(b) => Ok((true, listed(alloc, &b)?)),
-        Inverse::Singular(v) => Ok((false, listed(alloc, &v)?)),
+        Inverse::Of(b) => Ok((true, b.triples(alloc)?)),
+        Inverse::Singular(v) => Ok((false, v.triples(alloc)?)),
     }
 }
 
@@ -112,11 +118,8 @@ const KERNELS: &[(u32, u32, &[(u32, u32, u64)], &[(u32, u32, u64)])] = &[
 fn kernels(rt: HostRuntime) -> Result<(), Fail> {
     let alloc = rt.alloc();
     for (m, n, entries, basis) in KERNELS {
-        assert!(rt; *m <= 8 && *n <= 8);
-        let a = built(alloc, *m, *n, *entries)?;
-        let form = Echelon::of(&rt, alloc, &a, 1)?;
-        let found = kernel(alloc, &form)?;
-        assert_eq!(rt; listed(alloc, &found)?.as_slice(), *basis);
+        let found = kernel_of(&rt, alloc, *m, *n, *entries)?;
+        assert_eq!(rt; found.as_slice(), *basis);
     }
     Ok(())
 }
@@ -126,7 +129,7 @@ fn left_kernels(rt: HostRuntime) -> Result<(), Fail> {
     let alloc = rt.alloc();
     let found = left_kernel(&rt, alloc, &built(alloc, 3, 3, X)?, 1)?;
     assert_eq!(rt;
-        listed(alloc, &found)?.as_slice(),
+        found.triples(alloc)?.as_slice(),
         [(0, 0, 6), (0, 1, 6), (0, 2, 1)].as_slice()
     );
     Ok(())
@@ -148,10 +151,8 @@ const SYSTEMS: &[(
 fn systems(rt: HostRuntime) -> Result<(), Fail> {
     let alloc = rt.alloc();
     for (a, b, is_solvable, x) in SYSTEMS {
-        let system = built(alloc, 3, 3, *a)?.beside(alloc, &built(alloc, 3, 1, *b)?)?;
-        let (found, entries) = solved(&rt, alloc, &system)?;
-        assert!(rt; found == *is_solvable);
-        assert_eq!(rt; entries.as_slice(), *x);
+        let (found, entries) = solved_for(&rt, alloc, *a, *b)?;
+        assert_eq!(rt; (found, entries.as_slice()), (*is_solvable, *x));
     }
     Ok(())
 }
@@ -176,13 +177,12 @@ fn refutations(rt: HostRuntime) -> Result<(), Fail> {
     let a = built(alloc, 3, 3, X)?;
     let b = built(alloc, 3, 1, &[(2, 0, 1)])?;
     let system = refuting_system(alloc, &a, &b)?;
-    assert_eq!(rt; listed(alloc, &system)?.as_slice(), REFUTING);
+    assert_eq!(rt; system.triples(alloc)?.as_slice(), REFUTING);
 
     let (found, entries) = solved(&rt, alloc, &system)?;
-    assert!(rt; found);
     assert_eq!(rt;
-        entries.as_slice(),
-        [(0, 0, 6), (1, 0, 6), (2, 0, 1)].as_slice()
+        (found, entries.as_slice()),
+        (true, [(0, 0, 6), (1, 0, 6), (2, 0, 1)].as_slice())
     );
     Ok(())
 }
@@ -214,8 +214,7 @@ fn inverses(rt: HostRuntime) -> Result<(), Fail> {
     for (n, a, is_inverse, expected) in INVERSES {
         assert!(rt; *n <= 8);
         let (found, entries) = inverted(&rt, alloc, *n, *a)?;
-        assert!(rt; found == *is_inverse);
-        assert_eq!(rt; entries.as_slice(), *expected);
+        assert_eq!(rt; (found, entries.as_slice()), (*is_inverse, *expected));
     }
     Ok(())
 }
@@ -225,13 +224,13 @@ fn replied<R: Threads + Sync>(
     rt: &R,
     alloc: Global,
     triples: &[(u32, u32, u64)],
-) -> Result<(bool, Vec<(u32, u32, u64)>), AllocError> {
+) -> Result<(bool, Vec<(u32, u32, u64)>), Fail> {
     let a = built(alloc, 3, 3, X)?;
     let prepared = Prepared::of(rt, alloc, &a, 1)?;
     let b = built(alloc, 3, 1, triples)?;
     match prepared.answer(alloc, &b)? {
-        Reply::Solution(x) => Ok((true, listed(alloc, &x)?)),
-        Reply::Refuted(y) => Ok((false, listed(alloc, &y)?)),
+        Reply::Solution(x) => Ok((true, x.triples(alloc)?)),
+        Reply::Refuted(y) => Ok((false, y.triples(alloc)?)),
     }
 }
 
@@ -247,8 +246,7 @@ fn replies(rt: HostRuntime) -> Result<(), Fail> {
     let alloc = rt.alloc();
     for (b, is_solvable, expected) in REPLIES {
         let (found, entries) = replied(&rt, alloc, *b)?;
-        assert!(rt; found == *is_solvable);
-        assert_eq!(rt; entries.as_slice(), *expected);
+        assert_eq!(rt; (found, entries.as_slice()), (*is_solvable, *expected));
     }
     Ok(())
 }
