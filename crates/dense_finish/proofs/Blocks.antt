@@ -1,5 +1,5 @@
 -- A block in two parts.
-use Rattle.std.proofs.Common.{ℕ, ◌≡◌, ◌+◌, ◌-◌, ◌<◌, ◌≤◌, ◌∙◌, inl, inr, List, [], ◌++◌, ap, arith, length, length-append, refl, slice_index, slice_index_or, subst, sym}
+use Rattle.std.proofs.Common.{ℕ, ◌≡◌, ◌-◌, ◌<◌, ◌≤◌, ◌∙◌, inl, inr, List, [], ◌++◌, ap, arith, length, length-append, refl, slice_index, subst, sym}
 use Rattle.std.proofs.lemmas.Bool.{cases_lt}
 use Rattle.std.proofs.lemmas.List.{get_or-append_right, get_or_append_left}
 use Rattle.residue_words.specs.Matrix.{Matrix, IsVector, entry}

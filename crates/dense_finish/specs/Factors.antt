@@ -1,7 +1,7 @@
 -- The factors that a dense elimination gives.
 use Rattle.std.specs.Prelude.{◌≡◌, ◌≢◌, ◌<◌, ℕ, List, length, slice_index}
 use Rattle.residue_words.specs.Residues.{IsPrime}
-use Rattle.residue_words.specs.Matrix.{Matrix, IsMatrix, entry}
+use Rattle.residue_words.specs.Matrix.{Matrix, entry}
 use Rattle.row_space.specs.Factors.{AreFactors, FitAsFactors}
 use Rattle.dense_finish.specs.Block.{entry_of}
 use Rattle.sparse_rows.specs.Rows.{ResidueMatrix}

@@ -1,4 +1,4 @@
-use Rattle.std.proofs.Common.{◌≡◌, ◌∙◌, ◌++◌, ◌/◌, ap₂, length, subst}
+use Rattle.std.proofs.Common.{◌∙◌, ◌++◌, ◌/◌, ap₂, length, subst}
 use Rattle.std.proofs.lemmas.List.{take-append-drop}
 use Rattle.dense_finish.specs.Block.{IsBlock}
 use Rattle.dense_finish.proofs.Blocks.{block_joined}

@@ -1,4 +1,4 @@
-use Rattle.std.proofs.Common.{ℕ, Err, inl, inr, ◌+◌, ◌<◌, ◌≤◌, ap, arith, length, slice_index}
+use Rattle.std.proofs.Common.{ℕ, Err, inl, inr, ◌<◌, ◌≤◌, ap, arith, length, slice_index}
 use Rattle.std.proofs.lemmas.Bool.{cases_eq, cases_lt}
 use Rattle.std.proofs.lemmas.List.Sorted.{searched}
 use Rattle.dense_finish.proofs.dense.place_of.Goals as goal

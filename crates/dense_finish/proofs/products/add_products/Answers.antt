@@ -1,6 +1,6 @@
-use Rattle.std.proofs.Common.{ℕ, ◌≡◌, ◌+◌, ◌-◌, ◌<◌, ◌≤◌, ◌∙◌, arith, ap, length, sym}
-use Rattle.dense_finish.specs.Block.{block_row, entry_of}
-use Rattle.dense_finish.proofs.AddingEach.{adds_before, adds_none, adds_nothing, adds_vectors, each_equal, products_tile, products_zero}
+use Rattle.std.proofs.Common.{◌+◌, arith, length}
+use Rattle.dense_finish.specs.Block.{block_row}
+use Rattle.dense_finish.proofs.AddingEach.{adds_before, adds_none, adds_nothing, each_equal, products_tile, products_zero}
 use Rattle.dense_finish.proofs.products.add_products.Goals as goal
 
 pub loop-end-init : goal.loop-end-init

@@ -1,4 +1,4 @@
-use Rattle.std.proofs.Common.{ℕ, ◌∷◌, [], ◌∙◌, ◌+◌, arith, slice_index}
+use Rattle.std.proofs.Common.{ℕ, ◌∷◌, [], ◌∙◌, ◌+◌, slice_index}
 use Rattle.std.proofs.lemmas.List.{get_or-map}
 use Rattle.dense_finish.proofs.AddingEach.{four_lanes}
 use Rattle.dense_finish.proofs.products.lanes.Goals as goal

@@ -1,4 +1,4 @@
-use Rattle.std.proofs.Common.{ℕ, [], ◌≡◌, ◌<◌, ◌∙◌, ap, below_more, arith, length, refl, set, slice_index_or, subst, sym}
+use Rattle.std.proofs.Common.{[], ◌<◌, ◌∙◌, ap, below_more, arith, length, refl, set, subst, sym}
 use Rattle.std.proofs.lemmas.List.{get_or-set_other, get_or-set_same}
 use Rattle.dense_finish.specs.Block.{block_row}
 use Rattle.dense_finish.specs.Products.{IsWritten}

@@ -1,4 +1,4 @@
-use Rattle.std.proofs.Common.{ℕ, ◌≡◌, ◌<◌, ap, arith, length, refl}
+use Rattle.std.proofs.Common.{◌≡◌, ◌<◌, ap, arith, length, refl}
 use Rattle.dense_finish.proofs.Assembling.{factored, indices_few}
 use Rattle.dense_finish.proofs.Indexing.{filled_indices, occupied_indices}
 use Rattle.dense_finish.proofs.LeftThere.{left_there, left_there_is, left_there_matrix}

@@ -1,4 +1,4 @@
-use Rattle.std.proofs.Common.{ℕ, List, ◌≡◌, ◌≤◌, ◌∙◌, ◌-◌, ◌+◌, ap, arith, drop, length, length-drop, slice_index, sym, take}
+use Rattle.std.proofs.Common.{ℕ, List, ◌≡◌, ◌∙◌, ◌-◌, ◌+◌, ap, arith, drop, length, slice_index, sym, take}
 use Rattle.std.proofs.lemmas.List.{get_or-drop, map-id, take_rest}
 use Rattle.std.proofs.lemmas.Simd.{get_or-chunk}
 use Rattle.dense_finish.proofs.dense.Dense+u32.eight_at.Goals as goal

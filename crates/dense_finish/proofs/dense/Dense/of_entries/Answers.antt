@@ -1,4 +1,4 @@
-use Rattle.std.proofs.Common.{◌+◌, ◌∙◌, arith, subst, sym}
+use Rattle.std.proofs.Common.{◌+◌, arith, subst, sym}
 use Rattle.dense_finish.proofs.Filling.{IsFilling, filling_all, filling_more, filling_none}
 use Rattle.dense_finish.proofs.dense.Dense.of_entries.Goals as goal
 

@@ -1,4 +1,4 @@
-use Rattle.std.proofs.Common.{[], ◌≡◌, ◌<◌, ◌∙◌, ap, arith, length, slice_index, subst, sym}
+use Rattle.std.proofs.Common.{[], ◌≡◌, ◌<◌, ◌∙◌, ap, arith, length, slice_index, subst}
 use Rattle.std.proofs.lemmas.List.{get_or_default, take_all}
 use Rattle.dense_finish.specs.Block.{block_row}
 use Rattle.dense_finish.specs.Dense.{TakesOut}

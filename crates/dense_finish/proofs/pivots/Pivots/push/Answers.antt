@@ -1,4 +1,4 @@
-use Rattle.std.proofs.Common.{◌∙◌, ap, arith, length, slice_index, subst, sym, refl}
+use Rattle.std.proofs.Common.{◌∙◌, ap, arith, length, subst, sym, refl}
 use Rattle.residue_words.specs.Matrix.{zeros}
 use Rattle.residue_words.proofs.Vectors.{length_list_of}
 use Rattle.dense_finish.specs.Dense.{Scatters}
