@@ -1,5 +1,5 @@
 -- What is kept of a matrix answers each right-hand side; and vectors beside matrices of one row or column.
-use Rattle.std.proofs.Common.{ℕ, ◌≡◌, ◌≢◌, ◌+◌, ◌*◌, ◌%◌, ◌<◌, ◌≤◌, inl, inr, List, [], ◌∷◌, length, replicate, slice_index, slice_set, sym, refl, ap, subst, ◌∙◌, arith, mul-one, zero-add, mod-eq_of_lt}
+use Rattle.std.proofs.Common.{ℕ, ◌≡◌, ◌+◌, ◌*◌, ◌%◌, ◌<◌, ◌≤◌, inl, inr, List, [], ◌∷◌, length, replicate, slice_index, slice_set, sym, refl, ap, subst, ◌∙◌, arith, mul-one, zero-add, mod-eq_of_lt}
 use Rattle.std.proofs.lemmas.List.{get_or-replicate, get_or-set_other, get_or-set_same, length-replicate, length-set}
 use Rattle.std.proofs.lemmas.Bool.{cases_eq}
 use Rattle.residue_words.specs.declared.plain.Pair.{Pair}

@@ -1,5 +1,5 @@
 -- A solution from which the rows of the kernel basis are taken until it is 0 where they end.
-use Rattle.std.proofs.Common.{ℕ, ◌≡◌, ◌≢◌, ◌+◌, ◌-◌, ◌*◌, ◌%◌, ◌<◌, ◌≤◌, inl, inr, List, slice_index, sym, ap, subst, ◌∙◌, arith, mul-zero, mod-eq_of_lt}
+use Rattle.std.proofs.Common.{ℕ, ◌≡◌, ◌+◌, ◌-◌, ◌*◌, ◌%◌, ◌<◌, ◌≤◌, inl, inr, List, slice_index, sym, ap, subst, ◌∙◌, arith, mul-zero, mod-eq_of_lt}
 use native.Mathlib.Nat.{zero-mod}
 use Rattle.std.proofs.lemmas.Bool.{cases_eq}
 use Rattle.residue_words.specs.Matrix.{Matrix, IsVector, apply, entry, row}

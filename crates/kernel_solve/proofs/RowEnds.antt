@@ -1,5 +1,5 @@
 -- Where the rows of a kernel basis and their combinations end.
-use Rattle.std.proofs.Common.{ℕ, ◌≡◌, ◌≢◌, ◌+◌, ◌*◌, ◌%◌, ◌<◌, inl, inr, List, slice_index, sym, ap, ◌∙◌, arith, mul-zero, zero-mul}
+use Rattle.std.proofs.Common.{ℕ, ◌≡◌, ◌*◌, ◌%◌, ◌<◌, inl, inr, List, slice_index, sym, ap, ◌∙◌, arith, mul-zero, zero-mul}
 use native.Mathlib.Nat.{zero-mod}
 use Rattle.std.proofs.lemmas.Bool.{cases_eq, cases_lt}
 use Rattle.residue_words.specs.Residues.{sum_below}

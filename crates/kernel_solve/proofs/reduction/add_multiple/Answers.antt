@@ -1,4 +1,4 @@
-use Rattle.std.proofs.Common.{◌≡◌, ◌≢◌, ◌+◌, ◌-◌, ◌*◌, ◌%◌, ◌<◌, ◌≤◌, ℕ, List, length, slice_index, slice_set, sym, refl, ap, subst, ◌∙◌, arith}
+use Rattle.std.proofs.Common.{◌≡◌, ◌+◌, ◌*◌, ◌%◌, ℕ, List, length, slice_index, slice_set, sym, refl, ap, subst, ◌∙◌, arith}
 use native.Mathlib.Nat.{mod-mod}
 use Rattle.sparse_rows.proofs.Adding.{IsAdding, adding_all, adding_more, adding_none}
 use Rattle.sparse_rows.proofs.Spread.{at_spread}

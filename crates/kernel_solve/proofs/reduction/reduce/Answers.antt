@@ -1,4 +1,4 @@
-use Rattle.std.proofs.Common.{◌≡◌, ◌≢◌, ◌+◌, ◌-◌, ◌*◌, ◌%◌, ◌<◌, ◌≤◌, ℕ, ◌∙◌, arith}
+use Rattle.std.proofs.Common.{arith}
 use Rattle.kernel_solve.proofs.Reducing.{cleared_all, cleared_more, cleared_none}
 use Rattle.kernel_solve.proofs.reduction.reduce.Goals as goal
 

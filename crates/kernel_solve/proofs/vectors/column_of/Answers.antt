@@ -1,4 +1,4 @@
-use Rattle.std.proofs.Common.{◌≡◌, ◌≢◌, ◌+◌, ◌-◌, ◌*◌, ◌%◌, ◌<◌, ◌≤◌, ℕ, length, sym, ap, ◌∙◌, arith}
+use Rattle.std.proofs.Common.{length, sym, ap, ◌∙◌}
 use Rattle.residue_words.specs.Matrix.{Matrix}
 use Rattle.kernel_solve.specs.Column.{column}
 use Rattle.kernel_solve.proofs.Preparing.{turned_column}

@@ -1,4 +1,4 @@
-use Rattle.std.proofs.Common.{◌≡◌, ◌≢◌, ◌+◌, ◌-◌, ◌*◌, ◌%◌, ◌<◌, ◌≤◌, ℕ, List, ◌∙◌, arith}
+use Rattle.std.proofs.Common.{ℕ, List, ◌∙◌, arith}
 use Rattle.kernel_solve.proofs.Preparing.{copied_all, copied_none, copied_value, copied_zero}
 use Rattle.kernel_solve.proofs.vectors.sparse_of.Goals.{then-value-ne0+in_ok-push, else-value-ne0}
 use Rattle.kernel_solve.proofs.vectors.sparse_of.Goals as goal

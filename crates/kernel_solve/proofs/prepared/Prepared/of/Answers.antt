@@ -1,4 +1,4 @@
-use Rattle.std.proofs.Common.{◌≡◌, ℕ, sym, subst, ◌∙◌, arith}
+use Rattle.std.proofs.Common.{ℕ, sym, subst, ◌∙◌, arith}
 use Rattle.residue_words.specs.Matrix.{Matrix}
 use Rattle.kernel_solve.specs.Prepared.{IsPreparedFor}
 use Rattle.kernel_solve.proofs.prepared.Prepared.of.Goals as goal
