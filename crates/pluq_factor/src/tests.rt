@@ -1,13 +1,12 @@
 // Matrices whose pivots are known from outside, and forms and ranks beside those of an elimination without rounds.
-ghost use Rattle.std.specs.Prelude.{◌≡◌, ◌<◌, ◌≤◌};
-ghost use Rattle.sparse_rows.specs.declared.rows.TheConstants.{LARGEST_SIZE};
+ghost use Rattle.std.specs.Prelude.{◌<◌, ◌≤◌};
 
 use crate::{Plan, factor, form, form_of_basis, rank, row_basis};
 use echelon_form::Echelon;
 use optimistic_search::Open;
 use pivot_table::Pair;
 use residue_words::Modulus;
-use sparse_rows::{LARGEST_SIZE, Rows, RowsBuilder};
+use sparse_rows::Rows;
 use std::alloc::{AllocError, Global};
 use std::test::Fail;
 use std::thread::Threads;
@@ -35,12 +34,28 @@ fn one_worker_takes_the_greedy_pivots(rt: HostRuntime) -> Result<(), Fail> {
         rounds: 3,
     };
     let factors = factor(&rt, alloc, &rows, plan, &Open)?;
-    let pivots = factors.pivots.items();
-    assert_eq!(rt; pivots.len(), 3);
-    assert_eq!(rt; pivots[0], Pair { row: 1, col: 1 });
-    assert_eq!(rt; pivots[1], Pair { row: 0, col: 0 });
-    assert_eq!(rt; pivots[2], Pair { row: 2, col: 2 });
+    let greedy = [
+        Pair { row: 1, col: 1 },
+        Pair { row: 0, col: 0 },
+        Pair { row: 2, col: 2 },
+    ];
+    assert_eq!(rt; factors.pivots.items(), greedy.as_slice());
     Ok(())
+}
+
+// How many pivots a plan finds, and how many rows of a basis.
+fn ranks<R: Threads + Sync>(
+    rt: &R,
+    alloc: Global,
+    rows: &Rows,
+    plan: Plan,
+) -> Result<(usize, u32), AllocError>
+    requires some { 1 ≤ plan.workers }
+    requires few { plan.workers ≤ 64 }
+{
+    let factors = factor(rt, alloc, rows, plan, &Open)?;
+    let basis = row_basis(rt, alloc, rows, plan, &Open)?;
+    Ok((factors.pivots.items().len(), basis.height()))
 }
 
 #[test]
@@ -65,9 +80,7 @@ fn each_plan_finds_the_rank(rt: HostRuntime) -> Result<(), Fail> {
     for workers in 1..3 {
         for rounds in 0..4 {
             let plan = Plan { workers, rounds };
-            let factors = factor(&rt, alloc, &rows, plan, &Open)?;
-            assert_eq!(rt; factors.pivots.items().len(), 2);
-            assert_eq!(rt; row_basis(&rt, alloc, &rows, plan, &Open)?.height(), 2);
+            assert_eq!(rt; ranks(&rt, alloc, &rows, plan)?, (2, 2));
         }
     }
     Ok(())
@@ -79,49 +92,53 @@ fn are_same(alloc: Global, a: &Echelon, b: &Echelon) -> Result<bool, AllocError>
     Ok(a.leads() == b.leads() && left.as_slice() == right.as_slice())
 }
 
-// Whether each plan finds the form, and its rank, that an elimination without rounds finds.
-fn agrees<R: Threads + Sync>(rt: &R, alloc: Global, rows: &Rows) -> Result<bool, AllocError> {
-    let known = Echelon::of(rt, alloc, rows, 1)?;
-    let mut same = true;
-    for workers in 1..4 {
-        for rounds in 0..4 {
-            let plan = Plan { workers, rounds };
-            same &= are_same(alloc, &form(rt, alloc, rows, plan, &Open)?, &known)?;
-            same &= rank(rt, alloc, rows, plan, &Open)? == known.rank();
-            let basis = row_basis(rt, alloc, rows, plan, &Open)?;
-            same &= are_same(alloc, &form_of_basis(rt, alloc, &basis, workers)?, &known)?;
-        }
-    }
-    Ok(same)
+// Whether a plan finds what is known: the form at once, the form of the basis, and the rank.
+fn finds<R: Threads + Sync>(
+    rt: &R,
+    alloc: Global,
+    rows: &Rows,
+    plan: Plan,
+    known: &Echelon,
+) -> Result<bool, AllocError>
+    requires some { 1 ≤ plan.workers }
+    requires few { plan.workers ≤ 64 }
+{
+    let at_once = form(rt, alloc, rows, plan, &Open)?;
+    let basis = row_basis(rt, alloc, rows, plan, &Open)?;
+    let of_basis = form_of_basis(rt, alloc, &basis, plan.workers)?;
+    let is_rank = rank(rt, alloc, rows, plan, &Open)? == known.rank();
+    Ok(is_rank && are_same(alloc, &at_once, known)? && are_same(alloc, &of_basis, known)?)
 }
 
-// So many values for each row, at places that a generator scatters over the columns.
-fn places(alloc: Global, m: u32, n: u32, per: u32) -> Result<Vec<(u32, u32, u64)>, AllocError>
+// Whether each plan finds what an elimination without rounds finds.
+fn agrees<R: Threads + Sync>(rt: &R, alloc: Global, rows: &Rows) -> Result<bool, AllocError> {
+    let known = Echelon::of(rt, alloc, rows, 1)?;
+    for workers in 1..4 {
+        for rounds in 0..4 {
+            if !finds(rt, alloc, rows, Plan { workers, rounds }, &known)? {
+                return Ok(false);
+            }
+        }
+    }
+    Ok(true)
+}
+
+// The matrix modulo 7 with so many values for each row, at places that a generator scatters over the columns.
+fn scattered(alloc: Global, m: u32, n: u32, per: u32) -> Result<Rows, Fail>
     requires { 0 < n }
 {
-    let mut places = Vec::new(alloc);
+    let mut triples = Vec::new(alloc);
     let mut state: u32 = 1;
     for i in 0..m {
         for _ in 0..per {
             state = state.wrapping_mul(1103515245).wrapping_add(12345);
-            places.push((i, (state >> 8) % n, u64::from((state >> 4) % 7)))?;
+            triples.push((i, (state >> 8) % n, u64::from((state >> 4) % 7)))?;
         }
     }
-    Ok(places)
-}
-
-// The matrix modulo 7 with these values.
-fn built(alloc: Global, m: u32, n: u32, places: &[(u32, u32, u64)]) -> Result<Rows, AllocError>
-    requires height { m ≤ LARGEST_SIZE }
-    requires width { n ≤ LARGEST_SIZE }
-{
-    let mut builder = RowsBuilder::new(alloc, m, n, Modulus::new(7))?;
-    for (i, j, v) in places {
-        if *i < m && *j < n && *v < 7 {
-            builder.push(*i, *j, *v)?;
-        }
+    match Rows::checked_from_triples(alloc, m, n, &Modulus::new(7), &triples)? {
+        Some(rows) => Ok(rows),
+        None => Err(Fail::new("a place is outside")),
     }
-    builder.finish()
 }
 
 // Heights, widths and values a row: more rows than the rank, full rank, a dense rest, a rest without one, and sizes where a row
@@ -142,9 +159,8 @@ const SCATTERED: &[(u32, u32, u32)] = &[
 fn each_plan_finds_the_form(rt: HostRuntime) -> Result<(), Fail> {
     let alloc = rt.alloc();
     for (m, n, per) in SCATTERED {
-        assert!(rt; *m <= LARGEST_SIZE && 0 < *n && *n <= LARGEST_SIZE);
-        let places = places(alloc, *m, *n, *per)?;
-        let rows = built(alloc, *m, *n, places.as_slice())?;
+        assert!(rt; 0 < *n);
+        let rows = scattered(alloc, *m, *n, *per)?;
         assert!(rt; agrees(&rt, alloc, &rows)?, "at {m} {n} {per}");
     }
     Ok(())
