@@ -1,5 +1,5 @@
 -- What is true of a form stays true when its columns stand at other columns, and zeros between.
-use Rattle.std.proofs.Common.{ℕ, zero, suc, ◌≡◌, ◌≢◌, ◌+◌, ◌*◌, ◌%◌, ◌<◌, ◌≤◌, ◌⊎◌, List, [], ◌∷◌, length, map, slice_index, inl, inr, sym, refl, ap, subst, ◌∙◌, arith, mod-eq_of_lt, mul-zero}
+use Rattle.std.proofs.Common.{ℕ, zero, suc, ◌≡◌, ◌≢◌, ◌*◌, ◌%◌, ◌<◌, ◌≤◌, ◌⊎◌, List, [], ◌∷◌, length, map, slice_index, inl, inr, sym, refl, ap, subst, ◌∙◌, arith, mod-eq_of_lt, mul-zero}
 use Rattle.std.proofs.lemmas.Bool.{cases_eq}
 use Rattle.std.proofs.lemmas.List.{get_or-map, length-map}
 use Rattle.residue_words.specs.Residues.{IsPrime, sum_below}

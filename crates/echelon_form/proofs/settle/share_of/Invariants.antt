@@ -1,4 +1,4 @@
-use Rattle.std.proofs.Common.{◌≡◌, ◌-◌, length}
+use Rattle.std.proofs.Common.{◌-◌, length}
 use Rattle.triangular_solve.specs.Accumulator.{IsClear}
 use Rattle.echelon_form.proofs.Gathering.{IsGathered}
 use Rattle.echelon_form.proofs.settle.share_of.Given as goal

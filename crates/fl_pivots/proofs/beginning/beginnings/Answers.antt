@@ -1,4 +1,4 @@
-use Rattle.std.proofs.Common.{◌+◌, arith}
+use Rattle.std.proofs.Common.{arith}
 use Rattle.fl_pivots.proofs.Listing.{listed_more, listed_passes}
 use Rattle.fl_pivots.proofs.beginning.beginnings.Goals as goal
 

@@ -1,4 +1,4 @@
-use Rattle.std.proofs.Common.{◌≡◌, ◌∙◌, arith, ap, sym}
+use Rattle.std.proofs.Common.{◌∙◌, arith, ap, sym}
 use Rattle.echelon_form.specs.Form.{Form}
 use Rattle.echelon_form.proofs.Widening.{echelon_widened}
 use Rattle.echelon_form.proofs.echelon.Echelon.widened.Goals as goal

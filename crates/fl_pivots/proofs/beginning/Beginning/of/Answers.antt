@@ -1,4 +1,4 @@
-use Rattle.std.proofs.Common.{◌<◌, length, slice_index, subst, sym, ap, refl, arith}
+use Rattle.std.proofs.Common.{length, slice_index, subst, sym, ap, refl, arith}
 use Rattle.pivot_table.specs.Leftmost.{BeginsAt}
 use Rattle.fl_pivots.proofs.Listing.{begins, weight_small}
 use Rattle.fl_pivots.proofs.beginning.Beginning.of.Goals as goal

@@ -1,4 +1,4 @@
-use Rattle.std.proofs.Common.{◌≡◌, ◌*◌, ◌%◌, ◌∙◌, length, slice_index, refl, ap, arith}
+use Rattle.std.proofs.Common.{◌*◌, ◌%◌, ◌∙◌, length, slice_index, refl, ap, arith}
 use Rattle.residue_words.specs.Matrix.{row}
 use Rattle.sparse_rows.specs.Rows.{ResidueMatrix, ResidueRow, nonzeros}
 use Rattle.sparse_rows.proofs.Loops.{length_zeros}
