@@ -1,11 +1,10 @@
 // A desk of a few numbers, and a batch of a few questions.
 ghost use Rattle.std.specs.Prelude.{All, ◌≡◌, ◌≤◌, IfOk, length};
-ghost use Rattle.sparse_rows.specs.declared.rows.TheConstants.{LARGEST_SIZE};
 
 use crate::{Desk, Unwatched, Watch, answer_all};
 use kernel_solve::{Prepared, Reply};
 use residue_words::Modulus;
-use sparse_rows::{Rows, RowsBuilder};
+use sparse_rows::Rows;
 use std::alloc::{AllocError, Global};
 use std::sync::Wait;
 use std::sync::atomic::{AtomicU64, Ordering};
@@ -24,31 +23,15 @@ fn numbers_are_given_once(rt: HostRuntime) -> Result<(), Fail> {
 }
 
 // The matrix of these places and values.
-fn built(alloc: Global, m: u32, n: u32, triples: &[(u32, u32, u64)]) -> Result<Rows, AllocError>
-    requires height { m ≤ LARGEST_SIZE }
-    requires width { n ≤ LARGEST_SIZE }
+fn built(alloc: Global, m: u32, n: u32, triples: &[(u32, u32, u64)]) -> Result<Rows, Fail>
     ensures modulus { IfOk result (λ rows. rows.modulus ≡ 7) }
     ensures height { IfOk result (λ rows. rows.matrix.height ≡ m) }
     ensures width { IfOk result (λ rows. rows.matrix.width ≡ n) }
 {
-    let mut builder = RowsBuilder::new(alloc, m, n, Modulus::new(7))?;
-    for (i, j, v) in triples {
-        if *i < m && *j < n && *v < 7 {
-            builder.push(*i, *j, *v)?;
-        }
+    match Rows::checked_from_triples(alloc, m, n, &Modulus::new(7), triples)? {
+        Some(rows) => Ok(rows),
+        None => Err(Fail::new("a place is outside")),
     }
-    builder.finish()
-}
-
-// The entries row by row: row, column, value.
-fn listed(alloc: Global, rows: &Rows) -> Result<Vec<(u32, u32, u64)>, AllocError> {
-    let mut list = Vec::new(alloc);
-    for i in 0..rows.height() {
-        for (j, v) in rows.cols(i).iter().zip(rows.vals(i)) {
-            list.push((i, *j, *v))?;
-        }
-    }
-    Ok(list)
 }
 
 // The rows (2, 4, 1), (1, 2, 0) and (3, 6, 1).
@@ -64,7 +47,7 @@ const X: &[(u32, u32, u64)] = &[
 ];
 
 // The columns (1, 0, 1), (0, 0, 1) and (0, 0, 0), modulo 7.
-fn columns(alloc: Global) -> Result<Vec<Rows>, AllocError>
+fn columns(alloc: Global) -> Result<Vec<Rows>, Fail>
     ensures few { IfOk result (λ v. length v.items ≡ 3) }
     ensures columns { IfOk result (λ v.
         All (λ b. (b.modulus ≡ 7) × (b.matrix.height ≡ 3) × (b.matrix.width ≡ 1)) v.items) }
@@ -82,21 +65,22 @@ fn replies<R: Threads + Wait + Sync, W: Watch>(
     alloc: Global,
     workers: u32,
     watch: &W,
-) -> Result<Vec<Reply>, AllocError>
+) -> Result<Vec<Reply>, Fail>
     requires some { 1 ≤ workers }
     requires few { workers ≤ 64 }
 {
     let a = built(alloc, 3, 3, X)?;
     let prepared = Prepared::of(rt, alloc, &a, workers)?;
     let questions = columns(alloc)?;
-    answer_all(rt, alloc, &prepared, questions.as_slice(), workers, watch)
+    let found = answer_all(rt, alloc, &prepared, questions.as_slice(), workers, watch)?;
+    Ok(found)
 }
 
 // Whether there is a solution, and the entries of the reply.
 fn told(alloc: Global, reply: &Reply) -> Result<(bool, Vec<(u32, u32, u64)>), AllocError> {
     match reply {
-        Reply::Solution(x) => Ok((true, listed(alloc, x)?)),
-        Reply::Refuted(y) => Ok((false, listed(alloc, y)?)),
+        Reply::Solution(x) => Ok((true, x.triples(alloc)?)),
+        Reply::Refuted(y) => Ok((false, y.triples(alloc)?)),
     }
 }
 
@@ -115,8 +99,7 @@ fn replies_stand_in_order(rt: HostRuntime) -> Result<(), Fail> {
         assert_eq!(rt; found.len(), TOLD.len());
         for (reply, (is_solvable, entries)) in found.iter().zip(TOLD) {
             let (found, listed) = told(alloc, reply)?;
-            assert!(rt; found == *is_solvable);
-            assert_eq!(rt; listed.as_slice(), *entries);
+            assert_eq!(rt; (found, listed.as_slice()), (*is_solvable, *entries));
         }
     }
     Ok(())
