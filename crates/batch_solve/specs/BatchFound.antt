@@ -1,5 +1,5 @@
 -- What is found for a batch: its replies, or the status with which it ends.
-use Rattle.std.specs.Prelude.{◌≡◌, ◌<◌, ℕ, Bool, false, List, ◌++◌, None, Some, Result, Ok, Err, Vec, All, codes, map}
+use Rattle.std.specs.Prelude.{◌≡◌, ℕ, Bool, false, List, ◌++◌, None, Some, Result, Ok, Err, Vec, All, codes, map}
 use Rattle.std.specs.List.{flat_map}
 use Rattle.std.specs.declared.alloc.Global.{Global}
 use Rattle.residue_words.specs.Matrix.{Matrix}

@@ -1,5 +1,5 @@
 -- The batch program's command line as clap takes it.
-use Rattle.std.specs.Prelude.{List, [], ◌∷◌, ℕ, All, true, codes}
+use Rattle.std.specs.Prelude.{List, [], ◌∷◌, All, true, codes}
 use Rattle.clap.specs.Words.{App, Row, Shape, new_app}
 use Rattle.clap.specs.Simple.{on_top}
 use Rattle.spasm_run.specs.Line.{with_options}

@@ -1,5 +1,5 @@
 -- Factors that rounds give.
-use Rattle.std.proofs.Common.{ℕ, zero, suc, ◌≡◌, ◌≢◌, ◌+◌, ◌-◌, ◌*◌, ◌%◌, ◌<◌, ◌≤◌, List, [], ◌++◌, length, slice_index, sym, refl, ap, subst, ◌∙◌, arith, length-append, mod-eq_of_lt}
+use Rattle.std.proofs.Common.{ℕ, zero, suc, ◌≡◌, ◌+◌, ◌-◌, ◌*◌, ◌%◌, ◌<◌, ◌≤◌, List, [], ◌++◌, length, slice_index, sym, refl, ap, subst, ◌∙◌, arith, length-append, mod-eq_of_lt}
 use Rattle.residue_words.specs.declared.plain.Pair.{Pair}
 use Rattle.residue_words.specs.Residues.{IsPrime}
 use Rattle.residue_words.specs.Matrix.{Matrix, IsMatrix, entry}

@@ -1,5 +1,5 @@
 -- The texts were read, and something came of them; or they weren't.
-use Rattle.std.proofs.Common.{◌≡◌, ◌+◌, ◌∙◌, List, subst, arith}
+use Rattle.std.proofs.Common.{List, subst}
 use Rattle.sparse_rows.specs.Rows.{ResidueMatrix}
 use Rattle.batch_solve.specs.BatchFound.{ComesOfBatch, matrices_of}
 use Rattle.batch_solve.proofs.BatchWhole.{found_read, found_unread}

@@ -1,5 +1,5 @@
 -- The factors by rounds, with the kernel bases by the forms of the right factor and of the transposed matrix.
-use Rattle.std.proofs.Common.{◌≡◌, ℕ, sym, ap, subst, ◌∙◌, arith}
+use Rattle.std.proofs.Common.{ℕ, sym, ap, subst, ◌∙◌, arith}
 use Rattle.residue_words.specs.Matrix.{Matrix}
 use Rattle.sparse_rows.specs.Rows.{transposed}
 use Rattle.echelon_form.specs.Form.{IsFormOf}

@@ -1,4 +1,4 @@
-use Rattle.std.proofs.Common.{ℕ, Option, ◌≡◌, ◌≤◌, ◌+◌, ◌++◌, ◌∙◌, List, [], length, ap, arith, subst, sym}
+use Rattle.std.proofs.Common.{Option, ◌++◌, ◌∙◌, List, [], length, ap, arith, subst, sym}
 use Rattle.std.specs.Option.{MatchOption}
 use Rattle.residue_words.specs.Matrix.{Matrix}
 use Rattle.residue_words.specs.declared.plain.Pair.{Pair}

@@ -1,4 +1,4 @@
-use Rattle.std.proofs.Common.{◌≡◌, ◌≤◌, min}
+use Rattle.std.proofs.Common.{◌≡◌, min}
 use Rattle.pluq_factor.specs.Counted.{LeavesRank}
 use Rattle.pluq_factor.proofs.rank_by_rounds.count_rounds.Given as goal
 
