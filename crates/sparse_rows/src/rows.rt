@@ -198,6 +198,7 @@ impl Rows {
         triples: &[(u32, u32, u64)],
     ) -> Result<Option<Rows>, AllocError>
         ensures none { IfOk result (λ found. IfNone found (¬ AllFit m n p.now triples.now)) }
+        ensures fits { IfOk result (λ found. IfSome found (λ _. AllFit m n p.now triples.now)) }
         ensures some { IfOk result (λ found. IfSome found (λ rows. rows ≡ record {
           modulus = p.now;
           matrix = built p.now m n (map triple triples.now);

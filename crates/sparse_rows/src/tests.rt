@@ -239,6 +239,25 @@ fn is_stacked(alloc: Global, high: u32, low: u32) -> Result<bool, Fail>
     Ok(lists(alloc, &rows, &wanted)?)
 }
 
+// A row, a column and a value that don't fit a matrix of 2 x 3 modulo 7.
+const OUTSIDE: &[(u32, u32, u64)] = &[(2, 0, 1), (0, 3, 1), (1, 2, 7)];
+
+#[test]
+fn what_does_not_fit_makes_no_matrix(rt: HostRuntime) -> Result<(), Fail> {
+    let alloc = rt.alloc();
+    for triple in OUTSIDE {
+        let made = Rows::checked_from_triples(
+            alloc,
+            2,
+            3,
+            &Modulus::new(7),
+            &[(0, 0, 1), *triple],
+        )?;
+        assert!(rt; made.is_none());
+    }
+    Ok(())
+}
+
 #[test]
 fn matrices_above_each_other(rt: HostRuntime) -> Result<(), Fail> {
     let alloc = rt.alloc();

@@ -1,4 +1,4 @@
-use Rattle.std.proofs.Common.{ℕ, ◌≡◌, ◌+◌, ◌∙◌, ◌<◌, List, inl, inr, ap, arith, length, slice_index_or, subst, sym, take}
+use Rattle.std.proofs.Common.{ℕ, ◌≡◌, ◌+◌, ◌∙◌, ◌<◌, ◌≤◌, All, List, inl, inr, ap, arith, length, slice_index_or, subst, sym, take}
 use Rattle.std.proofs.lemmas.Bool.{cases_lt}
 use Rattle.std.proofs.lemmas.List.{get_or_default, get_or-take, length-take-le, take_all}
 use Rattle.sparse_rows.specs.Rows.{FitsMatrix}
@@ -24,8 +24,16 @@ loop-i-preserved c = λ k d l.
           })
     ])
 
+-- all were looked at
+all_inside : (m n p i : ℕ) (ts : List (ℕ × ℕ × ℕ)) → length ts ≤ i → All (FitsMatrix m n p) (take i ts) → All (FitsMatrix m n p) ts
+all_inside m n p i ts l inside = subst (All (FitsMatrix m n p)) (take_all i ts l) inside
+
 pub from_triples-requires-clause-inside : goal.from_triples-requires-clause-inside
-from_triples-requires-clause-inside c = λ k d l.
-    let ts : List (ℕ × ℕ × ℕ) = c.args.triples.now in
-    let all : take c.loop-i.i-index ts ≡ ts = take_all c.loop-i.i-index ts c.loop-i-test.false in
-    subst (λ us. FitsMatrix c.args.m c.args.n c.args.p.now (slice_index_or us k d)) all (c.loop-i.invariant k d (omega (arith, ap length all)))
+from_triples-requires-clause-inside c = all_inside c.args.m c.args.n c.args.p.now c.loop-i.i-index c.args.triples.now c.loop-i-test.false c.loop-i.invariant
+
+pub returns-clause-fits : goal.returns-clause-fits
+returns-clause-fits c = record {
+  height = c.if-m-gt-LARGEST_SIZE.false;
+  width = c.if-n-gt-LARGEST_SIZE.false;
+  inside = all_inside c.args.m c.args.n c.args.p.now c.loop-i.i-index c.args.triples.now c.loop-i-test.false c.loop-i.invariant;
+}
