@@ -1,5 +1,5 @@
 -- What workers make of a round: parts of the matrix, row by row.
-use Rattle.std.specs.Prelude.{◌≡◌, ◌<◌, ◌≤◌, ◌+◌, ◌*◌, ◌/◌, ◌%◌, ℕ, Bool, true, List, Result, Vec, length, min, slice_index_or, IfOk}
+use Rattle.std.specs.Prelude.{◌≡◌, ◌<◌, ◌≤◌, ◌+◌, ◌*◌, ℕ, Bool, true, List, Result, Vec, All, Contains, length, min, IfOk}
 use Rattle.std.specs.declared.alloc.Global.{Global}
 use Rattle.residue_words.specs.Matrix.{Matrix, IsMatrix, IsVector, row, zeros}
 use Rattle.residue_words.specs.Residues.{IsPrime}
@@ -11,7 +11,9 @@ use Rattle.sparse_rows.specs.Stored.{with_row}
 use Rattle.triangular_solve.specs.Reduced.{IsPivotRow, IsReduced, IsSchurRow, Reduction}
 use Rattle.triangular_solve.specs.Triangle.{TriangleState}
 use Rattle.schur_rows.specs.declared.round.SchurRows.{SchurRows}
-use Rattle.schur_rows.specs.declared.workers.Deal.{Deal}
+use Rattle.schur_rows.specs.declared.deal.Deal.{Deal}
+use Rattle.schur_rows.specs.declared.deal.Stage.{Stage}
+use Rattle.schur_rows.specs.declared.numbered_part.NumberedPart.{NumberedPart}
 
 -- r is row i of a round: a pivot row is itself and leaves nothing, for another row its Schur row is left; where the
 -- coefficients are kept, they split the row
@@ -97,9 +99,11 @@ pub record Joins (part old new : SchurRows) : Type 0 where
 pub record IsDeal (deal : Deal) : Type 0 where
   pub order : deal.from ≤ deal.to
   pub end : deal.to ≤ LARGEST_SIZE
-  pub some : 1 ≤ deal.workers
-  pub few : deal.count ≤ 1024
+  pub several : 2 ≤ deal.workers
   pub few_workers : deal.workers ≤ 64
+  pub some : 1 ≤ deal.stage
+  pub few_a_stage : deal.stage ≤ 512
+  pub few : deal.count ≤ 2048
   pub small : deal.size ≤ LARGEST_SIZE + 1
   pub covered : deal.to ≤ deal.from + deal.count * deal.size
 
@@ -111,13 +115,20 @@ cut_at deal j = min deal.to (deal.from + j * deal.size)
 abbrev pub IsPartOf : TriangleState → Deal → ℕ → SchurRows → Type 0
 IsPartOf t deal j s = IsPartTo t deal.pass.kept (cut_at deal j) (cut_at deal (j + 1)) s
 
--- a worker makes the parts worker, worker + workers, worker + 2 workers and so on
-pub record HasParts (t : TriangleState) (deal : Deal) (worker : ℕ) (parts : List SchurRows) : Type 0 where
-  pub long : (j : ℕ) → j < deal.count → j % deal.workers ≡ worker → j / deal.workers < length parts
-  pub each : (j : ℕ) (d : SchurRows) → j < deal.count → j % deal.workers ≡ worker →
-      IsPartOf t deal j (slice_index_or parts (j / deal.workers) d)
+-- the part of its number
+abbrev pub IsNumbered : TriangleState → Deal → NumberedPart → Type 0
+IsNumbered t deal part = IsPartOf t deal part.number part.left
 
--- the parts of the workers, in order
-abbrev pub HaveParts : {E : Type 0} → TriangleState → Deal → List (Result (Vec SchurRows Global) E) → Type 0
-HaveParts {E} t deal shares = (w : ℕ) (d : Result (Vec SchurRows Global) E) → w < length shares →
-    IfOk (slice_index_or shares w d) (λ parts. HasParts t deal w parts.items)
+-- parts that a worker made, where memory did not run out
+abbrev pub IsShare : {E : Type 0} → TriangleState → Deal → Result (Vec NumberedPart Global) E → Type 0
+IsShare {E} t deal share = IfOk share (λ parts. All (IsNumbered t deal) parts.items)
+
+-- among these is a part of this number
+abbrev pub Holds : List NumberedPart → ℕ → SchurRows → Type 0
+Holds parts number s = Contains parts (record { number = number; left = s })
+
+-- the parts before the stage's are made, and some of these joined
+pub record IsStage (deal : Deal) (stage : Stage) : Type 0 where
+  pub joined : stage.joined ≤ stage.begun
+  pub begun : stage.begun ≤ stage.end
+  pub end : stage.end ≤ deal.count

@@ -5,6 +5,8 @@
 //! a round of the elimination of Bouillaguet, Delaplace and Voge, 'Parallel Sparse PLUQ Factorization modulo p', PASCO 2017.
 #![tactic(auto)]
 
+mod deal;
+mod numbered_part;
 mod pass;
 mod pivot_numbers;
 mod round;

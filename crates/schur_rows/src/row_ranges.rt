@@ -34,7 +34,7 @@ pub(crate) fn no_rows(alloc: Global, pass: Pass, height: u32) -> Result<SchurRow
 }
 
 // How many entries so many rows have on average, where all rows of the matrix have so many.
-fn share_of_rows(rows: &Rows, total: u64, height: u32) -> usize {
+pub(crate) fn share_of_rows(rows: &Rows, total: u64, height: u32) -> usize {
     let share = total.saturating_mul(u64::from(height)) / u64::from(rows.height().max(1));
     share as usize
 }

@@ -1,45 +1,43 @@
 // What a round leaves, made by several workers.
-ghost use Rattle.std.specs.Prelude.{◌≡◌, ◌<◌, ◌≤◌, ◌+◌, length, IfOk, OnOk};
+ghost use Rattle.std.specs.Prelude.{◌≡◌, ◌<◌, ◌≤◌, ◌+◌, All, IfOk, OnOk};
+ghost use Rattle.std.specs.Thread.{IsSync};
 ghost use Rattle.sparse_rows.specs.declared.rows.TheConstants.{LARGEST_SIZE};
-ghost use Rattle.schur_rows.specs.Parts.{HasParts, HaveParts, IsDeal, IsPartTo, Joins, cut_at};
+ghost use Rattle.schur_rows.specs.Parts.{IsDeal, IsNumbered, IsPartOf, IsPartTo, IsShare, IsStage, Joins, cut_at};
 ghost use Rattle.schur_rows.specs.PivotNumbers.{HasNumbers};
+ghost use Rattle.triangular_solve.specs.Reduced.{workspace_of};
 
+use crate::deal::{Deal, Stage};
+use crate::numbered_part::{NumberedPart, part_among};
 use crate::pass::Pass;
 use crate::pivot_numbers::PivotNumbers;
 use crate::round::SchurRows;
-use crate::row_ranges::{no_rows, part_of};
+use crate::row_ranges::{no_rows, part_of, share_of_rows};
 use crate::row_reducer::RowReducer;
 use crate::sampling::total_left;
 use std::alloc::{AllocError, Global};
+use std::sync::atomic::{AtomicU64, Ordering};
 use std::thread;
-use std::thread::Threads;
+use std::thread::{Threads, join_mut};
+use triangular_solve::Work;
 
-// How many parts a worker makes, so that all have about as much to do.
-const PARTS: usize = 16;
+// How many parts a stage has for each worker, so that none waits long for the others at its end.
+const PARTS: usize = 8;
 
-// What each worker makes, or that memory ran out for it.
-type Share = Result<Vec<SchurRows>, AllocError>;
+// Where more entries than these are left, one worker joins those of a stage while the next one is made.
+const STAGE_ENTRIES: usize = 1 << 19;
 
-// How the rows from `from` up to `to` are dealt: so many parts of so many rows each, the last ones shorter, to the workers in turn.
-#[derive(Clone, Copy, Debug)]
-pub(crate) struct Deal<'r, 't, 'a> {
-    pass: Pass<'r, 't, 'a>,
-    from: u32,
-    to: u32,
-    size: usize,
-    count: usize,
-    workers: usize,
-}
+// But there are no more stages than these.
+const MOST_STAGES: usize = 4;
 
-impl<'r, 't, 'a> Deal<'r, 't, 'a> {
-    // Where part j begins.
-    fn cut(&self, j: usize) -> u32
-        requires deal { IsDeal self.now }
-        requires part { j ≤ self.now.count }
-        ensures { result ≡ cut_at self.now j }
-    {
-        (self.to as usize).min(self.from as usize + j * self.size) as u32
-    }
+// Parts that a worker makes, or that memory ran out for it.
+type Share = Result<Vec<NumberedPart>, AllocError>;
+
+// In how many stages rows are made that leave about so many entries.
+fn stages(entries: usize) -> usize
+    ensures some { 1 ≤ result }
+    ensures few { result ≤ 4 }
+{
+    (entries / STAGE_ENTRIES).max(1).min(MOST_STAGES)
 }
 
 // What a triangle leaves of its matrix.
@@ -92,80 +90,276 @@ pub(crate) fn left_between<R: Threads + Sync>(
         let mut work = pass.reducer.work(alloc)?;
         return part_of(alloc, pass, from, to, &mut work);
     }
-    let count = PARTS * workers as usize;
+    let rows = pass.reducer.rows();
+    let stage = PARTS * workers as usize;
+    let count = stage * stages(share_of_rows(rows, pass.total, to - from));
     let deal = Deal {
         pass,
         from,
         to,
         size: (to - from) as usize / count + 1,
         count,
+        stage,
         workers: workers as usize,
     };
-    let shares = shares_of(rt, alloc, deal)?;
-    merged(alloc, deal, &shares)
+    left_by_stages(rt, alloc, deal)
 }
 
-// The shares of the workers.
-fn shares_of<R: Threads + Sync>(rt: &R, alloc: Global, deal: Deal) -> Result<Vec<Share>, AllocError>
+// What is left of all rows of a deal.
+fn left_by_stages<R: Threads + Sync>(
+    rt: &R,
+    alloc: Global,
+    deal: Deal,
+) -> Result<SchurRows, AllocError>
     requires deal { IsDeal deal }
     requires inside { deal.to ≤ deal.pass.reducer.now.rows.matrix.height }
     requires numbers { HasNumbers deal.pass.reducer.now.pairs deal.pass.pivot_rows.now }
-    ensures count { IfOk result (λ shares. length shares.items ≡ deal.entry.workers) }
-    ensures shares { IfOk result (λ shares. HaveParts deal.entry.pass.reducer.now deal.entry shares.items) }
-{
-    thread::map_indices(
-        rt,
-        alloc,
-        deal.workers,
-        &|worker| share_of(alloc, deal, worker),
-    )
-}
-
-// The parts worker, worker + workers, worker + 2 workers and so on.
-fn share_of(alloc: Global, deal: Deal, worker: usize) -> Share
-    requires worker { worker < deal.workers }
-    requires deal { IsDeal deal }
-    requires inside { deal.to ≤ deal.pass.reducer.now.rows.matrix.height }
-    requires numbers { HasNumbers deal.pass.reducer.now.pairs deal.pass.pivot_rows.now }
-    ensures { IfOk result (λ parts. HasParts deal.entry.pass.reducer.now deal.entry worker parts.items) }
-{
-    // The call's contract tells how high a matrix is.
-    let _ = deal.pass.reducer.rows().height();
-    let mut work = deal.pass.reducer.work(alloc)?;
-    let mut parts = Vec::new(alloc);
-    let mut j = worker;
-    while j < deal.count {
-        let from = deal.cut(j);
-        let to = deal.cut(j + 1);
-        parts.push(part_of(alloc, deal.pass, from, to, &mut work)?)?;
-        j += deal.workers;
-    }
-    Ok(parts)
-}
-
-// The parts of the shares behind each other.
-fn merged(alloc: Global, deal: Deal, shares: &[Share]) -> Result<SchurRows, AllocError>
-    requires deal { IsDeal deal }
-    requires inside { deal.to ≤ deal.pass.reducer.now.rows.matrix.height }
-    requires count { length shares.now ≡ deal.workers }
-    requires shares { HaveParts deal.pass.reducer.now deal shares.now }
     ensures { IfOk result (IsPartTo deal.entry.pass.reducer.now deal.entry.pass.kept
         deal.entry.from deal.entry.to) }
 {
     // The call's contract tells how high a matrix is.
     let _ = deal.pass.reducer.rows().height();
     let mut made = no_rows(alloc, deal.pass, deal.to - deal.from)?;
-    for j in 0..deal.count {
-        match &shares[j % deal.workers] {
-            Ok(parts) => join(&mut made, &parts[j / deal.workers])?,
-            Err(e) => return Err(*e),
-        }
+    let mut parts = Vec::new(alloc);
+    let mut joined = 0;
+    let mut begun = 0;
+    while begun < deal.count {
+        let end = deal.count.min(begun + deal.stage);
+        let stage = Stage { joined, begun, end };
+        parts = next_stage(rt, alloc, deal, stage, &parts, &mut made)?;
+        joined = begun;
+        begun = end;
     }
+    join_parts(alloc, deal, joined, begun, &parts, &mut made)?;
     Ok(made)
 }
 
+// Joins the parts of the stage before, while the workers make those of the next.
+fn next_stage<R: Threads + Sync>(
+    rt: &R,
+    alloc: Global,
+    deal: Deal,
+    stage: Stage,
+    parts: &[NumberedPart],
+    made: &mut SchurRows,
+) -> Share
+    requires deal { IsDeal deal }
+    requires inside { deal.to ≤ deal.pass.reducer.now.rows.matrix.height }
+    requires numbers { HasNumbers deal.pass.reducer.now.pairs deal.pass.pivot_rows.now }
+    requires stage { IsStage deal stage }
+    requires parts { All (IsNumbered deal.pass.reducer.now deal) parts.now }
+    requires made { IsPartTo deal.pass.reducer.now deal.pass.kept
+        deal.from (cut_at deal stage.joined) made.old }
+    ensures parts { IsShare deal.entry.pass.reducer.now deal.entry result }
+    ensures made { OnOk result (IsPartTo deal.entry.pass.reducer.now deal.entry.pass.kept
+        deal.entry.from (cut_at deal.entry stage.begun) made.new) }
+{
+    let next = AtomicU64::new(stage.begun as u64);
+    let helpers = deal.workers - 1;
+    let mut help = || -> Share
+        requires { IsSync R.row × (1 ≤ helpers) × IsDeal deal × (stage.end ≤ deal.count)
+            × (deal.to ≤ deal.pass.reducer.now.rows.matrix.height)
+            × HasNumbers deal.pass.reducer.now.pairs deal.pass.pivot_rows.now }
+        ensures { IsShare deal.entry.pass.reducer.now deal.entry result }
+    { parts_by(rt, alloc, deal, stage.end, &next, helpers) };
+    let mut own = || -> Share
+        requires { IsDeal deal × IsStage deal stage
+            × (deal.to ≤ deal.pass.reducer.now.rows.matrix.height)
+            × HasNumbers deal.pass.reducer.now.pairs deal.pass.pivot_rows.now
+            × All (IsNumbered deal.pass.reducer.now deal) parts.now
+            × IsPartTo deal.pass.reducer.now deal.pass.kept deal.from (cut_at deal stage.joined) made.now }
+        ensures { IsShare deal.entry.pass.reducer.now deal.entry result
+            × OnOk result (IsPartTo deal.entry.pass.reducer.now deal.entry.pass.kept
+            deal.entry.from (cut_at deal.entry stage.begun) made.exit.now) }
+    { join_and_go_on(alloc, deal, stage, &next, parts, made) };
+    let (own, others) = join_mut(rt, &mut own, &mut help);
+    let mut all = own?;
+    let mut more = others?;
+    all.append(&mut more)?;
+    Ok(all)
+}
+
+// Joins the parts of the stage before, and then makes parts of the next as the other workers do.
+fn join_and_go_on(
+    alloc: Global,
+    deal: Deal,
+    stage: Stage,
+    next: &AtomicU64,
+    parts: &[NumberedPart],
+    made: &mut SchurRows,
+) -> Share
+    requires deal { IsDeal deal }
+    requires inside { deal.to ≤ deal.pass.reducer.now.rows.matrix.height }
+    requires numbers { HasNumbers deal.pass.reducer.now.pairs deal.pass.pivot_rows.now }
+    requires stage { IsStage deal stage }
+    requires parts { All (IsNumbered deal.pass.reducer.now deal) parts.now }
+    requires made { IsPartTo deal.pass.reducer.now deal.pass.kept
+        deal.from (cut_at deal stage.joined) made.old }
+    ensures parts { IsShare deal.entry.pass.reducer.now deal.entry result }
+    ensures made { OnOk result (IsPartTo deal.entry.pass.reducer.now deal.entry.pass.kept
+        deal.entry.from (cut_at deal.entry stage.begun) made.new) }
+{
+    join_parts(alloc, deal, stage.joined, stage.begun, parts, made)?;
+    let own = parts_of_worker(alloc, deal, stage.end, next)?;
+    Ok(own)
+}
+
+// The parts below `end` that so many workers make.
+fn parts_by<R: Threads + Sync>(
+    rt: &R,
+    alloc: Global,
+    deal: Deal,
+    end: usize,
+    next: &AtomicU64,
+    workers: usize,
+) -> Share
+    requires deal { IsDeal deal }
+    requires inside { deal.to ≤ deal.pass.reducer.now.rows.matrix.height }
+    requires numbers { HasNumbers deal.pass.reducer.now.pairs deal.pass.pivot_rows.now }
+    requires end { end ≤ deal.count }
+    ensures { IsShare deal.entry.pass.reducer.now deal.entry result }
+{
+    let mut shares = shares_of(rt, alloc, deal, end, next, workers)?;
+    let mut parts = Vec::new(alloc);
+    while let Some(share) = shares.pop() {
+        let mut more = share?;
+        parts.append(&mut more)?;
+    }
+    Ok(parts)
+}
+
+// What each of them makes.
+fn shares_of<R: Threads + Sync>(
+    rt: &R,
+    alloc: Global,
+    deal: Deal,
+    end: usize,
+    next: &AtomicU64,
+    workers: usize,
+) -> Result<Vec<Share>, AllocError>
+    requires deal { IsDeal deal }
+    requires inside { deal.to ≤ deal.pass.reducer.now.rows.matrix.height }
+    requires numbers { HasNumbers deal.pass.reducer.now.pairs deal.pass.pivot_rows.now }
+    requires end { end ≤ deal.count }
+    ensures { IfOk result (λ shares.
+        All (IsShare deal.entry.pass.reducer.now deal.entry) shares.items) }
+{
+    thread::map_indices(
+        rt,
+        alloc,
+        workers,
+        &|_worker| parts_of_worker(alloc, deal, end, next),
+    )
+}
+
+// The parts that one worker makes: it takes the next one below `end` as long as there is one.
+fn parts_of_worker(alloc: Global, deal: Deal, end: usize, next: &AtomicU64) -> Share
+    requires deal { IsDeal deal }
+    requires inside { deal.to ≤ deal.pass.reducer.now.rows.matrix.height }
+    requires numbers { HasNumbers deal.pass.reducer.now.pairs deal.pass.pivot_rows.now }
+    requires end { end ≤ deal.count }
+    ensures { IsShare deal.entry.pass.reducer.now deal.entry result }
+{
+    // The call's contract tells how high a matrix is.
+    let _ = deal.pass.reducer.rows().height();
+    let mut work = deal.pass.reducer.work(alloc)?;
+    let mut parts = Vec::new(alloc);
+    // No worker can take more.
+    for _ in 0..end {
+        let number = next.fetch_add(1, Ordering::SeqCst) as usize;
+        if number >= end {
+            return Ok(parts);
+        }
+        let left = part_by_number(alloc, deal, number, &mut work)?;
+        parts.push(NumberedPart { number, left })?;
+    }
+    Ok(parts)
+}
+
+// The part of this number.
+fn part_by_number(
+    alloc: Global,
+    deal: Deal,
+    number: usize,
+    work: &mut Work,
+) -> Result<SchurRows, AllocError>
+    requires deal { IsDeal deal }
+    requires inside { deal.to ≤ deal.pass.reducer.now.rows.matrix.height }
+    requires numbers { HasNumbers deal.pass.reducer.now.pairs deal.pass.pivot_rows.now }
+    requires number { number < deal.count }
+    requires work { work.old ≡ workspace_of deal.pass.reducer.now }
+    ensures work { work.new ≡ work.old }
+    ensures part { IfOk result (IsPartOf deal.entry.pass.reducer.now deal.entry number) }
+{
+    // The call's contract tells how high a matrix is.
+    let _ = deal.pass.reducer.rows().height();
+    part_of(
+        alloc,
+        deal.pass,
+        deal.cut(number),
+        deal.cut(number + 1),
+        work,
+    )
+}
+
+// Puts the parts from `from` on and below `to` below what there is.
+fn join_parts(
+    alloc: Global,
+    deal: Deal,
+    from: usize,
+    to: usize,
+    parts: &[NumberedPart],
+    made: &mut SchurRows,
+) -> Result<(), AllocError>
+    requires deal { IsDeal deal }
+    requires inside { deal.to ≤ deal.pass.reducer.now.rows.matrix.height }
+    requires numbers { HasNumbers deal.pass.reducer.now.pairs deal.pass.pivot_rows.now }
+    requires order { from ≤ to }
+    requires end { to ≤ deal.count }
+    requires parts { All (IsNumbered deal.pass.reducer.now deal) parts.now }
+    requires made { IsPartTo deal.pass.reducer.now deal.pass.kept deal.from (cut_at deal from) made.old }
+    ensures { OnOk result (IsPartTo deal.entry.pass.reducer.now deal.entry.pass.kept
+        deal.entry.from (cut_at deal.entry to) made.new) }
+{
+    for number in from..to {
+        join_number(alloc, deal, number, parts, made)?;
+    }
+    Ok(())
+}
+
+// Puts the part of this number below what there is. That a worker has taken it follows from no contract: a part that is missing is
+// made here.
+fn join_number(
+    alloc: Global,
+    deal: Deal,
+    number: usize,
+    parts: &[NumberedPart],
+    made: &mut SchurRows,
+) -> Result<(), AllocError>
+    requires deal { IsDeal deal }
+    requires inside { deal.to ≤ deal.pass.reducer.now.rows.matrix.height }
+    requires numbers { HasNumbers deal.pass.reducer.now.pairs deal.pass.pivot_rows.now }
+    requires number { number < deal.count }
+    requires parts { All (IsNumbered deal.pass.reducer.now deal) parts.now }
+    requires made { IsPartTo deal.pass.reducer.now deal.pass.kept
+        deal.from (cut_at deal number) made.old }
+    ensures { OnOk result (IsPartTo deal.entry.pass.reducer.now deal.entry.pass.kept
+        deal.entry.from (cut_at deal.entry (number + 1)) made.new) }
+{
+    // The call's contract tells how high a matrix is.
+    let _ = deal.pass.reducer.rows().height();
+    if let Some(part) = part_among(parts, number) {
+        join_below(made, part)?;
+        return Ok(());
+    }
+    let mut work = deal.pass.reducer.work(alloc)?;
+    let part = part_by_number(alloc, deal, number, &mut work)?;
+    join_below(made, &part)?;
+    Ok(())
+}
+
 // Puts a part below what there is.
-fn join(made: &mut SchurRows, part: &SchurRows) -> Result<(), AllocError>
+fn join_below(made: &mut SchurRows, part: &SchurRows) -> Result<(), AllocError>
     requires modulus { made.old.rows.modulus ≡ part.now.rows.modulus }
     requires width { made.old.rows.matrix.width ≡ part.now.rows.matrix.width }
     requires coefficient_modulus { made.old.coefficients.modulus ≡ part.now.coefficients.modulus }
