@@ -12,6 +12,7 @@ use Rattle.dense_finish.specs.Block.{AreVectors, block_row, entry_of}
 use Rattle.dense_finish.specs.Dense.{Scatters}
 use Rattle.dense_finish.specs.Panel.{ArePivots, Continues, PanelRows}
 use Rattle.dense_finish.specs.Splitting.{IsSplit, IsTaken, PivotSequence}
+use Rattle.dense_finish.specs.Units.{FoundPanel, HasUnits}
 use Rattle.dense_finish.specs.declared.pivots.Pivots.{Pivots}
 
 -- how many pivots there are
@@ -119,39 +120,45 @@ pub record IsPanelFrom (p : ℕ) (columns : List ℕ) (r : ℕ) (f : Pivots) (pa
   pub total : r + length panel.columns ≡ count f
   pub continues : Continues (pivot_sequence p columns f) r panel
 
--- a stage with the panel of its last pivots
-pub record PanelStage : Type 0 where
-  pub pivots : Pivots
-  pub panel : PanelRows
-  pub rows : List (List ℕ)
-  pub done : ℕ
-
-abbrev pub panel_stage : Pivots → PanelRows → List (List ℕ) → ℕ → PanelStage
-panel_stage f panel rows i = record { pivots = f; panel = panel; rows = rows; done = i }
-
-abbrev pub stage_of : PanelStage → Stage
-stage_of s = stage s.pivots s.rows s.done
-
--- how many pivots come before the panel's
-abbrev pub before_panel : PanelStage → ℕ
-before_panel s = count s.pivots - length s.panel.columns
-
--- an elimination of a block with these columns of a matrix can go on from here
-pub record CanGoOn (p : ℕ) (columns : List ℕ) (s : PanelStage) : Type 0 where
+-- an elimination of a block with these columns of a matrix has come to here
+pub record HasReached (p : ℕ) (columns : List ℕ) (s : Stage) : Type 0 where
   pub low : length s.rows ≤ LARGEST_SIZE
   pub few : length columns ≤ LARGEST_SIZE
   pub inside : AreBelow s.pivots.u.matrix.width columns
   pub rising : AreRising columns
   pub found : AreFound p columns s.pivots.u.matrix.width s.done s.pivots
   pub eliminated : AreEliminated p (length columns) s.done s.pivots s.rows
-  pub holds : IsPanelFrom p columns (before_panel s) s.pivots s.panel
+
+-- a stage with the panel of its last pivots
+pub record PanelStage : Type 0 where
+  pub pivots : Pivots
+  pub found : FoundPanel
+  pub rows : List (List ℕ)
+  pub done : ℕ
+
+abbrev pub panel_stage : Pivots → FoundPanel → List (List ℕ) → ℕ → PanelStage
+panel_stage f found rows i = record { pivots = f; found = found; rows = rows; done = i }
+
+abbrev pub stage_of : PanelStage → Stage
+stage_of s = stage s.pivots s.rows s.done
+
+-- how many pivots come before the panel's
+abbrev pub before_panel : PanelStage → ℕ
+before_panel s = count s.pivots - length s.found.panel.columns
+
+-- and can go on with the panel of its last pivots
+pub record CanGoOn (p : ℕ) (columns : List ℕ) (s : PanelStage) : Type 0 where
+  pub reached : HasReached p columns (stage_of s)
+  pub holds : IsPanelFrom p columns (before_panel s) s.pivots s.found.panel
+  pub units : HasUnits p s.found
 
 -- the pivots of more rows are found, behind those of `old`, and are the panel's: whatever block splits into `old`, its rows
 -- ahead by the pivots before the panel's, splits into `new`, whose rows ahead are reduced by all pivots of `old`
 pub record FindsPanel (p : ℕ) (columns : List ℕ) (old new : PanelStage) : Type 0 where
   pub found : AreFound p columns old.pivots.u.matrix.width new.done new.pivots
   pub eliminated : AreEliminated p (length columns) new.done new.pivots new.rows
-  pub holds : IsPanelFrom p columns (count old.pivots) new.pivots new.panel
+  pub holds : IsPanelFrom p columns (count old.pivots) new.pivots new.found.panel
+  pub units : HasUnits p new.found
   pub kept : KeepsPivots columns old.pivots new.pivots
   pub split : IsPrime p → (block : List (List ℕ)) → AreSplit p columns (before_panel old) block (stage_of old) →
       AreSplit p columns (count old.pivots) block (stage_of new)
