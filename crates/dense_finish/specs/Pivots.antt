@@ -8,12 +8,13 @@ use Rattle.row_space.specs.Rows.{HasSteps}
 use Rattle.sparse_rows.specs.Rows.{AreBelow, AreRising}
 use Rattle.sparse_rows.specs.Stored.{with_row}
 use Rattle.sparse_rows.specs.declared.rows.TheConstants.{LARGEST_SIZE}
-use Rattle.dense_finish.specs.Block.{AreVectors, block_row, entry_of}
+use Rattle.dense_finish.specs.Block.{AreVectors, DenseBlock, IsDense, block_row, entry_of, with_entries}
 use Rattle.dense_finish.specs.Dense.{Scatters}
 use Rattle.dense_finish.specs.Panel.{ArePivots, Continues, PanelRows}
 use Rattle.dense_finish.specs.Splitting.{IsSplit, IsTaken, PivotSequence}
 use Rattle.dense_finish.specs.Units.{FoundPanel, HasUnits}
 use Rattle.dense_finish.specs.declared.pivots.Pivots.{Pivots}
+use Rattle.dense_finish.specs.declared.right_factor.RightFactor.{RightFactor}
 
 -- how many pivots there are
 abbrev pub count : Pivots → ℕ
@@ -113,6 +114,22 @@ pub record KeepsPivots (columns : List ℕ) (old new : Pivots) : Type 0 where
 abbrev pub SplitBy : ℕ → List ℕ → Pivots → List (List ℕ) → List (List ℕ) → Type 0
 SplitBy p columns f block rows = AreSplit p columns (count f) block (stage f rows (length block))
 
+-- the pivots stand in rows and columns of the block
+pub record StandIn (block : DenseBlock) (f : Pivots) : Type 0 where
+  pub long : length f.rows.items ≡ count f
+  pub few : count f ≤ length block.rows
+  pub rows : AreBelow (length block.rows) f.rows.items
+  pub columns : AreBelow (length block.columns) f.columns.items
+
+-- an elimination of the block `old` finds these pivots and leaves `new`
+pub record Eliminates (old new : DenseBlock) (f : Pivots) : Type 0 where
+  pub same : new ≡ with_entries old new.entries
+  pub dense : IsDense new
+  pub stand : StandIn new f
+  pub found : AreFound old.modulus old.columns old.width (length old.entries) f
+  pub eliminated : AreEliminated old.modulus (length old.columns) (length old.entries) f new.entries
+  pub split : IsPrime old.modulus → SplitBy old.modulus old.columns f old.entries new.entries
+
 -- the panel holds the pivots from the r-th on
 pub record IsPanelFrom (p : ℕ) (columns : List ℕ) (r : ℕ) (f : Pivots) (panel : PanelRows) : Type 0 where
   pub wide : panel.width ≡ length columns
@@ -168,3 +185,8 @@ pub record ArePivotPlaces (f_rows f_columns rows columns : List ℕ) (pivots : L
   pub long : length pivots ≡ length f_rows
   pub row : (k : ℕ) → k < length f_rows → row_at pivots k ≡ slice_index rows (slice_index f_rows k)
   pub column : (k : ℕ) → k < length f_rows → col_at pivots k ≡ slice_index columns (slice_index f_columns k)
+
+-- the right factor of an eliminated block with these pivots
+pub record IsRightFactorOf (block : DenseBlock) (f : Pivots) (right : RightFactor) : Type 0 where
+  pub same : right.u ≡ f.u
+  pub places : ArePivotPlaces f.rows.items f.columns.items block.rows block.columns right.pivots

@@ -1,24 +1,25 @@
 // The factors of a matrix by dense elimination.
-ghost use Rattle.std.specs.Prelude.{◌≡◌, ◌<◌, ◌≤◌, length, IfOk, OnOk};
+ghost use Rattle.std.specs.Prelude.{◌<◌, ◌≤◌, length, IfOk, OnOk};
 ghost use Rattle.residue_words.specs.Matrix.{IsVector};
 ghost use Rattle.residue_words.specs.Residues.{IsPrime};
 ghost use Rattle.sparse_rows.specs.Rows.{AreRising};
 ghost use Rattle.sparse_rows.specs.declared.rows.TheConstants.{LARGEST_SIZE};
-ghost use Rattle.dense_finish.specs.Block.{AreRowsOf, AreVectors};
+ghost use Rattle.dense_finish.specs.Block.{AreRowsOf, AreVectors, IsDense};
 ghost use Rattle.dense_finish.specs.Panel.{ArePivots, PanelReducesEach};
 ghost use Rattle.dense_finish.specs.Units.{HasUnits};
 ghost use Rattle.dense_finish.specs.Dense.{IsFirstFree, IsPivotOf, KeepsCoefficients};
 ghost use Rattle.dense_finish.specs.Factors.{IsFactored};
 ghost use Rattle.sparse_rows.specs.Rows.{AreBelow};
-ghost use Rattle.dense_finish.specs.Pivots.{AddsPivot, AreEliminated, AreFound, CanGoOn, FindsPanel, HasReached, IsPanelFrom, KeepsPivots, KeepsSplit, SplitBy, count, pivot_at, panel_stage, stage};
+ghost use Rattle.dense_finish.specs.Pivots.{AddsPivot, AreEliminated, AreFound, CanGoOn, Eliminates, FindsPanel, HasReached, IsPanelFrom, KeepsPivots, KeepsSplit, SplitBy, count, pivot_at, panel_stage, stage};
 
-use crate::block::shared_block;
+use crate::block::Block;
 use crate::dense::Dense;
 use crate::factors::{Factors, left_factor};
 use crate::panel::{PANEL, Panel};
 use crate::pivots::Pivots;
 use crate::reducing::Reducing;
 use crate::residue::Residue;
+use crate::right_factor::RightFactor;
 use residue_words::{LANE_BOUND, Modulus};
 use sparse_rows::Rows;
 use std::alloc::{AllocError, Global};
@@ -77,11 +78,10 @@ pub fn finish<R: Threads + Sync>(
     requires few { workers ≤ 64 }
     ensures { IfOk result (IsFactored rows.now.modulus rows.now.matrix) }
 {
-    let p = rows.modulus();
-    if p.p() < LANE_BOUND {
-        finish_in::<R, u32>(rt, alloc, rows, &p, workers as usize)
+    if rows.modulus().p() < LANE_BOUND {
+        finish_in::<R, u32>(rt, alloc, rows, workers as usize)
     } else {
-        finish_in::<R, u64>(rt, alloc, rows, &p, workers as usize)
+        finish_in::<R, u64>(rt, alloc, rows, workers as usize)
     }
 }
 
@@ -90,87 +90,44 @@ fn finish_in<R: Threads + Sync, W: Reducing>(
     rt: &R,
     alloc: Global,
     rows: &Rows,
-    p: &Modulus,
     workers: usize,
 ) -> Result<Factors, AllocError>
-    requires modulus { W.serves p.now }
-    requires same { p.now ≡ rows.now.modulus }
+    requires modulus { W.serves rows.now.modulus }
     requires some { 1 ≤ workers }
     ensures { IfOk result (IsFactored rows.now.modulus rows.now.matrix) }
 {
-    let height = rows.height();
-    let filled = rows.filled(alloc)?;
-    let columns = rows.occupied(alloc)?;
-    let mut block = shared_block::<R, W>(rt, alloc, rows, &filled, &columns, p, workers)?;
-    let pivots = eliminate(rt, alloc, &mut block, &columns, rows.width(), p, workers)?;
-    let l = left_factor(
-        alloc,
-        height,
-        &block,
-        columns.len(),
-        &filled,
-        &pivots.columns,
-        p,
-    )?;
-    let places = pivots.places(alloc, &filled, &columns)?;
-    let Pivots { u, .. } = pivots;
-    Ok(Factors {
-        pivots: places,
-        l,
-        u,
-    })
+    let mut block = Block::<W>::of(rt, alloc, rows, workers)?;
+    let pivots = block.eliminate(rt, alloc, workers)?;
+    let l = left_factor(alloc, &block, &pivots)?;
+    let RightFactor { pivots, u } = pivots.into_right_factor(alloc, &block)?;
+    Ok(Factors { pivots, l, u })
 }
 
-// Eliminates the block, panel by panel.
-pub(crate) fn eliminate<R: Threads + Sync, W: Reducing>(
-    rt: &R,
-    alloc: Global,
-    block: &mut [Dense<W>],
-    columns: &[u32],
-    width: u32,
-    p: &Modulus,
-    workers: usize,
-) -> Result<Pivots, AllocError>
-    requires modulus { W.serves p.now }
-    requires some { 1 ≤ workers }
-    requires narrow { width ≤ LARGEST_SIZE }
-    requires low { length block.old ≤ LARGEST_SIZE }
-    requires few { length columns.now ≤ LARGEST_SIZE }
-    requires inside { AreBelow width columns.now }
-    requires rising { AreRising columns.now }
-    requires residues { AreVectors p.now (length columns.now) block.old }
-    ensures found { IfOk result (AreFound p.now columns.now width (length block.old)) }
-    ensures eliminated { IfOk result (λ pivots.
-        AreEliminated p.now (length columns.now) (length block.old) pivots block.new) }
-    ensures split { IsPrime p.now → IfOk result (λ pivots.
-        SplitBy p.now columns.now pivots block.old block.new) }
-{
-    let elimination = Elimination {
-        alloc,
-        columns,
-        p: *p,
-        workers,
-    };
-    let mut pivots = Pivots::new(alloc, columns, width, p)?;
-    let mut found = Found {
-        panel: Panel::new(alloc, columns.len()),
-        units: Vec::new(alloc),
-        first: 0,
-    };
-    let mut done = 0;
-    while done < block.len() {
-        let rows = RowRange {
-            start: done,
-            end: block.len().min(done + PANEL),
+impl<W: Reducing> Block<W> {
+    // Eliminates the block by so many workers: what is left are the coefficients of its rows at the pivots.
+    pub(crate) fn eliminate<R: Threads + Sync>(
+        &mut self,
+        rt: &R,
+        alloc: Global,
+        workers: usize,
+    ) -> Result<Pivots, AllocError>
+        requires modulus { W.serves self.old.modulus }
+        requires some { 1 ≤ workers }
+        requires dense { IsDense self.old }
+        ensures { IfOk result (Eliminates self.old self.new) }
+    {
+        let elimination = Elimination {
+            alloc,
+            columns: &self.columns,
+            p: self.p,
+            workers,
         };
-        found = elimination.next_panel(rt, &found, rows, &mut pivots, block)?;
-        done = rows.end;
+        elimination.eliminate(rt, self.width, &mut self.entries)
     }
-    Ok(pivots)
 }
 
-// How many of the rows up to `height` are the finder's, one of so many workers: it reduces fewer of the rows from the first of these
-// on than the others, since it finds the pivots of these.
+// How many of the rows up to `height` are the finder's, one of so many workers: it finds the pivots of these rows, and so reduces
+// fewer of the rows from the first of these on than the others.
 fn rows_of_finder(rows: RowRange, height: usize, workers: usize) -> usize
     requires some { 1 ≤ workers }
     requires start { rows.start ≤ height }
@@ -185,6 +142,45 @@ fn rows_of_finder(rows: RowRange, height: usize, workers: usize) -> usize
 }
 
 impl<'a> Elimination<'a> {
+    // Eliminates a block of a matrix of this width, panel by panel.
+    fn eliminate<R: Threads + Sync, W: Reducing>(
+        &self,
+        rt: &R,
+        width: u32,
+        block: &mut [Dense<W>],
+    ) -> Result<Pivots, AllocError>
+        requires modulus { W.serves self.now.p }
+        requires some { 1 ≤ self.now.workers }
+        requires narrow { width ≤ LARGEST_SIZE }
+        requires low { length block.old ≤ LARGEST_SIZE }
+        requires few { length self.now.columns.now ≤ LARGEST_SIZE }
+        requires inside { AreBelow width self.now.columns.now }
+        requires rising { AreRising self.now.columns.now }
+        requires residues { AreVectors self.now.p (length self.now.columns.now) block.old }
+        ensures found { IfOk result (AreFound self.now.p self.now.columns.now width (length block.old)) }
+        ensures eliminated { IfOk result (λ pivots.
+            AreEliminated self.now.p (length self.now.columns.now) (length block.old) pivots block.new) }
+        ensures split { IsPrime self.now.p → IfOk result (λ pivots.
+            SplitBy self.now.p self.now.columns.now pivots block.old block.new) }
+    {
+        let mut pivots = Pivots::new(self.alloc, self.columns, width, &self.p)?;
+        let mut found = Found {
+            panel: Panel::new(self.alloc, self.columns.len()),
+            units: Vec::new(self.alloc),
+            first: 0,
+        };
+        let mut done = 0;
+        while done < block.len() {
+            let rows = RowRange {
+                start: done,
+                end: block.len().min(done + PANEL),
+            };
+            found = self.next_panel(rt, &found, rows, &mut pivots, block)?;
+            done = rows.end;
+        }
+        Ok(pivots)
+    }
+
     // Takes a panel's pivots out of the rows from the first on, and finds those of these rows meanwhile.
     fn next_panel<R: Threads + Sync, W: Reducing>(
         &self,

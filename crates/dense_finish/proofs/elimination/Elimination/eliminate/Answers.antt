@@ -3,13 +3,13 @@ use Rattle.dense_finish.specs.Pivots.{AreFound, count}
 use Rattle.dense_finish.proofs.Progress.{eliminated_begins}
 use Rattle.dense_finish.proofs.Growing.{found_own}
 use Rattle.dense_finish.proofs.PanelStages.{holds_begins, no_units, ready_next, split_ends, split_next, split_start}
-use Rattle.dense_finish.proofs.elimination.eliminate.Goals as goal
+use Rattle.dense_finish.proofs.elimination.Elimination.eliminate.Goals as goal
 
 pub loop-done-init : goal.loop-done-init
 loop-done-init g c =
     let pivots = c.in_ok-pivots.pivots in
     let block = c.args.block.now in
-    let names = c.args.columns.now in
+    let names = c.args.self.now.columns.now in
     rw (c.new-2.ensures, c.new-3.ensures.items) record {
       inside = omega arith;
       wide = c.in_ok-pivots.ensures.found.wide;
@@ -42,7 +42,7 @@ loop-done-preserved g c =
 pub returns-clause-found : goal.returns-clause-found
 returns-clause-found g c =
     let end : c.loop-done.done ≡ length c.args.block.now = omega arith in
-    rw (← end) (subst (λ n. AreFound c.args.p.now c.args.columns.now n c.loop-done.done c.loop-done.pivots) c.loop-done.invariant.wide c.loop-done.invariant.ready.reached.found)
+    rw (← end) (subst (λ n. AreFound c.args.self.now.p c.args.self.now.columns.now n c.loop-done.done c.loop-done.pivots) c.loop-done.invariant.wide c.loop-done.invariant.ready.reached.found)
 
 pub returns-clause-eliminated : goal.returns-clause-eliminated
 returns-clause-eliminated g c = let end : c.loop-done.done ≡ length c.args.block.now = omega arith in rw (← end) c.loop-done.invariant.ready.reached.eliminated
