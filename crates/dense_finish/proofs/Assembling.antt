@@ -159,7 +159,7 @@ module _ {p : ℕ} {A : Matrix} {row_indices names : List ℕ} {block rows : Lis
       left_after = λ k t a l.
           let high : t < r = omega (arith, count) in
           let low : k < r = omega arith in
-          ap (λ i. entry L.matrix i t) (at_row k low) ∙ left.filled (slice_index f.rows.items k) t (pivot_row k low) high ∙ eliminated.after k t a high;
+          ap (λ i. entry L.matrix i t) (at_row k low) ∙ left.filled (slice_index f.rows.items k) t (pivot_row k low) high ∙ eliminated.after (slice_index f.rows.items k) t high (found.rising k t a high);
       right_after = λ k t a l.
           let high : t < r = omega (arith, count) in
           ap (entry f.u.matrix t) (at_column k (omega arith)) ∙ found.steps.later k t a high;
@@ -190,7 +190,9 @@ eliminates old rows (Ok f) dense long found eliminated split = record {
     long = found.long;
     few = omega (arith, found.few, dense.long);
     rows = λ k l. omega (arith, found.inside k (omega (arith, found.long)), dense.long);
+    rising = λ k t a l. found.rising k t a (omega (arith, found.long));
     columns = found.steps.inside;
+    after = eliminated.after;
   };
   found = found;
   eliminated = eliminated;

@@ -85,8 +85,7 @@ front_ready {p} {i} {names} {f} {found} {rows} cut done inside ready = record {
       vectors = λ t l. let less : t < cut = omega (arith, long) in subst (IsVector p (length names)) (sym (front cut rows t less)) (ready.reached.eliminated.vectors t (omega arith));
       clear = λ t j l lj none. ap (λ v. slice_index v j) (front cut rows t (omega arith)) ∙ ready.reached.eliminated.clear t j l lj none;
       leads = λ k l z. ready.reached.eliminated.leads k l (sym (ap (λ v. slice_index v (slice_index f.columns.items k)) (front cut rows (slice_index f.rows.items k) (omega (arith, ready.reached.found.inside k l)))) ∙ z);
-      after = λ k t a l.
-          ap (λ v. slice_index v (slice_index f.columns.items t)) (front cut rows (slice_index f.rows.items k) (omega (arith, ready.reached.found.inside k (omega arith)))) ∙ ready.reached.eliminated.after k t a l;
+      after = λ t k l a. ap (λ v. slice_index v (slice_index f.columns.items k)) (front cut rows t (omega (arith, ready.reached.found.inside k l))) ∙ ready.reached.eliminated.after t k l a;
     };
   };
   holds = ready.holds;
@@ -139,8 +138,7 @@ module _ {p i cut end : ℕ} {names : List ℕ} {f g : Pivots} {found next : Fou
     clear = λ t j l lj none. ap (λ v. slice_index v j) (before_cut own others t (omega (arith, size))) ∙ finds.eliminated.clear t j l lj none;
     leads = λ k l z.
         finds.eliminated.leads k l (sym (ap (λ v. slice_index v (slice_index g.columns.items k)) (before_cut own others (slice_index g.rows.items k) (omega (arith, size, finds.found.inside k l)))) ∙ z);
-    after = λ k t a l.
-        ap (λ v. slice_index v (slice_index g.columns.items t)) (before_cut own others (slice_index g.rows.items k) (omega (arith, size, finds.found.inside k (omega arith)))) ∙ finds.eliminated.after k t a l;
+    after = λ t k l a. ap (λ v. slice_index v (slice_index g.columns.items k)) (before_cut own others t (omega (arith, size, finds.found.inside k l))) ∙ finds.eliminated.after t k l a;
   }
 
   -- a row of the others splits by all pivots of f

@@ -71,15 +71,16 @@ pub record AddsPivot (filled : List ℕ) (pivot : NewPivot) (old new : Pivots) :
   pub put : Scatters old.u.matrix.width filled pivot.entries row
   pub matrix : new.u.matrix ≡ with_row old.u.matrix row
 
--- the first i rows hold coefficients alone: of a pivot's row the last, at its column, is not 0
+-- the first i rows hold coefficients alone, at the pivots of the rows up to them: of a pivot's row the last, at its column, is
+-- not 0
 pub record AreEliminated (p n i : ℕ) (f : Pivots) (rows : List (List ℕ)) : Type 0 where
   pub vectors : AreVectors p n rows
   pub clear : (t j : ℕ) → t < i → j < n → (IsTaken (count f) (slice_index f.columns.items) j → ⊥) →
       entry_of rows t j ≡ 0
   pub leads : (k : ℕ) → k < count f →
       entry_of rows (slice_index f.rows.items k) (slice_index f.columns.items k) ≢ 0
-  pub after : (k t : ℕ) → k < t → t < count f →
-      entry_of rows (slice_index f.rows.items k) (slice_index f.columns.items t) ≡ 0
+  pub after : (t k : ℕ) → k < count f → t < slice_index f.rows.items k →
+      entry_of rows t (slice_index f.columns.items k) ≡ 0
 
 -- how far an elimination is: the pivots, the rows as they are, and how many of them are done
 pub record Stage : Type 0 where
@@ -114,12 +115,15 @@ pub record KeepsPivots (columns : List ℕ) (old new : Pivots) : Type 0 where
 abbrev pub SplitBy : ℕ → List ℕ → Pivots → List (List ℕ) → List (List ℕ) → Type 0
 SplitBy p columns f block rows = AreSplit p columns (count f) block (stage f rows (length block))
 
--- the pivots stand in rows and columns of the block
+-- the pivots stand in ascending rows of the block and in columns of it, where the rows before theirs are 0
 pub record StandIn (block : DenseBlock) (f : Pivots) : Type 0 where
   pub long : length f.rows.items ≡ count f
   pub few : count f ≤ length block.rows
   pub rows : AreBelow (length block.rows) f.rows.items
+  pub rising : AreRising f.rows.items
   pub columns : AreBelow (length block.columns) f.columns.items
+  pub after : (t k : ℕ) → k < count f → t < slice_index f.rows.items k →
+      entry_of block.entries t (slice_index f.columns.items k) ≡ 0
 
 -- an elimination of the block `old` finds these pivots and leaves `new`
 pub record Eliminates (old new : DenseBlock) (f : Pivots) : Type 0 where

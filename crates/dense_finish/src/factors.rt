@@ -1,7 +1,7 @@
 // Factors of a matrix.
-ghost use Rattle.std.specs.Prelude.{◌≡◌, ◌≤◌, ◌-◌, IfOk, OnOk};
+ghost use Rattle.std.specs.Prelude.{◌≡◌, ◌<◌, ◌≤◌, ◌-◌, ℕ, length, slice_index, IfOk, OnOk};
 ghost use Rattle.residue_words.specs.Matrix.{IsMatrix};
-ghost use Rattle.sparse_rows.specs.Rows.{with_zeros};
+ghost use Rattle.sparse_rows.specs.Rows.{AreRising, with_zeros};
 ghost use Rattle.sparse_rows.specs.declared.rows.TheConstants.{LARGEST_SIZE};
 ghost use Rattle.dense_finish.specs.Block.{IsDense};
 ghost use Rattle.dense_finish.specs.Factors.{IsLeftFactor};
@@ -26,7 +26,8 @@ pub struct Factors {
     pub u: Rows,
 }
 
-// The left factor: at each of the block's rows the coefficients that it holds at the pivots' columns, and zeros at the others.
+// The left factor: at each of the block's rows the coefficients that it holds at the pivots' columns, which are zeros behind the
+// pivots of the rows up to it, and zeros at the others.
 pub(crate) fn left_factor<W: Residue>(
     alloc: Global,
     block: &Block<W>,
@@ -42,14 +43,31 @@ pub(crate) fn left_factor<W: Residue>(
     let width = pivots.columns.len() as u32;
     let mut left = Rows::with_room(alloc, block.p, width, block.height, block.rows.len())?;
     let mut row = Sparse::new(alloc, width, block.p);
+    let mut count = 0;
     for t in 0..block.rows.len() {
         pad(&mut left, block.rows[t])?;
+        count = count_up_to(t, &pivots.rows, count);
         row.clear();
-        block.entries[t].gather(&pivots.columns, &mut row)?;
+        block.entries[t].gather(&pivots.columns[..count], &mut row)?;
         left.append(&row)?;
     }
     pad(&mut left, block.height)?;
     Ok(left)
+}
+
+// How many of these ascending rows come up to row t, of which so many come before it.
+fn count_up_to(t: usize, rows: &[u32], before: usize) -> usize
+    requires rising { AreRising rows.now }
+    requires inside { before ≤ length rows.now }
+    requires rest { (k : ℕ) → before ≤ k → k < length rows.now → t ≤ slice_index rows.now k }
+    ensures inside { result ≤ length rows.now }
+    ensures rest { (k : ℕ) → result ≤ k → k < length rows.now → t < slice_index rows.now k }
+{
+    if before < rows.len() && rows[before] as usize == t {
+        before + 1
+    } else {
+        before
+    }
 }
 
 // Appends rows of zeros until the matrix has this height.

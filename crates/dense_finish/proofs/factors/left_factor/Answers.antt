@@ -1,11 +1,11 @@
 use Rattle.std.proofs.Common.{ℕ, ◌≡◌, ◌<◌, ◌≤◌, ◌-◌, ◌∙◌, inl, inr, List, ap, arith, length, slice_index, slice_index_or, subst, sym}
 use Rattle.std.proofs.lemmas.Bool.{cases_eq}
-use Rattle.std.proofs.lemmas.List.{get_or_default}
+use Rattle.std.proofs.lemmas.List.{get_or-take, get_or_default, length-take}
 use Rattle.sparse_rows.specs.Rows.{AreRising}
 use Rattle.sparse_rows.proofs.Loops.{length_zeros}
 use Rattle.residue_words.specs.Matrix.{IsVector, zeros}
 use Rattle.dense_finish.specs.Block.{DenseBlock, block_row, entry_of}
-use Rattle.dense_finish.proofs.Gathering.{IsLeftSoFar, left_all, left_filled, left_none, left_zeros}
+use Rattle.dense_finish.proofs.Gathering.{IsLeftSoFar, gathered_all, left_all, left_filled, left_none, left_zeros}
 use Rattle.dense_finish.proofs.BlockRows.{read_row}
 use Rattle.dense_finish.proofs.factors.left_factor.Goals as goal
 
@@ -29,6 +29,8 @@ loop-t-init g c =
     let width : c.len-width.result ≡ length c.args.pivots.now.columns.items = omega (arith, c.args.pivots.now.columns.ok.0) in
     record {
       left = left_none c.args.block.now.rows c.args.pivots.now.columns.items c.args.block.now.entries (c.in_ok-left.ensures.modulus ∙ modulus) (rw width at c.in_ok-left.ensures.matrix);
+      inside = omega arith;
+      rest = λ k a l. omega arith;
       modulus = c.new-row.ensures.modulus ∙ modulus;
       long = ap length c.new-row.ensures.row ∙ length_zeros c.len-width.result ∙ width;
       below = omega (arith, ap (λ A. A.height) c.in_ok-left.ensures.matrix);
@@ -51,10 +53,20 @@ pad-requires-clause-small g c =
     omega (arith, index_read b.rows t c.index.result.now same some c.index.ensures, c.requires.dense.rows_below t some, c.requires.dense.low)
 
 pub gather-requires-clause-long : goal.gather-requires-clause-long
-gather-requires-clause-long g c κs within = ap length c.clear.ensures.row ∙ length_zeros _ ∙ c.loop-t.invariant.long ∙ sym (ap length c.deref.ensures.value)
+gather-requires-clause-long g c κs within =
+    let columns = c.deref-in-loop-t.result.now in
+    omega (
+      arith,
+      ap length c.clear.ensures.row,
+      length_zeros (length c.loop-t.row.row),
+      c.loop-t.invariant.long,
+      ap length c.deref-in-loop-t.ensures.value,
+      length-take c.count_up_to-count.result columns,
+    )
 
 pub gather-requires-clause-few : goal.gather-requires-clause-few
-gather-requires-clause-few g c κs within = omega (arith, ap length c.deref.ensures.value, c.requires.pivots.few, c.requires.dense.rows_few)
+gather-requires-clause-few g c κs within =
+    omega (arith, ap length c.deref-in-loop-t.ensures.value, length-take c.count_up_to-count.result c.deref-in-loop-t.result.now, c.requires.pivots.few, c.requires.dense.rows_few)
 
 pub gather-requires-clause-residues : goal.gather-requires-clause-residues
 gather-requires-clause-residues g c κs within =
@@ -75,7 +87,11 @@ gather-requires-clause-inside g c κs within =
     let t = c.loop-t.t in
     let inside : t < length b.entries = omega (arith, c.block.inside.rows.ok.0, ap (λ (b : DenseBlock). length b.rows) c.block.view_is, c.requires.dense.long) in
     let read = row_read b.entries t c.index-in-loop-t.result.now (ap (λ (b : DenseBlock). b.entries) c.block.view_is) inside c.index-in-loop-t.ensures in
-    rw c.deref.ensures.value (λ k l. omega (arith, ap length read, (c.requires.dense.residues t inside).len, c.requires.pivots.columns k l))
+    let columns = c.args.pivots.now.columns.items in
+    let count = c.count_up_to-count.result in
+    rw c.deref-in-loop-t.ensures.value (λ k l.
+    let less : k < count = omega (arith, length-take count columns) in
+    omega (arith, ap length read, (c.requires.dense.residues t inside).len, get_or-take count columns k 0 less, c.requires.pivots.columns k (omega (arith, length-take count columns))))
 
 pub append-requires-clause-height_small : goal.append-requires-clause-height_small
 append-requires-clause-height_small g c =
@@ -119,14 +135,21 @@ loop-t-preserved g c =
     let at : slice_index b.rows t ≡ c.pad.new.rows.matrix.height = omega (arith, low, index, ap (λ A. A.height) c.in_ok-pad.ensures.matrix) in
     let inside : t < length b.entries = omega (arith, c.requires.dense.long) in
     let row-is = row_read b.entries t c.index-in-loop-t.result.now (ap (λ (b : DenseBlock). b.entries) c.block.view_is) inside c.index-in-loop-t.ensures in
-    let put = rw (c.deref.ensures.value, row-is) at c.in_ok-gather.ensures.row in
-    let read : (k : ℕ) → k < length columns → slice_index c.gather.new.to.row k ≡ entry_of b.entries t (slice_index columns k) = λ k l. put.put k l in
+    let pivots = c.requires.pivots in
+    let count = c.count_up_to-count in
+    let wide = ap length c.clear.ensures.row ∙ length_zeros _ ∙ c.loop-t.invariant.long in
+    let few : count.result ≤ length columns = omega (arith, count.ensures.inside, ap length c.deref.ensures.value, pivots.long) in
+    let rest = rw c.deref.ensures.value at count.ensures.rest in
+    let read : (k : ℕ) → k < length columns → slice_index c.gather.new.to.row k ≡ entry_of b.entries t (slice_index columns k) =
+    gathered_all (block_row b.entries t) columns count.result few wide (rw (c.deref-in-loop-t.ensures.value, row-is) at c.in_ok-gather.ensures.row) (λ k a l. pivots.after t k l (rest k a (omega (arith, pivots.long)))) in
     let vector : IsVector p (length columns) c.gather.new.to.row = record {
-      len = c.in_ok-gather.ensures.row.long ∙ ap length c.clear.ensures.row ∙ length_zeros _ ∙ c.loop-t.invariant.long;
+      len = c.in_ok-gather.ensures.row.long ∙ wide;
       residues = λ k l. omega (arith, read k l, (c.requires.dense.residues t inside).residues (slice_index columns k) (c.requires.pivots.columns k l));
     } in
     record {
       left = left_filled padded c.requires.dense.rows_rising vector c.append.ensures.modulus c.in_ok-append.ensures.matrix some at read;
+      inside = omega (arith, count.ensures.inside, ap length c.deref.ensures.value);
+      rest = λ k a l. omega (arith, rest k a l);
       modulus = c.gather.ensures.modulus ∙ c.clear.ensures.modulus ∙ c.loop-t.invariant.modulus;
       long = vector.len;
       below = omega (arith, ap (λ A. A.height) c.in_ok-append.ensures.matrix, at, c.requires.dense.rows_below t some);
