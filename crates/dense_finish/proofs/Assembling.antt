@@ -1,5 +1,5 @@
 -- What an eliminated block and the gathered coefficients make: factors of the matrix.
-use Rattle.std.proofs.Common.{ℕ, ◌≡◌, ◌≢◌, ◌+◌, ◌*◌, ◌%◌, ◌<◌, ◌≤◌, inl, inr, List, length, slice_index, sym, ap, ap₂, ◌∙◌, arith, add-zero, zero-mul, mul-zero, mod-eq_of_lt}
+use Rattle.std.proofs.Common.{ℕ, Result, Ok, Err, IfOk, ◌≡◌, ◌≢◌, ◌+◌, ◌*◌, ◌%◌, ◌<◌, ◌≤◌, inl, inr, List, length, slice_index, sym, refl, ap, ap₂, ◌∙◌, arith, add-zero, zero-mul, mul-zero, mod-eq_of_lt}
 use Rattle.std.proofs.lemmas.Bool.{cases_eq, cases_lt}
 use Rattle.residue_words.specs.declared.plain.Pair.{Pair}
 use Rattle.residue_words.specs.Matrix.{Matrix, IsMatrix, combine, entry, row}
@@ -9,12 +9,14 @@ use Rattle.residue_words.proofs.Vectors.{at_combine, entry_residue, length_list_
 use Rattle.row_space.specs.Factors.{FitAsFactors, col_at, row_at}
 use Rattle.row_space.proofs.Counting.{pigeonhole}
 use Rattle.sparse_rows.specs.Rows.{ResidueMatrix}
+use Rattle.sparse_rows.specs.declared.rows.TheConstants.{LARGEST_SIZE}
 use Rattle.dense_finish.specs.declared.pivots.Pivots.{Pivots}
-use Rattle.dense_finish.specs.Block.{IsBlock, block_row}
+use Rattle.dense_finish.specs.declared.right_factor.RightFactor.{RightFactor}
+use Rattle.dense_finish.specs.Block.{DenseBlock, IsBlock, IsBlockOf, IsDense, block_row, with_entries}
 use Rattle.dense_finish.specs.Factors.{IsFactored, IsLeftFactor}
-use Rattle.dense_finish.specs.Pivots.{AreEliminated, AreFound, ArePivotPlaces, SplitBy, filled_entry}
+use Rattle.dense_finish.specs.Pivots.{AreEliminated, AreFound, ArePivotPlaces, Eliminates, IsRightFactorOf, SplitBy, filled_entry}
 use Rattle.dense_finish.specs.Splitting.{IsTaken, parts}
-use Rattle.dense_finish.proofs.Indexing.{AreIndices, IsEmptyColumn, IsEmptyRow, index_or_not}
+use Rattle.dense_finish.proofs.Indexing.{AreIndices, IsEmptyColumn, IsEmptyRow, filled_indices, index_or_not, occupied_indices}
 use Rattle.dense_finish.proofs.Splitting.{fresh, steps_front}
 
 -- different items have different names
@@ -28,8 +30,24 @@ indices_apart h j k lj lk same = elim (cases_eq j k) [
 ]
 
 -- there are no more names than numbers
-pub indices_few : {n : ℕ} {Absent : ℕ → Type 0} {names : List ℕ} → AreIndices n Absent names → length names ≤ n
+indices_few : {n : ℕ} {Absent : ℕ → Type 0} {names : List ℕ} → AreIndices n Absent names → length names ≤ n
 indices_few {n} {Absent} {names} h = pigeonhole (length names) n (slice_index names) h.inside (indices_apart h)
+
+-- a block is one of residues at rows and columns of its matrix
+pub block_dense : {A : ResidueMatrix} {block : DenseBlock} → 2 ≤ A.modulus → A.matrix.height ≤ LARGEST_SIZE → A.matrix.width ≤ LARGEST_SIZE → IsBlockOf A block → IsDense block
+block_dense {A} {block} modulus low narrow is = record {
+  modulus = omega (arith, is.modulus);
+  low = omega (arith, is.height);
+  narrow = omega (arith, is.width);
+  rows_few = omega (arith, indices_few (filled_indices is.filled));
+  rows_below = rw is.height is.filled.below;
+  rows_rising = is.filled.rising;
+  columns_few = omega (arith, indices_few (occupied_indices is.occupied));
+  columns_below = rw is.width is.occupied.enough.below;
+  columns_rising = is.occupied.enough.rising;
+  long = is.entries.long;
+  residues = rw is.modulus is.entries.vectors;
+}
 
 module _ {p : ℕ} {A : Matrix} {row_indices names : List ℕ} {block rows : List (List ℕ)} {f : Pivots} {L : ResidueMatrix} {pivots : List Pair} (sound : IsMatrix p A)
     (filled_rows : AreIndices A.height (IsEmptyRow A) row_indices) (filled_columns : AreIndices A.width (IsEmptyColumn A) names) (is_block : IsBlock p A row_indices names block) (found : AreFound p names A.width (length block) f)
@@ -124,7 +142,7 @@ module _ {p : ℕ} {A : Matrix} {row_indices names : List ℕ} {block rows : Lis
     columns_distinct = columns_distinct;
   }
 
-  pub factored : IsFactored p A (record { pivots = pivots; l = L; u = f.u })
+  factored : IsFactored p A (record { pivots = pivots; l = L; u = f.u })
   factored = record {
     left_modulus = left_modulus;
     right_modulus = found.modulus;
@@ -141,9 +159,55 @@ module _ {p : ℕ} {A : Matrix} {row_indices names : List ℕ} {block rows : Lis
       left_after = λ k t a l.
           let high : t < r = omega (arith, count) in
           let low : k < r = omega arith in
-          ap (λ i. entry L.matrix i t) (at_row k low) ∙ left.filled (slice_index f.rows.items k) t (pivot_row k low) high ∙ eliminated.after k t a high;
+          ap (λ i. entry L.matrix i t) (at_row k low) ∙ left.filled (slice_index f.rows.items k) t (pivot_row k low) high ∙ eliminated.after (slice_index f.rows.items k) t high (found.rising k t a high);
       right_after = λ k t a l.
           let high : t < r = omega (arith, count) in
           ap (entry f.u.matrix t) (at_column k (omega arith)) ∙ found.steps.later k t a high;
     };
   }
+
+-- what the elimination of its rows tells of the block
+pub eliminates : {E : Type 0} (old : DenseBlock) (rows : List (List ℕ)) (result : Result Pivots E) → IsDense old → length rows ≡ length old.entries →
+    IfOk result (AreFound old.modulus old.columns old.width (length old.entries)) →
+    IfOk result (λ f. AreEliminated old.modulus (length old.columns) (length old.entries) f rows) →
+    (IsPrime old.modulus → IfOk result (λ f. SplitBy old.modulus old.columns f old.entries rows)) → IfOk result (Eliminates old (with_entries old rows))
+eliminates old rows (Ok f) dense long found eliminated split = record {
+  same = refl;
+  dense = record {
+    modulus = dense.modulus;
+    low = dense.low;
+    narrow = dense.narrow;
+    rows_few = dense.rows_few;
+    rows_below = dense.rows_below;
+    rows_rising = dense.rows_rising;
+    columns_few = dense.columns_few;
+    columns_below = dense.columns_below;
+    columns_rising = dense.columns_rising;
+    long = long ∙ dense.long;
+    residues = eliminated.vectors;
+  };
+  stand = record {
+    long = found.long;
+    few = omega (arith, found.few, dense.long);
+    rows = λ k l. omega (arith, found.inside k (omega (arith, found.long)), dense.long);
+    rising = λ k t a l. found.rising k t a (omega (arith, found.long));
+    columns = found.steps.inside;
+    after = eliminated.after;
+  };
+  found = found;
+  eliminated = eliminated;
+  split = split;
+}
+eliminates old rows (Err e) dense long found eliminated split = tt
+
+-- the factors of A by its eliminated block
+pub assembled : {A L : ResidueMatrix} {old new : DenseBlock} {f : Pivots} {right : RightFactor} → IsBlockOf A old → Eliminates old new f → L.modulus ≡ new.modulus → IsMatrix new.modulus L.matrix →
+    IsLeftFactor new.height new.rows f.columns.items new.entries L.matrix → IsRightFactorOf new f right →
+    IsFactored A.modulus A.matrix (record { pivots = right.pivots; l = L; u = right.u })
+assembled {A} {L} {old} {new} {f} {right} is done left_modulus left_matrix left is_right =
+    let modulus : new.modulus ≡ A.modulus = ap (λ b. b.modulus) done.same ∙ is.modulus in
+    let height : new.height ≡ A.matrix.height = ap (λ b. b.height) done.same ∙ is.height in
+    let rows : new.rows ≡ old.rows = ap (λ b. b.rows) done.same in
+    let columns : new.columns ≡ old.columns = ap (λ b. b.columns) done.same in
+    rw is_right.same (factored is.sound (filled_indices is.filled) (occupied_indices is.occupied) is.entries (rw (is.modulus, is.width) at done.found) (rw is.modulus at done.eliminated) (rw is.modulus at done.split)
+    (left_modulus ∙ modulus) (rw modulus at left_matrix) (rw (height, rows) at left) (rw (rows, columns) at is_right.places))

@@ -3,13 +3,14 @@ use Rattle.std.proofs.Common.{ℕ, ◌≡◌, ◌≢◌, ◌+◌, ◌-◌, ◌<�
 use Rattle.std.proofs.Math.ListN.{get_or-append}
 use Rattle.std.proofs.Math.Seq.{get_or-append_seam}
 use Rattle.std.proofs.lemmas.Bool.{cases_eq, cases_lt}
-use Rattle.std.proofs.lemmas.List.{get_or_append_left, get_or-append_right, get_or-replicate, get_or-take, length-map, length-replicate, length-take, map-append}
+use Rattle.std.proofs.lemmas.List.{get_or_append_left, get_or-append_right, get_or-replicate, get_or-take, length-map, length-replicate, length-take, length-take-le, map-append}
 use Rattle.residue_words.specs.declared.plain.Pair.{Pair}
 use Rattle.residue_words.specs.Matrix.{Matrix, IsMatrix, IsVector, entry, row, zeros}
 use Rattle.residue_words.proofs.Vectors.{at_zeros, zeros_vector}
 use Rattle.sparse_rows.specs.Rows.{AreRising, ResidueMatrix, with_zeros}
 use Rattle.sparse_rows.specs.Stored.{with_row}
 use Rattle.dense_finish.specs.Block.{entry_of}
+use Rattle.dense_finish.specs.Dense.{Gathers}
 use Rattle.dense_finish.specs.Factors.{IsLeftFactor}
 use Rattle.dense_finish.specs.Pivots.{ArePivotPlaces}
 use Rattle.sparse_rows.proofs.Loops.{matrix_more, row_before, row_last}
@@ -118,6 +119,17 @@ left_zeros count {p} {next} {row_indices} {columns} {rows} {L} {M} pos h room mo
 
     before : (x k : ℕ) → x < L.matrix.height → entry M.matrix x k ≡ entry L.matrix x k
     before x k l = ap (λ A. entry A x k) is ∙ ap (λ u. slice_index u k) (zeros_before count h.matrix x l)
+
+-- a row with the first of the entries at these columns, behind which there are none
+pub gathered_all : {n : ℕ} {row : List ℕ} (v columns : List ℕ) (count : ℕ) → count ≤ length columns → n ≡ length columns → Gathers n (take count columns) v row →
+    ((k : ℕ) → count ≤ k → k < length columns → slice_index v (slice_index columns k) ≡ 0) → (k : ℕ) → k < length columns → slice_index row k ≡ slice_index v (slice_index columns k)
+gathered_all {n} {row} v columns count inside wide put none k l = elim (cases_lt k count) [
+  | inl less ↦ put.put k (omega (arith, long)) ∙ ap (slice_index v) (get_or-take count columns k 0 less)
+  | inr more ↦ put.others k (omega arith) (λ j lj e. omega (arith, long)) ∙ sym (none k more l)
+]
+  where
+    long : length (take count columns) ≡ count
+    long = length-take-le count columns inside
 
 -- the next row with entries is appended
 pub left_filled : {p next : ℕ} {row_indices columns v : List ℕ} {rows : List (List ℕ)} {L M : ResidueMatrix} → IsLeftSoFar p row_indices columns rows next L → AreRising row_indices →

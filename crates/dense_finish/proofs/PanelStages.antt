@@ -6,27 +6,30 @@ use Rattle.residue_words.specs.Matrix.{IsVector}
 use Rattle.residue_words.specs.Residues.{IsPrime}
 use Rattle.dense_finish.specs.declared.pivots.Pivots.{Pivots}
 use Rattle.dense_finish.specs.Block.{AreVectors, block_row}
-use Rattle.dense_finish.specs.Panel.{PanelReducesEach, PanelRows, no_pivots}
+use Rattle.dense_finish.specs.Panel.{PanelReducesEach, no_pivots}
 use Rattle.dense_finish.specs.Pivots.{AreEliminated, AreSplit, CanGoOn, FindsPanel, IsPanelFrom, PanelStage, before_panel, count, pivot_sequence, panel_stage, stage, stage_of}
 use Rattle.dense_finish.specs.Splitting.{IsSplit}
-use Rattle.dense_finish.specs.Units.{AreUnits}
+use Rattle.dense_finish.specs.Units.{FoundPanel, HasUnits}
 use Rattle.dense_finish.proofs.Growing.{found_own}
 use Rattle.dense_finish.proofs.Progress.{panel_begins, reduced_split, split_begins}
 use Rattle.dense_finish.proofs.Splitting.{split_same}
 
 -- without a pivot yet
-pub holds_begins : {p : ℕ} (names : List ℕ) (f : Pivots) (block : List (List ℕ)) → IsPanelFrom p names (before_panel (panel_stage f (no_pivots (length names)) block 0)) f (no_pivots (length names))
+abbrev pub nothing_found : ℕ → FoundPanel
+nothing_found n = record { panel = no_pivots n; units = []; first = 0 }
+
+pub holds_begins : {p : ℕ} (names : List ℕ) (f : Pivots) (block : List (List ℕ)) → IsPanelFrom p names (before_panel (panel_stage f (nothing_found (length names)) block 0)) f (no_pivots (length names))
 holds_begins {p} names f block =
-    let all : count f ≡ before_panel (panel_stage f (no_pivots (length names)) block 0) = omega arith in
+    let all : count f ≡ before_panel (panel_stage f (nothing_found (length names)) block 0) = omega arith in
     subst (λ r. IsPanelFrom p names r f (no_pivots (length names))) all (panel_begins names f)
 
 pub split_start : {p : ℕ} (names : List ℕ) (block : List (List ℕ)) (f : Pivots) → count f ≡ 0 →
-    AreSplit p names (before_panel (panel_stage f (no_pivots (length names)) block 0)) block (stage f block 0)
+    AreSplit p names (before_panel (panel_stage f (nothing_found (length names)) block 0)) block (stage f block 0)
 split_start {p} names block f none =
-    let all : count f ≡ before_panel (panel_stage f (no_pivots (length names)) block 0) = omega arith in
+    let all : count f ≡ before_panel (panel_stage f (nothing_found (length names)) block 0) = omega arith in
     subst (λ r. AreSplit p names r block (stage f block 0)) all (split_begins names block f none)
 
-pub no_units : {p n : ℕ} → AreUnits p (no_pivots n) 0 []
+pub no_units : {p n : ℕ} → HasUnits p (nothing_found n)
 no_units = record { long = refl; reduced = λ k l. absurd (omega arith); before = λ k j l. absurd (omega arith) }
 
 -- what is found goes on
@@ -36,13 +39,16 @@ module _ {p : ℕ} {names : List ℕ} {old new : PanelStage} (finds : FindsPanel
 
   pub ready_next : CanGoOn p names old → length new.rows ≡ length old.rows → CanGoOn p names new
   ready_next ready long = record {
-    low = omega (arith, ready.low);
-    few = ready.few;
-    inside = λ j l. omega (arith, ready.inside j l, finds.found.wide);
-    rising = ready.rising;
-    found = found_own finds.found;
-    eliminated = finds.eliminated;
-    holds = subst (λ r. IsPanelFrom p names r new.pivots new.panel) before finds.holds;
+    reached = record {
+      low = omega (arith, ready.reached.low);
+      few = ready.reached.few;
+      inside = λ j l. omega (arith, ready.reached.inside j l, finds.found.wide);
+      rising = ready.reached.rising;
+      found = found_own finds.found;
+      eliminated = finds.eliminated;
+    };
+    holds = subst (λ r. IsPanelFrom p names r new.pivots new.found.panel) before finds.holds;
+    units = finds.units;
   }
 
   pub split_next : (block : List (List ℕ)) → IsPrime p → AreSplit p names (before_panel old) block (stage_of old) → AreSplit p names (before_panel new) block (stage_of new)
@@ -66,33 +72,35 @@ behind_cut : (cut : ℕ) (own others : List (List ℕ)) (t : ℕ) → length own
 behind_cut cut own others t long l = get_or-append_right own others cut t [] long l
 
 -- an elimination that can go on can do so on the first rows
-pub front_ready : {p i : ℕ} {names : List ℕ} {f : Pivots} {panel : PanelRows} {rows : List (List ℕ)} (cut : ℕ) → i ≤ cut → cut ≤ length rows →
-    CanGoOn p names (panel_stage f panel rows i) → CanGoOn p names (panel_stage f panel (take cut rows) i)
-front_ready {p} {i} {names} {f} {panel} {rows} cut done inside ready = record {
-  low = omega (arith, ready.low, long);
-  few = ready.few;
-  inside = ready.inside;
-  rising = ready.rising;
-  found = ready.found;
-  eliminated = record {
-    vectors = λ t l. let less : t < cut = omega (arith, long) in subst (IsVector p (length names)) (sym (front cut rows t less)) (ready.eliminated.vectors t (omega arith));
-    clear = λ t j l lj none. ap (λ v. slice_index v j) (front cut rows t (omega arith)) ∙ ready.eliminated.clear t j l lj none;
-    leads = λ k l z. ready.eliminated.leads k l (sym (ap (λ v. slice_index v (slice_index f.columns.items k)) (front cut rows (slice_index f.rows.items k) (omega (arith, ready.found.inside k l)))) ∙ z);
-    after = λ k t a l.
-        ap (λ v. slice_index v (slice_index f.columns.items t)) (front cut rows (slice_index f.rows.items k) (omega (arith, ready.found.inside k (omega arith)))) ∙ ready.eliminated.after k t a l;
+pub front_ready : {p i : ℕ} {names : List ℕ} {f : Pivots} {found : FoundPanel} {rows : List (List ℕ)} (cut : ℕ) → i ≤ cut → cut ≤ length rows →
+    CanGoOn p names (panel_stage f found rows i) → CanGoOn p names (panel_stage f found (take cut rows) i)
+front_ready {p} {i} {names} {f} {found} {rows} cut done inside ready = record {
+  reached = record {
+    low = omega (arith, ready.reached.low, long);
+    few = ready.reached.few;
+    inside = ready.reached.inside;
+    rising = ready.reached.rising;
+    found = ready.reached.found;
+    eliminated = record {
+      vectors = λ t l. let less : t < cut = omega (arith, long) in subst (IsVector p (length names)) (sym (front cut rows t less)) (ready.reached.eliminated.vectors t (omega arith));
+      clear = λ t j l lj none. ap (λ v. slice_index v j) (front cut rows t (omega arith)) ∙ ready.reached.eliminated.clear t j l lj none;
+      leads = λ k l z. ready.reached.eliminated.leads k l (sym (ap (λ v. slice_index v (slice_index f.columns.items k)) (front cut rows (slice_index f.rows.items k) (omega (arith, ready.reached.found.inside k l)))) ∙ z);
+      after = λ t k l a. ap (λ v. slice_index v (slice_index f.columns.items k)) (front cut rows t (omega (arith, ready.reached.found.inside k l))) ∙ ready.reached.eliminated.after t k l a;
+    };
   };
   holds = ready.holds;
+  units = ready.units;
 }
   where
     long : length (take cut rows) ≡ cut
     long = front_long cut rows inside
 
 -- the other rows are the panel's to reduce
-pub behind_vectors : {p i : ℕ} {names : List ℕ} {f : Pivots} {panel : PanelRows} {rows : List (List ℕ)} (cut : ℕ) → CanGoOn p names (panel_stage f panel rows i) → AreVectors p panel.width (drop cut rows)
-behind_vectors {p} {i} {names} {f} {panel} {rows} cut ready = λ t l.
+pub behind_vectors : {p i : ℕ} {names : List ℕ} {f : Pivots} {found : FoundPanel} {rows : List (List ℕ)} (cut : ℕ) → CanGoOn p names (panel_stage f found rows i) → AreVectors p found.panel.width (drop cut rows)
+behind_vectors {p} {i} {names} {f} {found} {rows} cut ready = λ t l.
     let there : cut + t < length rows = omega (arith, l, length-drop cut rows) in
-    subst (IsVector p panel.width) (sym (get_or-drop cut rows t []))
-    (subst (λ n. IsVector p n (block_row rows (cut + t))) (sym ready.holds.wide) (ready.eliminated.vectors (cut + t) there))
+    subst (IsVector p found.panel.width) (sym (get_or-drop cut rows t []))
+    (subst (λ n. IsVector p n (block_row rows (cut + t))) (sym ready.holds.wide) (ready.reached.eliminated.vectors (cut + t) there))
 
 front_split : {p i r : ℕ} {names : List ℕ} {f : Pivots} {rows block : List (List ℕ)} (cut : ℕ) → cut ≤ length rows →
     AreSplit p names r block (stage f rows i) → AreSplit p names r (take cut block) (stage f (take cut rows) i)
@@ -112,10 +120,10 @@ front_split {p} {i} {r} {names} {f} {rows} {block} cut inside split = record {
         (subst (λ b. IsSplit (pivot_sequence p names f) s b (block_row rows t)) (sym (front cut block t less)) h)
 
 -- of the first rows the pivots are found, and the others are reduced
-module _ {p i cut end : ℕ} {names : List ℕ} {f g : Pivots} {panel next : PanelRows} {rows own : List (List ℕ)} (others : List (List ℕ)) (done : i ≤ cut) (inside : cut ≤ length rows)
-    (ready : CanGoOn p names (panel_stage f panel rows i)) (ends : end ≤ cut) (own_long : length own ≡ length (take cut rows))
-    (others_long : length others ≡ length (drop cut rows)) (finds : FindsPanel p names (panel_stage f panel (take cut rows) i) (panel_stage g next own end))
-    (reduced : PanelReducesEach p panel (drop cut rows) others) where
+module _ {p i cut end : ℕ} {names : List ℕ} {f g : Pivots} {found next : FoundPanel} {rows own : List (List ℕ)} (others : List (List ℕ)) (done : i ≤ cut) (inside : cut ≤ length rows)
+    (ready : CanGoOn p names (panel_stage f found rows i)) (ends : end ≤ cut) (own_long : length own ≡ length (take cut rows))
+    (others_long : length others ≡ length (drop cut rows)) (finds : FindsPanel p names (panel_stage f found (take cut rows) i) (panel_stage g next own end))
+    (reduced : PanelReducesEach p found.panel (drop cut rows) others) where
   size : length own ≡ cut
   size = own_long ∙ front_long cut rows inside
 
@@ -130,24 +138,23 @@ module _ {p i cut end : ℕ} {names : List ℕ} {f g : Pivots} {panel next : Pan
     clear = λ t j l lj none. ap (λ v. slice_index v j) (before_cut own others t (omega (arith, size))) ∙ finds.eliminated.clear t j l lj none;
     leads = λ k l z.
         finds.eliminated.leads k l (sym (ap (λ v. slice_index v (slice_index g.columns.items k)) (before_cut own others (slice_index g.rows.items k) (omega (arith, size, finds.found.inside k l)))) ∙ z);
-    after = λ k t a l.
-        ap (λ v. slice_index v (slice_index g.columns.items t)) (before_cut own others (slice_index g.rows.items k) (omega (arith, size, finds.found.inside k (omega arith)))) ∙ finds.eliminated.after k t a l;
+    after = λ t k l a. ap (λ v. slice_index v (slice_index g.columns.items k)) (before_cut own others t (omega (arith, size, finds.found.inside k l))) ∙ finds.eliminated.after t k l a;
   }
 
   -- a row of the others splits by all pivots of f
-  split_behind_cut : {block : List (List ℕ)} → AreSplit p names (before_panel (panel_stage f panel rows i)) block (stage f rows i) → (t : ℕ) → cut ≤ t → t < length block →
+  split_behind_cut : {block : List (List ℕ)} → AreSplit p names (before_panel (panel_stage f found rows i)) block (stage f rows i) → (t : ℕ) → cut ≤ t → t < length block →
       IsSplit (pivot_sequence p names g) (count f) (block_row block t) (block_row (own ++ others) t)
   split_behind_cut {block} split t more l =
       let place : cut + (t - cut) ≡ t = omega arith in
       let there : t - cut < length (drop cut rows) = omega (arith, split.long, length-drop cut rows) in
       let old : block_row (drop cut rows) (t - cut) ≡ block_row rows t = get_or-drop cut rows (t - cut) [] ∙ ap (block_row rows) place in
       let here = split.ahead t (omega arith) l in
-      let by_f = reduced_split ready.holds ready.found.steps (reduced (t - cut) there)
-      (subst (IsSplit (pivot_sequence p names f) (before_panel (panel_stage f panel rows i)) (block_row block t)) (sym old) here) in
+      let by_f = reduced_split ready.holds ready.reached.found.steps (reduced (t - cut) there)
+      (subst (IsSplit (pivot_sequence p names f) (before_panel (panel_stage f found rows i)) (block_row block t)) (sym old) here) in
       subst (IsSplit (pivot_sequence p names g) (count f) (block_row block t)) (sym (behind_cut cut own others t size more))
       (split_same (λ k lk. sym (finds.kept.places k lk)) (λ k j lk lj. sym (finds.kept.entries k j lk lj)) by_f)
 
-  split : IsPrime p → (block : List (List ℕ)) → AreSplit p names (before_panel (panel_stage f panel rows i)) block (stage f rows i) →
+  split : IsPrime p → (block : List (List ℕ)) → AreSplit p names (before_panel (panel_stage f found rows i)) block (stage f rows i) →
       AreSplit p names (count f) block (stage g (own ++ others) end)
   split prime block was =
       let own_split = finds.split prime (take cut block) (front_split cut inside was) in
@@ -166,11 +173,12 @@ module _ {p i cut end : ℕ} {names : List ℕ} {f g : Pivots} {panel next : Pan
         ];
       }
 
-  pub finds_joined : FindsPanel p names (panel_stage f panel rows i) (panel_stage g next (own ++ others) end)
+  pub finds_joined : FindsPanel p names (panel_stage f found rows i) (panel_stage g next (own ++ others) end)
   finds_joined = record {
     found = finds.found;
     eliminated = eliminated;
     holds = finds.holds;
+    units = finds.units;
     kept = finds.kept;
     split = split;
   }

@@ -46,7 +46,7 @@ eliminated_same {p} {n} {width} {i} {names} {w} {f} {old} {new} found h vector c
   vectors = λ t l. changed (IsVector p n) h vector t (λ d. before.vectors t (omega (arith, h.long)));
   clear = λ t j l lj none. changed (λ v. slice_index v j ≡ 0) h (clear j lj none) t (λ d. before.clear t j (omega arith) lj none);
   leads = λ k l z. before.leads k l (sym (same k (slice_index f.columns.items k) l) ∙ z);
-  after = λ k t a l. same k (slice_index f.columns.items t) (omega arith) ∙ before.after k t a l;
+  after = λ t k l a. ap (λ v. slice_index v (slice_index f.columns.items k)) (h.others t (λ e. omega (arith, found.inside k l))) ∙ before.after t k l a;
 }
   where
     same : (k j : ℕ) → k < length f.columns.items → entry_of new (slice_index f.rows.items k) j ≡ entry_of old (slice_index f.rows.items k) j
@@ -74,16 +74,16 @@ eliminated_more {p} {width} {i} {c} {names} {q} {v} {w} {f} {g} {old} {new} foun
         let low : k < r = omega (arith, grown.count) in
         before.leads k low (sym (same k (slice_index f.columns.items k) low) ∙ ap (entry_of new (slice_index g.rows.items k)) (sym (grown.columns k low)) ∙ z)
   ];
-  after = λ k t a l.
-      let low : k < r = omega (arith, grown.count) in
-      elim (cases_eq t r) [
-        | inl e ↦
-            ap (entry_of new (slice_index g.rows.items k)) (ap (slice_index g.columns.items) e ∙ grown.column) ∙ same k c low
-            ∙ before.clear (slice_index f.rows.items k) c (found.inside k low) inside (unmarked found c free)
-        | inr d ↦
-            let less : t < r = omega (arith, grown.count) in
-            ap (entry_of new (slice_index g.rows.items k)) (grown.columns t less) ∙ same k (slice_index f.columns.items t) low ∙ before.after k t a less
-      ];
+  after = λ t k l a. elim (cases_eq k r) [
+    | inl e ↦
+        let less : t < i = omega (arith, ap (slice_index g.rows.items) e, grown.row) in
+        ap (entry_of new t) (ap (slice_index g.columns.items) e ∙ grown.column) ∙ ap (λ u. slice_index u c) (h.others t (λ z. omega arith))
+        ∙ before.clear t c less inside (unmarked found c free)
+    | inr d ↦
+        let low : k < r = omega (arith, grown.count) in
+        ap (entry_of new t) (grown.columns k low) ∙ ap (λ u. slice_index u (slice_index f.columns.items k)) (h.others t (λ z. omega (arith, grown.rows k low, found.inside k low)))
+        ∙ before.after t k low (omega (arith, grown.rows k low))
+  ];
 }
   where
     r : ℕ
@@ -103,7 +103,7 @@ eliminated_behind {p} {n} {width} {i} {names} {f} {old} {new} found long same ve
   ];
   clear = λ t j l lj none. ap (λ v. slice_index v j) (same t l) ∙ before.clear t j l lj none;
   leads = λ k l z. before.leads k l (sym (ap (λ v. slice_index v (slice_index f.columns.items k)) (same (slice_index f.rows.items k) (found.inside k l))) ∙ z);
-  after = λ k t a l. ap (λ v. slice_index v (slice_index f.columns.items t)) (same (slice_index f.rows.items k) (found.inside k (omega arith))) ∙ before.after k t a l;
+  after = λ t k l a. ap (λ v. slice_index v (slice_index f.columns.items k)) (same t (omega (arith, found.inside k l))) ∙ before.after t k l a;
 }
 
 -- what the panel leaves, where its rows have n entries
@@ -205,7 +205,7 @@ eliminated_begins block f none vectors = record {
   vectors = vectors;
   clear = λ t j l lj out. absurd (omega arith);
   leads = λ k l. absurd (omega arith);
-  after = λ k t a l. absurd (omega arith);
+  after = λ t k l a. absurd (omega arith);
 }
 
 -- a panel without a pivot

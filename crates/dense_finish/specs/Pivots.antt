@@ -8,11 +8,13 @@ use Rattle.row_space.specs.Rows.{HasSteps}
 use Rattle.sparse_rows.specs.Rows.{AreBelow, AreRising}
 use Rattle.sparse_rows.specs.Stored.{with_row}
 use Rattle.sparse_rows.specs.declared.rows.TheConstants.{LARGEST_SIZE}
-use Rattle.dense_finish.specs.Block.{AreVectors, block_row, entry_of}
+use Rattle.dense_finish.specs.Block.{AreVectors, DenseBlock, IsDense, block_row, entry_of, with_entries}
 use Rattle.dense_finish.specs.Dense.{Scatters}
 use Rattle.dense_finish.specs.Panel.{ArePivots, Continues, PanelRows}
 use Rattle.dense_finish.specs.Splitting.{IsSplit, IsTaken, PivotSequence}
+use Rattle.dense_finish.specs.Units.{FoundPanel, HasUnits}
 use Rattle.dense_finish.specs.declared.pivots.Pivots.{Pivots}
+use Rattle.dense_finish.specs.declared.right_factor.RightFactor.{RightFactor}
 
 -- how many pivots there are
 abbrev pub count : Pivots → ℕ
@@ -69,15 +71,16 @@ pub record AddsPivot (filled : List ℕ) (pivot : NewPivot) (old new : Pivots) :
   pub put : Scatters old.u.matrix.width filled pivot.entries row
   pub matrix : new.u.matrix ≡ with_row old.u.matrix row
 
--- the first i rows hold coefficients alone: of a pivot's row the last, at its column, is not 0
+-- the first i rows hold coefficients alone, at the pivots of the rows up to them: of a pivot's row the last, at its column, is
+-- not 0
 pub record AreEliminated (p n i : ℕ) (f : Pivots) (rows : List (List ℕ)) : Type 0 where
   pub vectors : AreVectors p n rows
   pub clear : (t j : ℕ) → t < i → j < n → (IsTaken (count f) (slice_index f.columns.items) j → ⊥) →
       entry_of rows t j ≡ 0
   pub leads : (k : ℕ) → k < count f →
       entry_of rows (slice_index f.rows.items k) (slice_index f.columns.items k) ≢ 0
-  pub after : (k t : ℕ) → k < t → t < count f →
-      entry_of rows (slice_index f.rows.items k) (slice_index f.columns.items t) ≡ 0
+  pub after : (t k : ℕ) → k < count f → t < slice_index f.rows.items k →
+      entry_of rows t (slice_index f.columns.items k) ≡ 0
 
 -- how far an elimination is: the pivots, the rows as they are, and how many of them are done
 pub record Stage : Type 0 where
@@ -112,6 +115,25 @@ pub record KeepsPivots (columns : List ℕ) (old new : Pivots) : Type 0 where
 abbrev pub SplitBy : ℕ → List ℕ → Pivots → List (List ℕ) → List (List ℕ) → Type 0
 SplitBy p columns f block rows = AreSplit p columns (count f) block (stage f rows (length block))
 
+-- the pivots stand in ascending rows of the block and in columns of it, where the rows before theirs are 0
+pub record StandIn (block : DenseBlock) (f : Pivots) : Type 0 where
+  pub long : length f.rows.items ≡ count f
+  pub few : count f ≤ length block.rows
+  pub rows : AreBelow (length block.rows) f.rows.items
+  pub rising : AreRising f.rows.items
+  pub columns : AreBelow (length block.columns) f.columns.items
+  pub after : (t k : ℕ) → k < count f → t < slice_index f.rows.items k →
+      entry_of block.entries t (slice_index f.columns.items k) ≡ 0
+
+-- an elimination of the block `old` finds these pivots and leaves `new`
+pub record Eliminates (old new : DenseBlock) (f : Pivots) : Type 0 where
+  pub same : new ≡ with_entries old new.entries
+  pub dense : IsDense new
+  pub stand : StandIn new f
+  pub found : AreFound old.modulus old.columns old.width (length old.entries) f
+  pub eliminated : AreEliminated old.modulus (length old.columns) (length old.entries) f new.entries
+  pub split : IsPrime old.modulus → SplitBy old.modulus old.columns f old.entries new.entries
+
 -- the panel holds the pivots from the r-th on
 pub record IsPanelFrom (p : ℕ) (columns : List ℕ) (r : ℕ) (f : Pivots) (panel : PanelRows) : Type 0 where
   pub wide : panel.width ≡ length columns
@@ -119,39 +141,45 @@ pub record IsPanelFrom (p : ℕ) (columns : List ℕ) (r : ℕ) (f : Pivots) (pa
   pub total : r + length panel.columns ≡ count f
   pub continues : Continues (pivot_sequence p columns f) r panel
 
--- a stage with the panel of its last pivots
-pub record PanelStage : Type 0 where
-  pub pivots : Pivots
-  pub panel : PanelRows
-  pub rows : List (List ℕ)
-  pub done : ℕ
-
-abbrev pub panel_stage : Pivots → PanelRows → List (List ℕ) → ℕ → PanelStage
-panel_stage f panel rows i = record { pivots = f; panel = panel; rows = rows; done = i }
-
-abbrev pub stage_of : PanelStage → Stage
-stage_of s = stage s.pivots s.rows s.done
-
--- how many pivots come before the panel's
-abbrev pub before_panel : PanelStage → ℕ
-before_panel s = count s.pivots - length s.panel.columns
-
--- an elimination of a block with these columns of a matrix can go on from here
-pub record CanGoOn (p : ℕ) (columns : List ℕ) (s : PanelStage) : Type 0 where
+-- an elimination of a block with these columns of a matrix has come to here
+pub record HasReached (p : ℕ) (columns : List ℕ) (s : Stage) : Type 0 where
   pub low : length s.rows ≤ LARGEST_SIZE
   pub few : length columns ≤ LARGEST_SIZE
   pub inside : AreBelow s.pivots.u.matrix.width columns
   pub rising : AreRising columns
   pub found : AreFound p columns s.pivots.u.matrix.width s.done s.pivots
   pub eliminated : AreEliminated p (length columns) s.done s.pivots s.rows
-  pub holds : IsPanelFrom p columns (before_panel s) s.pivots s.panel
+
+-- a stage with the panel of its last pivots
+pub record PanelStage : Type 0 where
+  pub pivots : Pivots
+  pub found : FoundPanel
+  pub rows : List (List ℕ)
+  pub done : ℕ
+
+abbrev pub panel_stage : Pivots → FoundPanel → List (List ℕ) → ℕ → PanelStage
+panel_stage f found rows i = record { pivots = f; found = found; rows = rows; done = i }
+
+abbrev pub stage_of : PanelStage → Stage
+stage_of s = stage s.pivots s.rows s.done
+
+-- how many pivots come before the panel's
+abbrev pub before_panel : PanelStage → ℕ
+before_panel s = count s.pivots - length s.found.panel.columns
+
+-- and can go on with the panel of its last pivots
+pub record CanGoOn (p : ℕ) (columns : List ℕ) (s : PanelStage) : Type 0 where
+  pub reached : HasReached p columns (stage_of s)
+  pub holds : IsPanelFrom p columns (before_panel s) s.pivots s.found.panel
+  pub units : HasUnits p s.found
 
 -- the pivots of more rows are found, behind those of `old`, and are the panel's: whatever block splits into `old`, its rows
 -- ahead by the pivots before the panel's, splits into `new`, whose rows ahead are reduced by all pivots of `old`
 pub record FindsPanel (p : ℕ) (columns : List ℕ) (old new : PanelStage) : Type 0 where
   pub found : AreFound p columns old.pivots.u.matrix.width new.done new.pivots
   pub eliminated : AreEliminated p (length columns) new.done new.pivots new.rows
-  pub holds : IsPanelFrom p columns (count old.pivots) new.pivots new.panel
+  pub holds : IsPanelFrom p columns (count old.pivots) new.pivots new.found.panel
+  pub units : HasUnits p new.found
   pub kept : KeepsPivots columns old.pivots new.pivots
   pub split : IsPrime p → (block : List (List ℕ)) → AreSplit p columns (before_panel old) block (stage_of old) →
       AreSplit p columns (count old.pivots) block (stage_of new)
@@ -161,3 +189,8 @@ pub record ArePivotPlaces (f_rows f_columns rows columns : List ℕ) (pivots : L
   pub long : length pivots ≡ length f_rows
   pub row : (k : ℕ) → k < length f_rows → row_at pivots k ≡ slice_index rows (slice_index f_rows k)
   pub column : (k : ℕ) → k < length f_rows → col_at pivots k ≡ slice_index columns (slice_index f_columns k)
+
+-- the right factor of an eliminated block with these pivots
+pub record IsRightFactorOf (block : DenseBlock) (f : Pivots) (right : RightFactor) : Type 0 where
+  pub same : right.u ≡ f.u
+  pub places : ArePivotPlaces f.rows.items f.columns.items block.rows block.columns right.pivots

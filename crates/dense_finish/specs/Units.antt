@@ -21,3 +21,12 @@ pub record AreUnits (p : ℕ) (panel : PanelRows) (from : ℕ) (units : List (Li
   pub reduced : (k : ℕ) → k < length units → PanelReduces p panel
       (unit_row panel.width (slice_index panel.columns k)) (block_row units k)
   pub before : (k j : ℕ) → k < length units → j < from → entry_of units k j ≡ 0
+
+-- a panel with what it leaves of the unit rows at its columns, which is 0 before column `first`
+pub record FoundPanel : Type 0 where
+  pub panel : PanelRows
+  pub units : List (List ℕ)
+  pub first : ℕ
+
+abbrev pub HasUnits : ℕ → FoundPanel → Type 0
+HasUnits p found = AreUnits p found.panel found.first found.units

@@ -1,7 +1,7 @@
 // The dense block of a sparse matrix.
 ghost use Rattle.std.specs.Prelude.{◌≡◌, IfOk};
 ghost use Rattle.std.specs.Thread.{IsSync, IsSend};
-ghost use Rattle.dense_finish.specs.Block.{IsBlock};
+ghost use Rattle.dense_finish.specs.Block.{IsBlock, IsBlockOf, IsDense};
 ghost use Rattle.sparse_rows.specs.Rows.{AreBelow, AreOccupied};
 
 use crate::dense::Dense;
@@ -9,10 +9,66 @@ use crate::residue::Residue;
 use residue_words::Modulus;
 use sparse_rows::Rows;
 use std::alloc::{AllocError, Global};
+use std::marker::Model;
 use std::thread::{Threads, join};
 
+// The dense block of a matrix: the rows and columns that have an entry, and the entries of these rows at these columns. Contracts
+// see it as `DenseBlock`.
+#[derive(Drop)]
+pub(crate) struct Block<W: Residue> {
+    pub(crate) p: Modulus,
+    // How many rows and columns the matrix has.
+    pub(crate) height: u32,
+    pub(crate) width: u32,
+    pub(crate) rows: Vec<u32>,
+    pub(crate) columns: Vec<u32>,
+    pub(crate) entries: Vec<Dense<W>>,
+}
+
+impl<W: Residue> Model for Block<W> {
+    ghost use Rattle.dense_finish.specs.Block.{DenseBlock};
+
+    ghost Value = { DenseBlock };
+
+    ghost view = { λ b. record {
+      modulus = b.p;
+      height = b.height;
+      width = b.width;
+      rows = b.rows.items;
+      columns = b.columns.items;
+      entries = b.entries.items;
+    } };
+}
+
+impl<W: Residue> Block<W> {
+    // The block of a matrix, made by so many workers.
+    pub(crate) fn of<R: Threads + Sync>(
+        rt: &R,
+        alloc: Global,
+        rows: &Rows,
+        workers: usize,
+    ) -> Result<Block<W>, AllocError>
+        requires modulus { W.serves rows.now.modulus }
+        ensures block { IfOk result (IsBlockOf rows.now) }
+        ensures dense { IfOk result IsDense }
+    {
+        let p = rows.modulus();
+        let filled = rows.filled(alloc)?;
+        let columns = rows.occupied(alloc)?;
+        let entries = shared_block(rt, alloc, rows, &filled, &columns, &p, workers)?;
+        Ok(Block {
+            p,
+            height: rows.height(),
+            width: rows.width(),
+            rows: filled,
+            columns,
+            entries,
+        })
+    }
+}
+
 // The entries of these rows at the columns that have one, made by so many workers: each makes some of the rows.
-pub(crate) fn shared_block<R: Threads + Sync, W: Residue>(
+fn shared_block<R: Threads + Sync, W: Residue>(
     rt: &R,
     alloc: Global,
     rows: &Rows,

@@ -246,9 +246,9 @@ impl<W: Residue> Dense<W> {
         Ok(())
     }
 
-    // Sets the zero row `to` to the entries at these columns, one beside the other.
+    // Sets the zero row `to` to the entries at these columns, one beside the other, and zeros behind them.
     pub(crate) fn gather(&self, columns: &[u32], to: &mut Sparse) -> Result<(), AllocError>
-        requires long { length to.old.row ≡ length columns.now }
+        requires long { length columns.now ≤ length to.old.row }
         requires few { length columns.now ≤ LARGEST_SIZE }
         requires residues { IsVector to.old.modulus (length self.now) self.now }
         requires zero { to.old.row ≡ zeros (length to.old.row) }

@@ -1,15 +1,15 @@
 // Factors of a matrix.
-ghost use Rattle.std.specs.Prelude.{◌≡◌, ◌≤◌, ◌-◌, length, IfOk, OnOk};
+ghost use Rattle.std.specs.Prelude.{◌≡◌, ◌<◌, ◌≤◌, ◌-◌, ℕ, length, slice_index, IfOk, OnOk};
 ghost use Rattle.residue_words.specs.Matrix.{IsMatrix};
 ghost use Rattle.sparse_rows.specs.Rows.{AreRising, with_zeros};
 ghost use Rattle.sparse_rows.specs.declared.rows.TheConstants.{LARGEST_SIZE};
-ghost use Rattle.dense_finish.specs.Block.{AreVectors};
-ghost use Rattle.sparse_rows.specs.Rows.{AreBelow};
+ghost use Rattle.dense_finish.specs.Block.{IsDense};
 ghost use Rattle.dense_finish.specs.Factors.{IsLeftFactor};
+ghost use Rattle.dense_finish.specs.Pivots.{StandIn};
 
-use crate::dense::Dense;
+use crate::block::Block;
+use crate::pivots::Pivots;
 use crate::residue::Residue;
-use residue_words::Modulus;
 use residue_words::plain::Pair;
 use sparse_rows::{List, Rows, Sparse};
 use std::alloc::{AllocError, Global};
@@ -26,41 +26,48 @@ pub struct Factors {
     pub u: Rows,
 }
 
-// The left factor, of m rows: at each of the rows with entries the coefficients that its row of the block holds at the
-// pivots' columns, and zeros elsewhere. The block has n columns.
+// The left factor: at each of the block's rows the coefficients that it holds at the pivots' columns, which are zeros behind the
+// pivots of the rows up to it, and zeros at the others.
 pub(crate) fn left_factor<W: Residue>(
     alloc: Global,
-    m: u32,
-    block: &[Dense<W>],
-    n: usize,
-    filled_rows: &[u32],
-    columns: &[u32],
-    p: &Modulus,
+    block: &Block<W>,
+    pivots: &Pivots,
 ) -> Result<Rows, AllocError>
-    requires height { m ≤ LARGEST_SIZE }
-    requires few { length columns.now ≤ LARGEST_SIZE }
-    requires long { length block.now ≡ length filled_rows.now }
-    requires below { AreBelow m filled_rows.now }
-    requires rising { AreRising filled_rows.now }
-    requires residues { AreVectors p.now n block.now }
-    requires inside { AreBelow n columns.now }
-    ensures modulus { IfOk result (λ left. left.modulus ≡ p.now) }
-    ensures residues { IfOk result (λ left. IsMatrix p.now left.matrix) }
-    ensures left { IfOk result (λ left. IsLeftFactor m filled_rows.now columns.now block.now left.matrix) }
+    requires dense { IsDense block.now }
+    requires pivots { StandIn block.now pivots.now }
+    ensures modulus { IfOk result (λ left. left.modulus ≡ block.now.modulus) }
+    ensures residues { IfOk result (λ left. IsMatrix block.now.modulus left.matrix) }
+    ensures left { IfOk result (λ left. IsLeftFactor block.now.height block.now.rows
+        pivots.now.columns.items block.now.entries left.matrix) }
 {
-    // The call's contract tells the range of the modulus.
-    let _ = p.p();
-    let width = columns.len() as u32;
-    let mut left = Rows::with_room(alloc, *p, width, m, filled_rows.len())?;
-    let mut row = Sparse::new(alloc, width, *p);
-    for t in 0..filled_rows.len() {
-        pad(&mut left, filled_rows[t])?;
+    let width = pivots.columns.len() as u32;
+    let mut left = Rows::with_room(alloc, block.p, width, block.height, block.rows.len())?;
+    let mut row = Sparse::new(alloc, width, block.p);
+    let mut count = 0;
+    for t in 0..block.rows.len() {
+        pad(&mut left, block.rows[t])?;
+        count = count_up_to(t, &pivots.rows, count);
         row.clear();
-        block[t].gather(columns, &mut row)?;
+        block.entries[t].gather(&pivots.columns[..count], &mut row)?;
         left.append(&row)?;
     }
-    pad(&mut left, m)?;
+    pad(&mut left, block.height)?;
     Ok(left)
+}
+
+// How many of these ascending rows come up to row t, of which so many come before it.
+fn count_up_to(t: usize, rows: &[u32], before: usize) -> usize
+    requires rising { AreRising rows.now }
+    requires inside { before ≤ length rows.now }
+    requires rest { (k : ℕ) → before ≤ k → k < length rows.now → t ≤ slice_index rows.now k }
+    ensures inside { result ≤ length rows.now }
+    ensures rest { (k : ℕ) → result ≤ k → k < length rows.now → t < slice_index rows.now k }
+{
+    if before < rows.len() && rows[before] as usize == t {
+        before + 1
+    } else {
+        before
+    }
 }
 
 // Appends rows of zeros until the matrix has this height.

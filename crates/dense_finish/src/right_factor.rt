@@ -1,13 +1,13 @@
 // The right factor of a matrix alone.
-ghost use Rattle.std.specs.Prelude.{◌≡◌, ◌≤◌, IfOk};
+ghost use Rattle.std.specs.Prelude.{◌≤◌, IfOk};
 ghost use Rattle.dense_finish.specs.Factors.{IsRightFactored};
 
-use crate::block::shared_block;
-use crate::elimination::eliminate;
+use crate::block::Block;
 use crate::pivots::Pivots;
 use crate::reducing::Reducing;
+use crate::residue::Residue;
+use residue_words::LANE_BOUND;
 use residue_words::plain::Pair;
-use residue_words::{LANE_BOUND, Modulus};
 use sparse_rows::{List, Rows};
 use std::alloc::{AllocError, Global};
 use std::thread::Threads;
@@ -33,11 +33,10 @@ pub fn finish_right<R: Threads + Sync>(
     requires few { workers ≤ 64 }
     ensures { IfOk result (IsRightFactored rows.modulus rows.matrix) }
 {
-    let p = rows.modulus();
-    if p.p() < LANE_BOUND {
-        finish_right_in::<R, u32>(rt, alloc, rows, &p, workers as usize)
+    if rows.modulus().p() < LANE_BOUND {
+        finish_right_in::<R, u32>(rt, alloc, rows, workers as usize)
     } else {
-        finish_right_in::<R, u64>(rt, alloc, rows, &p, workers as usize)
+        finish_right_in::<R, u64>(rt, alloc, rows, workers as usize)
     }
 }
 
@@ -46,23 +45,32 @@ fn finish_right_in<R: Threads + Sync, W: Reducing>(
     rt: &R,
     alloc: Global,
     rows: Rows,
-    p: &Modulus,
     workers: usize,
 ) -> Result<RightFactor, AllocError>
-    requires modulus { W.serves p.now }
-    requires same { p.now ≡ rows.modulus }
+    requires modulus { W.serves rows.modulus }
     requires some { 1 ≤ workers }
     ensures { IfOk result (IsRightFactored rows.modulus rows.matrix) }
 {
-    // The call's contract tells that the entries are residues.
-    let _ = (rows.height(), p.p());
-    let width = rows.width();
-    let filled = rows.filled(alloc)?;
-    let columns = rows.occupied(alloc)?;
-    let mut block = shared_block::<R, W>(rt, alloc, &rows, &filled, &columns, p, workers)?;
+    let mut block = Block::<W>::of(rt, alloc, &rows, workers)?;
     drop(rows);
-    let pivots = eliminate(rt, alloc, &mut block, &columns, width, p, workers)?;
-    let places = pivots.places(alloc, &filled, &columns)?;
-    let Pivots { u, .. } = pivots;
-    Ok(RightFactor { pivots: places, u })
+    let pivots = block.eliminate(rt, alloc, workers)?;
+    pivots.into_right_factor(alloc, &block)
+}
+
+impl Pivots {
+    ghost use Rattle.dense_finish.specs.Pivots.{IsRightFactorOf, StandIn};
+
+    // Their rows of U, with their places in the matrix.
+    pub(crate) fn into_right_factor<W: Residue>(
+        self,
+        alloc: Global,
+        block: &Block<W>,
+    ) -> Result<RightFactor, AllocError>
+        requires { StandIn block.now self }
+        ensures { IfOk result (IsRightFactorOf block.now self) }
+    {
+        let places = self.places(alloc, &block.rows, &block.columns)?;
+        let Pivots { u, .. } = self;
+        Ok(RightFactor { pivots: places, u })
+    }
 }

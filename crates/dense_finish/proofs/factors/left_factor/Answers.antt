@@ -1,10 +1,11 @@
-use Rattle.std.proofs.Common.{ℕ, ◌≡◌, ◌<◌, ◌≤◌, ◌-◌, ◌∙◌, inl, inr, List, ap, arith, length, slice_index, subst, sym}
+use Rattle.std.proofs.Common.{ℕ, ◌≡◌, ◌<◌, ◌≤◌, ◌-◌, ◌∙◌, inl, inr, List, ap, arith, length, slice_index, slice_index_or, subst, sym}
 use Rattle.std.proofs.lemmas.Bool.{cases_eq}
+use Rattle.std.proofs.lemmas.List.{get_or-take, get_or_default, length-take}
 use Rattle.sparse_rows.specs.Rows.{AreRising}
 use Rattle.sparse_rows.proofs.Loops.{length_zeros}
 use Rattle.residue_words.specs.Matrix.{IsVector, zeros}
-use Rattle.dense_finish.specs.Block.{block_row, entry_of}
-use Rattle.dense_finish.proofs.Gathering.{IsLeftSoFar, left_all, left_filled, left_none, left_zeros}
+use Rattle.dense_finish.specs.Block.{DenseBlock, block_row, entry_of}
+use Rattle.dense_finish.proofs.Gathering.{IsLeftSoFar, gathered_all, left_all, left_filled, left_none, left_zeros}
 use Rattle.dense_finish.proofs.BlockRows.{read_row}
 use Rattle.dense_finish.proofs.factors.left_factor.Goals as goal
 
@@ -15,31 +16,66 @@ index_grows xs rising t s le l = elim (cases_eq t s) [
   | inr d ↦ omega (arith, rising t s (omega arith) l)
 ]
 
+-- what is read of a block's rows and of its entries
+index_read : {xs : List ℕ} (ys : List ℕ) (t x : ℕ) → xs ≡ ys → t < length ys → x ≡ slice_index_or xs t x → x ≡ slice_index ys t
+index_read ys t x same l read = read ∙ ap (λ zs. slice_index_or zs t x) same ∙ get_or_default ys t x 0 l
+
+row_read : {xs : List (List ℕ)} (ys : List (List ℕ)) (t : ℕ) (v : List ℕ) → xs ≡ ys → t < length ys → v ≡ slice_index_or xs t v → v ≡ block_row ys t
+row_read ys t v same l read = read ∙ ap (λ zs. slice_index_or zs t v) same ∙ read_row ys t v l
+
 pub loop-t-init : goal.loop-t-init
-loop-t-init g c = record {
-  left = left_none c.args.filled_rows.now c.args.columns.now c.args.block.now c.in_ok-left.ensures.modulus c.in_ok-left.ensures.matrix;
-  modulus = c.new-row.ensures.modulus;
-  long = ap length c.new-row.ensures.row ∙ length_zeros _;
-  below = omega (arith, ap (λ A. A.height) c.in_ok-left.ensures.matrix);
-}
+loop-t-init g c =
+    let modulus = ap (λ (b : DenseBlock). b.modulus) c.block.view_is in
+    let width : c.len-width.result ≡ length c.args.pivots.now.columns.items = omega (arith, c.args.pivots.now.columns.ok.0) in
+    record {
+      left = left_none c.args.block.now.rows c.args.pivots.now.columns.items c.args.block.now.entries (c.in_ok-left.ensures.modulus ∙ modulus) (rw width at c.in_ok-left.ensures.matrix);
+      inside = omega arith;
+      rest = λ k a l. omega arith;
+      modulus = c.new-row.ensures.modulus ∙ modulus;
+      long = ap length c.new-row.ensures.row ∙ length_zeros c.len-width.result ∙ width;
+      below = omega (arith, ap (λ A. A.height) c.in_ok-left.ensures.matrix);
+    }
 
 pub pad-requires-clause-low : goal.pad-requires-clause-low
-pad-requires-clause-low g c = c.loop-t.invariant.left.coming c.loop-t.t (omega arith) (omega arith)
+pad-requires-clause-low g c =
+    let b = c.args.block.now in
+    let t = c.loop-t.t in
+    let same = ap (λ (b : DenseBlock). b.rows) c.block.view_is in
+    let some : t < length b.rows = omega (arith, c.block.inside.rows.ok.0, ap length same) in
+    omega (arith, index_read b.rows t c.index.result.now same some c.index.ensures, c.loop-t.invariant.left.coming t (omega arith) some)
 
 pub pad-requires-clause-small : goal.pad-requires-clause-small
-pad-requires-clause-small g c = omega (arith, c.requires.below c.loop-t.t (omega arith), c.requires.height)
+pad-requires-clause-small g c =
+    let b = c.args.block.now in
+    let t = c.loop-t.t in
+    let same = ap (λ (b : DenseBlock). b.rows) c.block.view_is in
+    let some : t < length b.rows = omega (arith, c.block.inside.rows.ok.0, ap length same) in
+    omega (arith, index_read b.rows t c.index.result.now same some c.index.ensures, c.requires.dense.rows_below t some, c.requires.dense.low)
 
 pub gather-requires-clause-long : goal.gather-requires-clause-long
-gather-requires-clause-long g c κs within = ap length c.clear.ensures.row ∙ length_zeros _ ∙ c.loop-t.invariant.long
+gather-requires-clause-long g c κs within =
+    let columns = c.deref-in-loop-t.result.now in
+    omega (
+      arith,
+      ap length c.clear.ensures.row,
+      length_zeros (length c.loop-t.row.row),
+      c.loop-t.invariant.long,
+      ap length c.deref-in-loop-t.ensures.value,
+      length-take c.count_up_to-count.result columns,
+    )
+
+pub gather-requires-clause-few : goal.gather-requires-clause-few
+gather-requires-clause-few g c κs within =
+    omega (arith, ap length c.deref-in-loop-t.ensures.value, length-take c.count_up_to-count.result c.deref-in-loop-t.result.now, c.requires.pivots.few, c.requires.dense.rows_few)
 
 pub gather-requires-clause-residues : goal.gather-requires-clause-residues
 gather-requires-clause-residues g c κs within =
+    let b = c.args.block.now in
     let t = c.loop-t.t in
-    let block = c.args.block.now in
-    let inside : t < length block = omega (arith, c.requires.long) in
-    let read = c.index-block-t.is ∙ read_row block t c.index-block-t.result inside in
-    let vector = c.requires.residues t inside in
-    let own : IsVector c.args.p.now (length (block_row block t)) (block_row block t) = subst (λ n. IsVector c.args.p.now n (block_row block t)) (sym vector.len) vector in
+    let inside : t < length b.entries = omega (arith, c.block.inside.rows.ok.0, ap (λ (b : DenseBlock). length b.rows) c.block.view_is, c.requires.dense.long) in
+    let read = row_read b.entries t c.index-in-loop-t.result.now (ap (λ (b : DenseBlock). b.entries) c.block.view_is) inside c.index-in-loop-t.ensures in
+    let vector = c.requires.dense.residues t inside in
+    let own : IsVector b.modulus (length (block_row b.entries t)) (block_row b.entries t) = subst (λ n. IsVector b.modulus n (block_row b.entries t)) (sym vector.len) vector in
     rw (c.clear.ensures.modulus, c.loop-t.invariant.modulus, read) own
 
 pub gather-requires-clause-zero : goal.gather-requires-clause-zero
@@ -47,14 +83,30 @@ gather-requires-clause-zero g c κs within = c.clear.ensures.row ∙ ap zeros (s
 
 pub gather-requires-clause-inside : goal.gather-requires-clause-inside
 gather-requires-clause-inside g c κs within =
+    let b = c.args.block.now in
     let t = c.loop-t.t in
-    let inside : t < length c.args.block.now = omega (arith, c.requires.long) in
-    let read = c.index-block-t.is ∙ read_row c.args.block.now t c.index-block-t.result inside in
-    λ k l. omega (arith, ap length read, (c.requires.residues t inside).len, c.requires.inside k l)
+    let inside : t < length b.entries = omega (arith, c.block.inside.rows.ok.0, ap (λ (b : DenseBlock). length b.rows) c.block.view_is, c.requires.dense.long) in
+    let read = row_read b.entries t c.index-in-loop-t.result.now (ap (λ (b : DenseBlock). b.entries) c.block.view_is) inside c.index-in-loop-t.ensures in
+    let columns = c.args.pivots.now.columns.items in
+    let count = c.count_up_to-count.result in
+    rw c.deref-in-loop-t.ensures.value (λ k l.
+    let less : k < count = omega (arith, length-take count columns) in
+    omega (arith, ap length read, (c.requires.dense.residues t inside).len, get_or-take count columns k 0 less, c.requires.pivots.columns k (omega (arith, length-take count columns))))
 
 pub append-requires-clause-height_small : goal.append-requires-clause-height_small
 append-requires-clause-height_small g c =
-    omega (arith, ap (λ A. A.height) c.in_ok-pad.ensures.matrix, c.requires.below c.loop-t.t (omega arith), c.loop-t.invariant.left.coming c.loop-t.t (omega arith) (omega arith), c.requires.height)
+    let b = c.args.block.now in
+    let t = c.loop-t.t in
+    let same = ap (λ (b : DenseBlock). b.rows) c.block.view_is in
+    let some : t < length b.rows = omega (arith, c.block.inside.rows.ok.0, ap length same) in
+    omega (
+      arith,
+      ap (λ A. A.height) c.in_ok-pad.ensures.matrix,
+      index_read b.rows t c.index.result.now same some c.index.ensures,
+      c.requires.dense.rows_below t some,
+      c.loop-t.invariant.left.coming t (omega arith) some,
+      c.requires.dense.low,
+    )
 
 pub append-requires-clause-modulus : goal.append-requires-clause-modulus
 append-requires-clause-modulus g c =
@@ -67,41 +119,53 @@ append-requires-clause-width g c =
 
 pub loop-t-preserved : goal.loop-t-preserved
 loop-t-preserved g c =
-    let p = c.args.p.now in
+    let b = c.args.block.now in
+    let p = b.modulus in
     let t = c.loop-t.t in
-    let indices = c.args.filled_rows.now in
-    let columns = c.args.columns.now in
-    let block = c.args.block.now in
+    let columns = c.args.pivots.now.columns.items in
     let left = c.loop-t.invariant.left in
-    let pos : 0 < p = omega (arith, c.p.ensures.two_or_more, c.p.ensures.value) in
-    let some : t < length indices = omega arith in
-    let low : c.loop-t.left.matrix.height ≤ slice_index indices t = left.coming t (omega arith) some in
-    let padded : IsLeftSoFar p indices columns block t c.pad.new.rows =
-    left_zeros (slice_index indices t - c.loop-t.left.matrix.height) pos left (λ s a l. omega (arith, low, left.coming s a l, index_grows indices c.requires.rising t s a l)) c.pad.ensures.modulus c.in_ok-pad.ensures.matrix in
-    let at : slice_index indices t ≡ c.pad.new.rows.matrix.height = omega (arith, low, ap (λ A. A.height) c.in_ok-pad.ensures.matrix) in
-    let inside : t < length block = omega (arith, c.requires.long) in
-    let row-is : c.index-block-t.result ≡ block_row block t = c.index-block-t.is ∙ read_row block t c.index-block-t.result inside in
-    let read : (k : ℕ) → k < length columns → slice_index c.gather.new.to.row k ≡ entry_of block t (slice_index columns k) =
-    λ k l. c.in_ok-gather.ensures.row.put k l ∙ ap (λ u. slice_index u (slice_index columns k)) row-is in
+    let pos : 0 < p = omega (arith, c.requires.dense.modulus) in
+    let same = ap (λ (b : DenseBlock). b.rows) c.block.view_is in
+    let some : t < length b.rows = omega (arith, c.block.inside.rows.ok.0, ap length same) in
+    let index = index_read b.rows t c.index.result.now same some c.index.ensures in
+    let low : c.loop-t.left.matrix.height ≤ slice_index b.rows t = left.coming t (omega arith) some in
+    let padded : IsLeftSoFar p b.rows columns b.entries t c.pad.new.rows =
+    left_zeros (slice_index b.rows t - c.loop-t.left.matrix.height) pos left (λ s a l. omega (arith, low, left.coming s a l, index_grows b.rows c.requires.dense.rows_rising t s a l)) c.pad.ensures.modulus
+    (rw index at c.in_ok-pad.ensures.matrix) in
+    let at : slice_index b.rows t ≡ c.pad.new.rows.matrix.height = omega (arith, low, index, ap (λ A. A.height) c.in_ok-pad.ensures.matrix) in
+    let inside : t < length b.entries = omega (arith, c.requires.dense.long) in
+    let row-is = row_read b.entries t c.index-in-loop-t.result.now (ap (λ (b : DenseBlock). b.entries) c.block.view_is) inside c.index-in-loop-t.ensures in
+    let pivots = c.requires.pivots in
+    let count = c.count_up_to-count in
+    let wide = ap length c.clear.ensures.row ∙ length_zeros _ ∙ c.loop-t.invariant.long in
+    let few : count.result ≤ length columns = omega (arith, count.ensures.inside, ap length c.deref.ensures.value, pivots.long) in
+    let rest = rw c.deref.ensures.value at count.ensures.rest in
+    let read : (k : ℕ) → k < length columns → slice_index c.gather.new.to.row k ≡ entry_of b.entries t (slice_index columns k) =
+    gathered_all (block_row b.entries t) columns count.result few wide (rw (c.deref-in-loop-t.ensures.value, row-is) at c.in_ok-gather.ensures.row) (λ k a l. pivots.after t k l (rest k a (omega (arith, pivots.long)))) in
     let vector : IsVector p (length columns) c.gather.new.to.row = record {
-      len = c.in_ok-gather.ensures.row.long ∙ ap length c.clear.ensures.row ∙ length_zeros _ ∙ c.loop-t.invariant.long;
-      residues = λ k l. omega (arith, read k l, (c.requires.residues t inside).residues (slice_index columns k) (c.requires.inside k l));
+      len = c.in_ok-gather.ensures.row.long ∙ wide;
+      residues = λ k l. omega (arith, read k l, (c.requires.dense.residues t inside).residues (slice_index columns k) (c.requires.pivots.columns k l));
     } in
     record {
-      left = left_filled padded c.requires.rising vector c.append.ensures.modulus c.in_ok-append.ensures.matrix some at read;
+      left = left_filled padded c.requires.dense.rows_rising vector c.append.ensures.modulus c.in_ok-append.ensures.matrix some at read;
+      inside = omega (arith, count.ensures.inside, ap length c.deref.ensures.value);
+      rest = λ k a l. omega (arith, rest k a l);
       modulus = c.gather.ensures.modulus ∙ c.clear.ensures.modulus ∙ c.loop-t.invariant.modulus;
       long = vector.len;
-      below = omega (arith, ap (λ A. A.height) c.in_ok-append.ensures.matrix, at, c.requires.below t some);
+      below = omega (arith, ap (λ A. A.height) c.in_ok-append.ensures.matrix, at, c.requires.dense.rows_below t some);
     }
 
 pub returns-clause-residues : goal.returns-clause-residues
 returns-clause-residues g c =
-    let pos : 0 < c.args.p.now = omega (arith, c.p.ensures.two_or_more, c.p.ensures.value) in
-    (left_zeros (c.args.m - c.loop-t.left.matrix.height) pos c.loop-t.invariant.left (λ t a l. absurd (omega arith)) c.pad-2.ensures.modulus c.in_ok-pad-2.ensures.matrix).matrix
+    let pos : 0 < c.args.block.now.modulus = omega (arith, c.requires.dense.modulus) in
+    let all : c.loop-t.t ≡ length c.args.block.now.rows = omega (arith, c.block.inside.rows.ok.0, ap (λ (b : DenseBlock). length b.rows) c.block.view_is) in
+    (left_zeros (c.block.inside.height - c.loop-t.left.matrix.height) pos c.loop-t.invariant.left (λ t a l. absurd (omega arith)) c.pad-2.ensures.modulus c.in_ok-pad-2.ensures.matrix).matrix
 
 pub returns-clause-left : goal.returns-clause-left
 returns-clause-left g c =
-    let pos : 0 < c.args.p.now = omega (arith, c.p.ensures.two_or_more, c.p.ensures.value) in
-    let end : c.pad-2.new.rows.matrix.height ≡ c.args.m = omega (arith, ap (λ A. A.height) c.in_ok-pad-2.ensures.matrix, c.loop-t.invariant.below) in
+    let b = c.args.block.now in
+    let pos : 0 < b.modulus = omega (arith, c.requires.dense.modulus) in
+    let all : c.loop-t.t ≡ length b.rows = omega (arith, c.block.inside.rows.ok.0, ap (λ (b : DenseBlock). length b.rows) c.block.view_is) in
+    let end : c.pad-2.new.rows.matrix.height ≡ b.height = omega (arith, ap (λ A. A.height) c.in_ok-pad-2.ensures.matrix, c.loop-t.invariant.below, ap (λ (b : DenseBlock). b.height) c.block.view_is) in
     left_all end (omega arith)
-    (left_zeros (c.args.m - c.loop-t.left.matrix.height) pos c.loop-t.invariant.left (λ t a l. absurd (omega arith)) c.pad-2.ensures.modulus c.in_ok-pad-2.ensures.matrix)
+    (left_zeros (c.block.inside.height - c.loop-t.left.matrix.height) pos c.loop-t.invariant.left (λ t a l. absurd (omega arith)) c.pad-2.ensures.modulus c.in_ok-pad-2.ensures.matrix)

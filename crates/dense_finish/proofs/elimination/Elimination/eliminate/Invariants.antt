@@ -1,16 +1,14 @@
 use Rattle.std.proofs.Common.{◌-◌, ◌≡◌, ◌≤◌, length}
 use Rattle.residue_words.specs.Residues.{IsPrime}
 use Rattle.dense_finish.specs.Pivots.{AreSplit, CanGoOn, before_panel, panel_stage, stage}
-use Rattle.dense_finish.specs.Units.{AreUnits}
-use Rattle.dense_finish.proofs.elimination.eliminate.Given as goal
+use Rattle.dense_finish.proofs.elimination.Elimination.eliminate.Given as goal
 
 abbrev pub invariant-loop-done : goal.invariant-loop-done
 invariant-loop-done g l = record {
   inside : l.done ≤ length l.fn.block;
   wide : l.pivots.u.matrix.width ≡ l.width;
-  ready : CanGoOn l.p l.columns (panel_stage l.pivots l.found.panel l.block l.done);
-  units : AreUnits l.p l.found.panel l.found.first l.found.units.items;
-  split : IsPrime l.p → AreSplit l.p l.columns (before_panel (panel_stage l.pivots l.found.panel l.block l.done)) l.fn.block (stage l.pivots l.block l.done);
+  ready : CanGoOn l.self.p l.self.columns.now (panel_stage l.pivots l.found l.block l.done);
+  split : IsPrime l.self.p → AreSplit l.self.p l.self.columns.now (before_panel (panel_stage l.pivots l.found l.block l.done)) l.fn.block (stage l.pivots l.block l.done);
 }
 
 abbrev pub decreases-loop-done : goal.decreases-loop-done
