@@ -1,5 +1,5 @@
 -- The words that ask for a batch are those that clap takes, with each number in its range.
-use Rattle.std.proofs.Common.{◌≡◌, ◌∙◌, ◌-◌, ◌<◌, ◌≤◌, ℕ, Bool, true, false, List, [], ◌∷◌, map, Option, Some, None, MatchOption, refl, sym, ap, subst, arith, codes}
+use Rattle.std.proofs.Common.{◌≡◌, ◌∙◌, ◌<◌, ◌≤◌, ℕ, Bool, true, false, List, [], ◌∷◌, map, Option, Some, None, MatchOption, refl, sym, ap, subst, arith, codes}
 use Rattle.std.specs.Prelude.{is_some, unwrap_or}
 use Rattle.std.specs.Borrow.{Bor}
 use Rattle.std.specs.List.{Contains, flat_map, list_any}
@@ -16,7 +16,7 @@ use Rattle.spasm_run.specs.Options.{AreTaken, RowsSet}
 use Rattle.spasm_run.specs.Words.{Given, IsNumber, Rule, Setting, modulus_rule, setting, spelling, workers_rule}
 use Rattle.spasm_run.proofs.Accepting.{fits_first, fits_known, known_fits, rows_set, set_rows}
 use Rattle.spasm_run.proofs.Exact.{all_begin, all_plain, bytes, dashes_false, each_name, no_dashes, one_list, options_dashes, plain_value, words_dashes}
-use Rattle.spasm_run.proofs.InRange.{by_default, no_default, number_in_range}
+use Rattle.spasm_run.proofs.InRange.{modulus_set, no_default, number_in_range, workers_set}
 use Rattle.spasm_run.proofs.Matching.{gives_number, number_given}
 use Rattle.spasm_run.proofs.Reading.{Fits, IsName, NoDashes, level_passes, passes_level, passes_reads, reads_passes, row_of_given}
 use Rattle.spasm_run.proofs.Walks.{command_of, rules_of}
@@ -150,12 +150,7 @@ count_in_range words c a =
     number_in_range count_rule.name 1 LARGEST_COUNT None is.0 c.count (λ m e. no_default 1 LARGEST_COUNT m e) is.2
 
 pub modulus_in_range : (words : List (List ℕ)) (c : BatchCommand) → AcceptedBatch words c → (2 ≤ c.modulus) × (c.modulus < MODULUS_BOUND)
-modulus_in_range words c a =
-    let is = a.set 1 (setting modulus_rule 0) (omega arith) in
-    let range = number_in_range modulus_rule.name 2 (MODULUS_BOUND - 1) (Some 42013) is.0 c.modulus (λ m e. by_default 2 (MODULUS_BOUND - 1) 42013 m e (omega arith) (omega arith)) is.2 in
-    (range.0, omega (arith, range.1))
+modulus_in_range words c a = modulus_set a.options c.modulus (a.set 1 (setting modulus_rule 0) (omega arith))
 
 pub workers_in_range : (words : List (List ℕ)) (c : BatchCommand) → AcceptedBatch words c → (1 ≤ c.workers) × (c.workers ≤ 64)
-workers_in_range words c a =
-    let is = a.set 2 (setting workers_rule 0) (omega arith) in
-    number_in_range workers_rule.name 1 64 (Some 1) is.0 c.workers (λ m e. by_default 1 64 1 m e (omega arith) (omega arith)) is.2
+workers_in_range words c a = workers_set a.options c.workers (a.set 2 (setting workers_rule 0) (omega arith))

@@ -1,5 +1,5 @@
 -- From what was found to what a batch did.
-use Rattle.std.proofs.Common.{ℕ, Bool, true, false, ◌≡◌, ◌⊎◌, ◌+◌, ◌++◌, List, [], None, Some, Result, Ok, Err, Vec, refl, sym, ap, ap₂, ◌∙◌, subst, inl, inr}
+use Rattle.std.proofs.Common.{ℕ, Bool, true, false, ◌≡◌, ◌⊎◌, ◌+◌, ◌++◌, List, Some, Result, Ok, Err, Vec, refl, sym, subst, inl, inr}
 use Rattle.std.specs.declared.alloc.Global.{Global}
 use Rattle.std.specs.Result.{IsErrAnd}
 use Rattle.std.proofs.lemmas.Result.{err_from_is_err_and}
@@ -10,16 +10,15 @@ use Rattle.sms_text.specs.declared.kind.TextError.TheVariants as error
 use Rattle.sms_text.specs.declared.write.WriteFault.{WriteFault}
 use Rattle.sms_text.specs.Reading.{Draws, IsShort, untouched}
 use Rattle.sms_text.specs.Stream.{SinkState, SourceState, Gained, Rose}
-use Rattle.sms_text.specs.Text.{Got, Fault, FirstFault, Reading, reading}
+use Rattle.sms_text.specs.Text.{FirstFault}
 use Rattle.sms_text.specs.Writing.{Writes}
 use Rattle.sms_text.proofs.Moving.{draws_none, draws_with}
 use Rattle.kernel_solve.specs.declared.prepared.Reply.{Reply}
 use Rattle.spasm_run.specs.Contents.{Contents, matrices_alone}
 use Rattle.spasm_run.specs.Input.{HasContents, Input, WasRead, supply_behind}
 use Rattle.spasm_run.specs.Ran.{Run, whole_input}
-use Rattle.spasm_run.proofs.Input.{from_start}
-use Rattle.spasm_run.proofs.Stays.{Keeps, told_of_all}
-use Rattle.spasm_run.proofs.Whole.{no_fault, one_reading}
+use Rattle.spasm_run.proofs.Input.{from_start, untaken}
+use Rattle.spasm_run.proofs.Outcomes.{Answered, Endings, Faulty, Outcome, Refused, Wanting, answers_whole, contents_of_all, fault_of_all, names_fault, refuses_shape, run_between}
 use Rattle.batch_solve.specs.declared.batch_status.BatchStatus.{BatchStatus}
 use Rattle.batch_solve.specs.declared.batch_status.BatchStatus.TheVariants as status
 use Rattle.batch_solve.specs.declared.batch_words.BatchCommand.{BatchCommand}
@@ -117,54 +116,47 @@ found_unread words c p limit old new e result modulus is accepted was =
     subst (λ r. WereFound words limit r old new) (sym fault.1) found
 
 -- nothing was asked of the source where no command is accepted, or memory was wanted for the words
-nothing : Input
-nothing = record { bytes = []; ended = false }
-
 pub found_refused : (words : List (List ℕ)) (limit : ℕ) (source : SourceState) → AskForNoBatch words → WereFound words limit (Err status.Usage) source source
-unfolding nothing
-found_refused words limit source refused = record { input = nothing; draws = draws_none (AreTooFewForBatch words limit) (untouched source); found = refused }
+found_refused words limit source refused = record { input = untaken; draws = draws_none (AreTooFewForBatch words limit) (untouched source); found = refused }
 
 pub found_memory : (words : List (List ℕ)) (limit : ℕ) (source : SourceState) → WereFound words limit (Err status.Memory) source source
-unfolding nothing
-found_memory words limit source = record { input = nothing; draws = draws_none (AreTooFewForBatch words limit) (untouched source); found = tt }
+found_memory words limit source = record { input = untaken; draws = draws_none (AreTooFewForBatch words limit) (untouched source); found = tt }
 
--- what a run came to that had these bytes left, where its source did not fail
-data Outcome (r : Run) (c : BatchCommand) (bytes : List ℕ) (s : BatchStatus) : Type 0 where
-  Wanting : s ≡ status.Memory → Outcome r c bytes s
-  Faulty : (line : ℕ) (k : Kind) → FirstFault (batch_request c r.limit) bytes true line k → s ≡ status.BadText line k → Outcome r c bytes s
-  Refused : IsBatchMisfit c r.limit (whole_input bytes) s → Outcome r c bytes s
-  Answered : (said : Contents) → HasContents (batch_request c r.limit) (whole_input bytes) said → batch_misfit said.matrices ≡ None →
-      (s ≡ status.Done) ⊎ Rose r.out.faults r.out_after.faults → Outcome r c bytes s
+-- how a batch ends
+abbrev endings : Endings BatchStatus
+endings = record { memory = status.Memory; bad_text = status.BadText; misfit = batch_misfit; Answers = λ said s. s ≡ status.Done }
 
 module _ (r : Run) (input : Input) where
   abbrev Takes : BatchStatus → Type 0
   Takes s = Draws (AreTooFewForBatch r.words r.limit) (is_read_fault s) input.bytes (untouched r.source) (supply_behind input r.source_after)
 
+  abbrev OutputFailed : Type 0
+  OutputFailed = Rose r.out.faults r.out_after.faults
+
   module _ (c : BatchCommand) (bytes : List ℕ) (offered : IsBatchOffered r c bytes) where
-    -- what the input says, all the bytes say
-    all_say : (s : BatchStatus) (said : Reading) → Takes s → reading (batch_request c r.limit) input.ended input.bytes ≡ said → Keeps said (reading (batch_request c r.limit) true bytes)
-    all_say s said takes e = told_of_all (batch_request c r.limit) input (AreTooFewForBatch r.words r.limit) (is_read_fault s) r.source r.source_after bytes said takes offered.told e
+    abbrev ComesTo : BatchStatus → Type 0
+    ComesTo s = Outcome endings (batch_request c r.limit) OutputFailed bytes s
 
     all_fault : (s : BatchStatus) (d : BatchCommand) (line : ℕ) (k : Kind) → Takes s → AcceptedBatch r.words d → FirstFault (batch_request d r.limit) input.bytes input.ended line k →
         FirstFault (batch_request c r.limit) bytes true line k
     all_fault s d line k takes accepted fault =
-        all_say s (Fault line k) takes (subst (λ d. FirstFault (batch_request d r.limit) input.bytes input.ended line k) (one_batch r.words d c accepted offered.accepted) fault)
+        fault_of_all (batch_request c r.limit) input (AreTooFewForBatch r.words r.limit) (is_read_fault s) r.source r.source_after bytes takes offered.told line k
+        (subst (λ d. FirstFault (batch_request d r.limit) input.bytes input.ended line k) (one_batch r.words d c accepted offered.accepted) fault)
 
     all_contents : (s : BatchStatus) (said : Contents) → Takes s → HasContents (batch_request c r.limit) input said → HasContents (batch_request c r.limit) (whole_input bytes) said
-    all_contents s said takes has =
-        let all = all_say s (Got has.items has.rest) takes has.reads in record { items = has.items; rest = all.0; reads = all.1; are = has.are }
+    all_contents s said takes has = contents_of_all (batch_request c r.limit) input (AreTooFewForBatch r.words r.limit) (is_read_fault s) r.source r.source_after bytes takes offered.told said has
 
-    misfit_outcome : (s : BatchStatus) (d : BatchCommand) → Takes s → AcceptedBatch r.words d → IsBatchMisfit d r.limit input s → Outcome r c bytes s
+    misfit_outcome : (s : BatchStatus) (d : BatchCommand) → Takes s → AcceptedBatch r.words d → IsBatchMisfit d r.limit input s → ComesTo s
     misfit_outcome s d takes accepted is =
         let at = subst (λ d. IsBatchMisfit d r.limit input s) (one_batch r.words d c accepted offered.accepted) is in
-        Refused (record { said = at.said; reads = all_contents s at.said takes at.reads; refused = at.refused })
+        Refused at.said (all_contents s at.said takes at.reads) at.refused
 
-    answered_outcome : (s : BatchStatus) (text : List ℕ) → Takes s → IsBatchAnswered r.words r.limit input text → (s ≡ status.Done) ⊎ Rose r.out.faults r.out_after.faults → Outcome r c bytes s
+    answered_outcome : (s : BatchStatus) (text : List ℕ) → Takes s → IsBatchAnswered r.words r.limit input text → (s ≡ status.Done) ⊎ OutputFailed → ComesTo s
     answered_outcome s text takes (d, accepted, has) ends =
         let at = subst (λ d. HasBatchAnswer d r.limit input text) (one_batch r.words d c accepted offered.accepted) has in
         Answered at.said (all_contents s at.said takes at.reads) at.fits ends
 
-    outcome : (s : BatchStatus) → Takes s → ExplainsBatch r input s → Outcome r c bytes s
+    outcome : (s : BatchStatus) → Takes s → ExplainsBatch r input s → ComesTo s
     outcome status.Done takes cause = answered_outcome status.Done cause.0 takes cause.1 (inl refl)
     outcome status.Usage takes cause = absurd (cause.0 c offered.accepted)
     outcome (status.BadText line k) takes cause = Faulty line k (all_fault (status.BadText line k) cause.0.0 line k takes cause.0.1 cause.0.2) refl
@@ -173,43 +165,6 @@ module _ (r : Run) (input : Input) where
     outcome status.WriteFault takes cause = answered_outcome status.WriteFault (cause.0 ++ cause.1) takes cause.2 (inr cause.3.rose)
     outcome status.Memory takes cause = Wanting refl
     outcome (status.Wide h w) takes cause = misfit_outcome (status.Wide h w) cause.0.0 takes cause.0.1 cause.0.2
-
-    -- a fault is named
-    names_fault : (s : BatchStatus) (line : ℕ) (k : Kind) → FirstFault (batch_request c r.limit) bytes true line k → Outcome r c bytes s → IsThisOrMemory (status.BadText line k) s
-    names_fault s line k fault (Wanting memory) = inr memory
-    names_fault s line k fault (Faulty line' k' fault' is) =
-        let both : Fault line' k' ≡ Fault line k = sym fault' ∙ fault in
-        let lines : line' ≡ line = cc in
-        let kinds : k' ≡ k = cc in
-        inl (is ∙ ap₂ status.BadText lines kinds)
-    names_fault s line k fault (Refused m) = absurd (no_fault (batch_request c r.limit) (whole_input bytes) m.said line k m.reads fault)
-    names_fault s line k fault (Answered said has fits ends) = absurd (no_fault (batch_request c r.limit) (whole_input bytes) said line k has fault)
-
-    -- shapes are refused
-    refuses_shape : (s t : BatchStatus) → IsBatchMisfit c r.limit (whole_input bytes) t → Outcome r c bytes s → IsThisOrMemory t s
-    refuses_shape s t is (Wanting memory) = inr memory
-    refuses_shape s t is (Faulty line k fault e) = absurd (no_fault (batch_request c r.limit) (whole_input bytes) is.said line k is.reads fault)
-    refuses_shape s t is (Refused m) =
-        let same = ap (λ (x : Contents). x.matrices) (one_reading (batch_request c r.limit) (whole_input bytes) m.said is.said m.reads is.reads) in
-        let both : Some s ≡ Some t = sym m.refused ∙ ap batch_misfit same ∙ is.refused in
-        let one : s ≡ t = cc in
-        inl one
-    refuses_shape s t is (Answered said has fits ends) =
-        let same = ap (λ (x : Contents). x.matrices) (one_reading (batch_request c r.limit) (whole_input bytes) said is.said has is.reads) in
-        let both : None ≡ Some t = sym fits ∙ ap batch_misfit same ∙ is.refused in
-        absurd (let none : ⊥ = cc in none)
-
-    -- and what fits is answered
-    answers_whole : (s : BatchStatus) (said : Contents) → HasContents (batch_request c r.limit) (whole_input bytes) said → batch_misfit said.matrices ≡ None →
-        (Rose r.out.faults r.out_after.faults → ⊥) → Outcome r c bytes s → IsThisOrMemory status.Done s
-    answers_whole s said has fits calm (Wanting memory) = inr memory
-    answers_whole s said has fits calm (Faulty line k fault e) = absurd (no_fault (batch_request c r.limit) (whole_input bytes) said line k has fault)
-    answers_whole s said has fits calm (Refused m) =
-        let same = ap (λ (x : Contents). x.matrices) (one_reading (batch_request c r.limit) (whole_input bytes) said m.said has m.reads) in
-        let both : None ≡ Some s = sym fits ∙ ap batch_misfit same ∙ m.refused in
-        absurd (let none : ⊥ = cc in none)
-    answers_whole s said has fits calm (Answered said' has' fits' (inl ends)) = inl ends
-    answers_whole s said has fits calm (Answered said' has' fits' (inr rose)) = absurd (calm rose)
 
   -- words that ask for no batch
   refuses_words : (s : BatchStatus) → ExplainsBatch r input s → AskForNoBatch r.words → IsThisOrMemory status.Usage s
@@ -230,14 +185,11 @@ module _ (r : Run) (input : Input) where
     cause = cause;
     complete = record {
       usage = refuses_words s cause;
-      fault = λ c bytes line k offered fault. names_fault c bytes offered s line k fault (outcome c bytes offered s takes cause);
-      shape = λ c bytes t offered is. refuses_shape c bytes offered s t is (outcome c bytes offered s takes cause);
-      done = λ c bytes said offered has fits calm. answers_whole c bytes offered s said has fits calm (outcome c bytes offered s takes cause);
+      fault = λ c bytes line k offered fault. names_fault endings (batch_request c r.limit) OutputFailed bytes s line k fault (outcome c bytes offered s takes cause);
+      shape = λ c bytes t offered is. refuses_shape endings (batch_request c r.limit) OutputFailed bytes s is.said is.reads t is.refused (outcome c bytes offered s takes cause);
+      done = λ c bytes said offered has fits calm. answers_whole endings (batch_request c r.limit) OutputFailed bytes s said has fits calm (outcome c bytes offered s takes cause);
     };
   }
-
-abbrev run_between : List (List ℕ) → ℕ → SourceState → SourceState → SinkState → SinkState → Run
-run_between words limit old new out out' = record { words = words; limit = limit; source = old; source_after = new; out = out; out_after = out' }
 
 -- no answer was found
 pub ran_without : (words : List (List ℕ)) (limit : ℕ) (old new : SourceState) (out : SinkState) (s : BatchStatus) → WereFound words limit (Err s) old new → BatchRan (run_between words limit old new out out) s

@@ -5,18 +5,14 @@ use Rattle.std.specs.Fmt.{decimal}
 use Rattle.std.specs.Result.{IsErr}
 use Rattle.std.proofs.lemmas.Grind.{flat_map-append}
 use Rattle.std.proofs.lemmas.List.{take-append-drop, take_all, take_more}
-use Rattle.sms_text.specs.declared.kind.Kind.{Kind}
 use Rattle.sms_text.specs.declared.write.WriteFault.{WriteFault}
-use Rattle.sms_text.specs.Kind.{kind_number}
 use Rattle.sms_text.specs.Stream.{SinkState, Gained}
 use Rattle.sms_text.specs.Writing.{Writes}
 use Rattle.sms_text.proofs.Puts.{behind_nothing}
 use Rattle.kernel_solve.specs.declared.prepared.Reply.{Reply}
 use Rattle.spasm_run.proofs.Written.{writes_same, writes_stops, writes_then}
-use Rattle.batch_solve.specs.declared.batch_status.BatchStatus.{BatchStatus}
-use Rattle.batch_solve.specs.declared.batch_status.BatchStatus.TheVariants as status
 use Rattle.batch_solve.specs.BatchFound.{replies_text, reply_text}
-use Rattle.batch_solve.specs.BatchStatus.{batch_fault_line, shape_line}
+use Rattle.batch_solve.specs.BatchStatus.{shape_line}
 
 -- the texts of the replies up to k, and of one more
 text_more : (replies : List Reply) (k : ℕ) (d : Reply) → k < length replies → replies_text (take k replies) ++ reply_text (get_or replies k d) ≡ replies_text (take (k + 1) replies)
@@ -48,23 +44,6 @@ part_written replies k item s s' s'' fault result failed less is before wrote =
 -- all were written
 pub all_written : (replies : List Reply) (k : ℕ) (s s' : SinkState) → length replies ≤ k → Gained (replies_text (take k replies)) s s' → Writes (Ok tt) (replies_text replies) s s'
 all_written replies k s s' le before = writes_same (Ok tt) _ _ s s' (ap replies_text (take_all k replies le)) before
-
--- the lines of faults
-pub line_named : (s : BatchStatus) (line : ℕ) (k : Kind) (n : ℕ) → s ≡ status.BadText line k → n ≡ kind_number k →
-    ((codes "error 3 line " ++ decimal line) ++ (codes " kind " ++ decimal n)) ++ 10 ∷ [] ≡ batch_fault_line s
-line_named s line k n e f =
-    ap (λ (m : ℕ). ((codes "error 3 line " ++ decimal line) ++ (codes " kind " ++ decimal m)) ++ 10 ∷ []) f
-    ∙ ap (λ (l : List ℕ). l ++ 10 ∷ []) (sym (append_assoc (codes "error 3 line " ++ decimal line) (codes " kind ") (decimal (kind_number k)))) ∙ sym (ap batch_fault_line e)
-
-pub wide_named : (s : BatchStatus) (h w m n : ℕ) → s ≡ status.Wide h w → m ≡ h → n ≡ w →
-    ((codes "error 9 wide " ++ decimal m) ++ (codes " " ++ decimal n)) ++ 10 ∷ [] ≡ batch_fault_line s
-wide_named s h w m n e f d =
-    ap (λ (x : ℕ). ((codes "error 9 wide " ++ decimal x) ++ (codes " " ++ decimal n)) ++ 10 ∷ []) f
-    ∙ ap (λ (x : ℕ). ((codes "error 9 wide " ++ decimal h) ++ (codes " " ++ decimal x)) ++ 10 ∷ []) d ∙ sym (ap batch_fault_line e)
-
-pub shape_named : (s : BatchStatus) (q h w a b c : ℕ) → s ≡ status.Shape q h w → a ≡ h → b ≡ w → c ≡ q → shape_line a b c ≡ batch_fault_line s
-shape_named s q h w a b c e f g d =
-    ap (λ (x : ℕ). shape_line x b c) f ∙ ap (λ (x : ℕ). shape_line h x c) g ∙ ap (λ (x : ℕ). shape_line h w x) d ∙ sym (ap batch_fault_line e)
 
 -- the pieces of the line that names a right-hand side
 pub shape_pieces : (h w q : ℕ) → (((codes "error 4 shape " ++ decimal h) ++ (codes " " ++ decimal w)) ++ (codes " question " ++ decimal q)) ++ 10 ∷ [] ≡ shape_line h w q

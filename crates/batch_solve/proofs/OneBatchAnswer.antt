@@ -4,7 +4,7 @@ use Rattle.residue_words.specs.Matrix.{Matrix}
 use Rattle.kernel_solve.specs.Column.{column}
 use Rattle.spasm_run.specs.Contents.{Contents}
 use Rattle.spasm_run.proofs.OneAnswer.{one_solution}
-use Rattle.spasm_run.proofs.Whole.{one_reading}
+use Rattle.spasm_run.proofs.Outcomes.{one_reading}
 use Rattle.batch_solve.specs.declared.batch_words.BatchCommand.{BatchCommand}
 use Rattle.batch_solve.specs.BatchAnswers.{AnswersBatch, AnswersEach}
 use Rattle.batch_solve.specs.BatchRan.{HasBatchAnswer, IsOneBatchAnswer, batch_request}

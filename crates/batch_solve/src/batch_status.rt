@@ -4,7 +4,7 @@ ghost use Rattle.sms_text.specs.Writing.{Writes};
 ghost use Rattle.batch_solve.specs.BatchStatus.{shape_line};
 
 use sms_text::{Kind, Sink, TextError, WriteFault, write_text};
-use spasm_run::{write_two_numbers, write_with_number};
+use spasm_run::{Status, write_with_number};
 use std::alloc::AllocError;
 use std::fmt::{self, Display, Formatter};
 
@@ -47,21 +47,28 @@ pub enum BatchStatus {
 }
 
 impl BatchStatus {
-    ghost use Rattle.batch_solve.specs.BatchStatus.{BatchSaysWhy, batch_code, batch_fault_line, is_batch_done};
+    ghost use Rattle.batch_solve.specs.BatchStatus.{BatchSaysWhy, batch_code, is_batch_done, run_status};
 
     /// The program's exit status.
     pub fn code(&self) -> u8
         ensures { result ≡ batch_code self.now }
     {
+        self.run_status().code()
+    }
+
+    // The status of a run that ends so, which doesn't tell the number of a right-hand side.
+    fn run_status(self) -> Status
+        ensures { result ≡ run_status self }
+    {
         match self {
-            BatchStatus::Done => 0,
-            BatchStatus::Usage => 2,
-            BatchStatus::BadText { .. } => 3,
-            BatchStatus::Shape { .. } => 4,
-            BatchStatus::ReadFault => 6,
-            BatchStatus::WriteFault => 7,
-            BatchStatus::Memory => 8,
-            BatchStatus::Wide { .. } => 9,
+            BatchStatus::Done => Status::Done,
+            BatchStatus::Usage => Status::Usage,
+            BatchStatus::BadText { line, kind } => Status::BadText { line, kind },
+            BatchStatus::Shape { height, width, .. } => Status::Shape { height, width },
+            BatchStatus::ReadFault => Status::ReadFault,
+            BatchStatus::WriteFault => Status::WriteFault,
+            BatchStatus::Memory => Status::Memory,
+            BatchStatus::Wide { height, width } => Status::Wide { height, width },
         }
     }
 
@@ -71,43 +78,15 @@ impl BatchStatus {
         ensures silent { is_batch_done self ≡ true → err.new ≡ err.old }
     {
         match self {
-            BatchStatus::Done => {}
-            _ => {
-                let _ = self.write_line(err);
-            }
-        }
-    }
-
-    // Writes the fault line; nothing, where the status has none.
-    fn write_line<E: Sink>(self, err: &mut E) -> Result<(), WriteFault>
-        ensures { Writes result (batch_fault_line self) (E.state err.old) (E.state err.new) }
-    {
-        match self {
-            BatchStatus::Done => write_text(err, ""),
-            BatchStatus::Usage => write_text(err, "error 2 usage\n"),
-            BatchStatus::BadText { line, kind } => {
-                write_two_numbers(err, "error 3 line ", line, " kind ", kind.number())
-            }
             BatchStatus::Shape {
                 question,
                 height,
                 width,
-            } => write_shape_line(
-                err,
-                u64::from(height),
-                u64::from(width),
-                u64::from(question),
-            ),
-            BatchStatus::ReadFault => write_text(err, "error 6 read\n"),
-            BatchStatus::WriteFault => write_text(err, "error 7 write\n"),
-            BatchStatus::Memory => write_text(err, "error 8 memory\n"),
-            BatchStatus::Wide { height, width } => write_two_numbers(
-                err,
-                "error 9 wide ",
-                u64::from(height),
-                " ",
-                u64::from(width),
-            ),
+            } => {
+                let (height, width) = (u64::from(height), u64::from(width));
+                let _ = write_shape_line(err, height, width, u64::from(question));
+            }
+            _ => self.run_status().tell(err),
         }
     }
 }
@@ -131,8 +110,6 @@ impl Display for BatchStatus {
     fn fmt<W: fmt::Write>(&self, f: &mut Formatter<W>) -> fmt::Result {
         match self {
             BatchStatus::Done => f.write_str("the answers were written"),
-            BatchStatus::Usage => f.write_str("the words aren't accepted"),
-            BatchStatus::BadText { line, kind } => write!(f, "line {line} has a fault: {kind}"),
             BatchStatus::Shape {
                 question,
                 height,
@@ -143,12 +120,10 @@ impl Display for BatchStatus {
                     "right-hand side {question} is {height} x {width}, and no column as high as the matrix"
                 )
             }
-            BatchStatus::ReadFault => f.write_str("the source failed"),
-            BatchStatus::WriteFault => f.write_str("the output failed"),
-            BatchStatus::Memory => f.write_str("memory was wanted"),
             BatchStatus::Wide { height, width } => {
                 write!(f, "a matrix of {height} x {width} is too large for a batch")
             }
+            _ => self.run_status().fmt(f),
         }
     }
 }

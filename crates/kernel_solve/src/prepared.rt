@@ -9,7 +9,7 @@ ghost use Rattle.kernel_solve.specs.Refuted.{multiple};
 
 use crate::bases::{kernel, left_kernel};
 use crate::reduction::{add_multiple, reduce};
-use crate::substitution::{back, forward, left_inverses, right_inverses};
+use crate::substitution::{back, forward, inverses};
 use crate::vectors::{column_of, entries_of, first_nonzero, row_of};
 use dense_finish::{Factors, finish};
 use echelon_form::Echelon;
@@ -93,12 +93,13 @@ impl Prepared {
         ensures { IfOk result (λ q. q ≡ preparation factors.pivots factors.l factors.u null relations) }
     {
         let Factors { pivots, l, u } = factors;
+        let (left_inverses, right_inverses) = inverses(alloc, &l, &u, pivots.items())?;
         Ok(Prepared {
-            left_inverses: left_inverses(alloc, &l, pivots.items())?,
-            right_inverses: right_inverses(alloc, &u, pivots.items())?,
             pivots,
             left: l,
             right: u,
+            left_inverses,
+            right_inverses,
             null,
             relations,
         })

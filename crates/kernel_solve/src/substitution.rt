@@ -103,43 +103,30 @@ fn row_times(rows: &Rows, i: u32, x: &[u64]) -> u64
     (sum % p) as u64
 }
 
-// The inverses of the pivots' entries in L.
-pub(crate) fn left_inverses(
+// The inverses of the pivots' entries in L, and of those in U.
+pub(crate) fn inverses(
     alloc: Global,
     left: &Rows,
+    right: &Rows,
     pivots: &[Pair],
-) -> Result<Vec<u64>, AllocError>
+) -> Result<(Vec<u64>, Vec<u64>), AllocError>
     requires width { left.now.matrix.width ≡ length pivots.now }
+    requires height { right.now.matrix.height ≡ length pivots.now }
     requires pivots { (k : ℕ) → k < length pivots.now → row_at pivots.now k < left.now.matrix.height }
-    ensures { IfOk result (λ inverses. InvertEach left.now.modulus (length pivots.now)
-        (left_pivot left.now.matrix pivots.now) inverses.items) }
+    ensures left { IfOk result (λ both. InvertEach left.now.modulus (length pivots.now)
+        (left_pivot left.now.matrix pivots.now) both.0.items) }
+    ensures right { IfOk result (λ both. InvertEach right.now.modulus (length pivots.now)
+        (right_pivot right.now.matrix pivots.now) both.1.items) }
 {
     // The proof wants to know how wide a matrix is.
     let _ = left.width();
-    let mut inverses = Vec::with_capacity(alloc, pivots.len())?;
+    let mut in_left = Vec::with_capacity(alloc, pivots.len())?;
+    let mut in_right = Vec::with_capacity(alloc, pivots.len())?;
     for k in 0..pivots.len() {
-        inverses.push(inverse_at(left, pivots[k].row, k as u32))?;
+        in_left.push(inverse_at(left, pivots[k].row, k as u32))?;
+        in_right.push(inverse_at(right, k as u32, pivots[k].col))?;
     }
-    Ok(inverses)
-}
-
-// The inverses of the pivots' entries in U.
-pub(crate) fn right_inverses(
-    alloc: Global,
-    right: &Rows,
-    pivots: &[Pair],
-) -> Result<Vec<u64>, AllocError>
-    requires height { right.now.matrix.height ≡ length pivots.now }
-    ensures { IfOk result (λ inverses. InvertEach right.now.modulus (length pivots.now)
-        (right_pivot right.now.matrix pivots.now) inverses.items) }
-{
-    // The proof wants to know how high a matrix is.
-    let _ = right.height();
-    let mut inverses = Vec::with_capacity(alloc, pivots.len())?;
-    for k in 0..pivots.len() {
-        inverses.push(inverse_at(right, k as u32, pivots[k].col))?;
-    }
-    Ok(inverses)
+    Ok((in_left, in_right))
 }
 
 // The inverse of the entry at row i and column j, and 0 where that is 0.

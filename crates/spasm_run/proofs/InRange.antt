@@ -17,22 +17,26 @@ pub number_in_range : (name : List ℕ) (low high : ℕ) (absent : Option ℕ) (
 number_in_range name low high absent None n default is = default n is
 number_in_range name low high absent (Some w) n default is = (is.2, is.3)
 
-pub by_default : (low high d m : ℕ) → Some d ≡ Some m → low ≤ d → d ≤ high → (low ≤ m) × (m ≤ high)
+by_default : (low high d m : ℕ) → Some d ≡ Some m → low ≤ d → d ≤ high → (low ≤ m) × (m ≤ high)
 by_default low high d m e l h = let same : d ≡ m = ap (λ (o : Option ℕ). unwrap_or o 0) e in (omega (arith, same, l), omega (arith, same, h))
 
 pub no_default : (low high m : ℕ) → None ≡ Some m → (low ≤ m) × (m ≤ high)
 no_default low high m e = absurd cc
 
-pub modulus_in_range : (words : List (List ℕ)) (c : Command) → Accepted words c → (2 ≤ c.modulus) × (c.modulus < MODULUS_BOUND)
-modulus_in_range words c a =
-    let is = a.set 0 (setting modulus_rule 0) (omega arith) in
-    let range = number_in_range modulus_rule.name 2 (MODULUS_BOUND - 1) (Some 42013) is.0 c.modulus (λ m e. by_default 2 (MODULUS_BOUND - 1) 42013 m e (omega arith) (omega arith)) is.2 in
+-- the modulus and the number of workers that options set
+pub modulus_set : (options : List Given) (p : ℕ) → IsSetBy options (setting modulus_rule p) → (2 ≤ p) × (p < MODULUS_BOUND)
+modulus_set options p is =
+    let range = number_in_range modulus_rule.name 2 (MODULUS_BOUND - 1) (Some 42013) is.0 p (λ m e. by_default 2 (MODULUS_BOUND - 1) 42013 m e (omega arith) (omega arith)) is.2 in
     (range.0, omega (arith, range.1))
 
+pub workers_set : (options : List Given) (n : ℕ) → IsSetBy options (setting workers_rule n) → (1 ≤ n) × (n ≤ 64)
+workers_set options n is = number_in_range workers_rule.name 1 64 (Some 1) is.0 n (λ m e. by_default 1 64 1 m e (omega arith) (omega arith)) is.2
+
+pub modulus_in_range : (words : List (List ℕ)) (c : Command) → Accepted words c → (2 ≤ c.modulus) × (c.modulus < MODULUS_BOUND)
+modulus_in_range words c a = modulus_set a.options c.modulus (a.set 0 (setting modulus_rule 0) (omega arith))
+
 pub workers_in_range : (words : List (List ℕ)) (c : Command) → Accepted words c → (1 ≤ c.workers) × (c.workers ≤ 64)
-workers_in_range words c a =
-    let is = a.set 1 (setting workers_rule 0) (omega arith) in
-    number_in_range workers_rule.name 1 64 (Some 1) is.0 c.workers (λ m e. by_default 1 64 1 m e (omega arith) (omega arith)) is.2
+workers_in_range words c a = workers_set a.options c.workers (a.set 1 (setting workers_rule 0) (omega arith))
 
 -- what a task's own options set
 own_sizes : (options : List Given) (t : Task) → All (IsSetBy options) (own_settings t) → IsOfSizes t

@@ -27,14 +27,18 @@ use Rattle.spasm_run.specs.Input.{Input, SaysContents, WasRead, WereRead, WereRe
 abbrev pub from_start : ℕ → ℕ → List Due → Request
 from_start p limit due = record { modulus = p; limit = limit; due = due }
 
+-- nothing was taken
+abbrev pub untaken : Input
+untaken = record { bytes = []; ended = false }
+
 -- nothing was asked of the source
 pub read_nothing : (r : Request) (source : SourceState) → WasRead r (Err error.Memory) source source
-read_nothing r source = record { input = record { bytes = []; ended = false }; draws = draws_none (IsShort r) (untouched source); says = tt }
+read_nothing r source = record { input = untaken; draws = draws_none (IsShort r) (untouched source); says = tt }
 
 -- where no text is due, all is read
 pub all_read : (p limit : ℕ) (source : SourceState) → WasRead (from_start p limit []) (Ok (matrices_alone [])) source source
 all_read p limit source = record {
-  input = record { bytes = []; ended = false };
+  input = untaken;
   draws = draws_none (IsShort (from_start p limit [])) (untouched source);
   says = record { items = []; rest = lines []; reads = refl; are = refl };
 }

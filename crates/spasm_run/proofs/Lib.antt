@@ -11,6 +11,7 @@ pub mod Matching
 pub mod OneAnswer
 pub mod OneSelection
 pub mod OneTrace
+pub mod Outcomes
 pub mod PlaceSums
 pub mod Program
 pub mod Reading

@@ -1,5 +1,5 @@
 -- From what was found to what a run did.
-use Rattle.std.proofs.Common.{ℕ, Bool, true, false, ◌≡◌, ◌⊎◌, ◌++◌, List, [], ◌∷◌, None, Some, Result, Ok, Err, refl, sym, ap, ap₂, ◌∙◌, subst, inl, inr}
+use Rattle.std.proofs.Common.{ℕ, Bool, true, false, ◌≡◌, ◌⊎◌, ◌++◌, List, [], ◌∷◌, Result, Ok, Err, refl, sym, ap, ◌∙◌, subst, inl, inr}
 use Rattle.std.specs.Result.{IsErrAnd}
 use Rattle.std.proofs.lemmas.Result.{err_from_is_err_and}
 use Rattle.residue_words.specs.Matrix.{Matrix}
@@ -9,7 +9,7 @@ use Rattle.sms_text.specs.declared.kind.TextError.TheVariants as error
 use Rattle.sms_text.specs.declared.write.WriteFault.{WriteFault}
 use Rattle.sms_text.specs.Reading.{Draws, IsShort, untouched}
 use Rattle.sms_text.specs.Stream.{SinkState, SourceState, Gained, Rose}
-use Rattle.sms_text.specs.Text.{Got, Fault, FirstFault, Header, Reading, Request, reading}
+use Rattle.sms_text.specs.Text.{FirstFault, Header, Request}
 use Rattle.sms_text.specs.Writing.{Writes}
 use Rattle.sms_text.proofs.Moving.{draws_none, draws_with}
 use Rattle.spasm_run.specs.declared.answer.Answer.{Answer}
@@ -21,15 +21,15 @@ use Rattle.spasm_run.specs.declared.generator.Generator.{Generator}
 use Rattle.spasm_run.specs.declared.words.Task.{Task}
 use Rattle.spasm_run.specs.declared.words.Task.TheVariants as task
 use Rattle.spasm_run.specs.Answers.{EndsWith, misfit, wanted}
-use Rattle.spasm_run.specs.Contents.{Contents, contents, matrices_alone}
+use Rattle.spasm_run.specs.Contents.{Contents, matrices_alone}
 use Rattle.spasm_run.specs.Computed.{ComesOf, ComesOfContents, IsFoundIn, WasFound, answer_text, asking, is_unread_in, status_behind}
 use Rattle.spasm_run.specs.Input.{HasContents, Input, WasRead, supply_behind}
-use Rattle.spasm_run.specs.Ran.{AreTooFew, HasAnswer, EndsOrMemory, Explains, HasNoAnswer, HasWritten, IsAnswered, IsMisfit, IsOffered, IsOrMemory, Ran, Run, request, whole_input}
+use Rattle.spasm_run.specs.Ran.{AreTooFew, HasAnswer, Explains, HasNoAnswer, HasWritten, IsAnswered, IsMisfit, IsOffered, IsOrMemory, Ran, Run, request, whole_input}
 use Rattle.spasm_run.specs.Status.{is_unread, is_written, status_of}
 use Rattle.spasm_run.specs.Words.{Accepted, AreRefused}
 use Rattle.spasm_run.proofs.Exact.{one_command}
-use Rattle.spasm_run.proofs.Input.{all_read}
-use Rattle.spasm_run.proofs.Stays.{Keeps, told_of_all}
+use Rattle.spasm_run.proofs.Input.{all_read, untaken}
+use Rattle.spasm_run.proofs.Outcomes.{Answered, Endings, Faulty, Outcome, Refused, Wanting, answers_whole, contents_of_all, fault_of_all, names_fault, refuses_shape, run_between}
 
 -- what comes of the matrices that were read for a command is found for the words that ask for it
 module _ (words : List (List ℕ)) (c : Command) (limit : ℕ) (accepted : Accepted words c) (old new : SourceState) where
@@ -156,72 +156,53 @@ unread_of_one words c p limit old new e result one modulus is accepted was =
     found_unread words c c.task p limit old new e result refl modulus is accepted read
 
 -- nothing was asked of the source where no command is accepted, or memory was wanted for the words
-nothing : Input
-nothing = record { bytes = []; ended = false }
-
 pub found_refused : (words : List (List ℕ)) (limit : ℕ) (source : SourceState) → AreRefused words → WasFound words limit (Err status.Usage) source source
-unfolding nothing
-found_refused words limit source refused = record { input = nothing; draws = draws_none (AreTooFew words limit) (untouched source); found = refused }
+found_refused words limit source refused = record { input = untaken; draws = draws_none (AreTooFew words limit) (untouched source); found = refused }
 
 pub found_memory : (words : List (List ℕ)) (limit : ℕ) (source : SourceState) → WasFound words limit (Err status.Memory) source source
-unfolding nothing
-found_memory words limit source = record { input = nothing; draws = draws_none (AreTooFew words limit) (untouched source); found = tt }
+found_memory words limit source = record { input = untaken; draws = draws_none (AreTooFew words limit) (untouched source); found = tt }
 
--- an input is read as one thing, and then it has no fault
-pub one_reading : (r : Request) (input : Input) (said said' : Contents) → HasContents r input said → HasContents r input said' → said ≡ said'
-one_reading r input said said' a b =
-    let both : Got a.items a.rest ≡ Got b.items b.rest = sym a.reads ∙ b.reads in
-    let same : a.items ≡ b.items = cc in
-    sym a.are ∙ ap (contents r.modulus) same ∙ b.are
-
-pub no_fault : (r : Request) (input : Input) (said : Contents) (line : ℕ) (k : Kind) → HasContents r input said → FirstFault r input.bytes input.ended line k → ⊥
-no_fault r input said line k a fault =
-    let both : Got a.items a.rest ≡ Fault line k = sym a.reads ∙ fault in
-    cc
-
--- what a run came to that had these bytes left, where its source did not fail
-data Outcome (r : Run) (c : Command) (bytes : List ℕ) (s : Status) : Type 0 where
-  Wanting : s ≡ status.Memory → Outcome r c bytes s
-  Faulty : (line : ℕ) (k : Kind) → FirstFault (request c r.limit) bytes true line k → s ≡ status.BadText line k → Outcome r c bytes s
-  Refused : IsMisfit c r.limit (whole_input bytes) s → Outcome r c bytes s
-  Answered : (said : Contents) → HasContents (request c r.limit) (whole_input bytes) said → misfit c.task said.matrices ≡ None →
-      EndsWith c.task c.modulus said s ⊎ Rose r.out.faults r.out_after.faults → Outcome r c bytes s
+-- how a command ends
+abbrev endings : Command → Endings Status
+endings c = record { memory = status.Memory; bad_text = status.BadText; misfit = misfit c.task; Answers = EndsWith c.task c.modulus }
 
 module _ (r : Run) (input : Input) where
   abbrev Takes : Status → Type 0
   Takes s = Draws (AreTooFew r.words r.limit) (is_unread s) input.bytes (untouched r.source) (supply_behind input r.source_after)
 
+  abbrev OutputFailed : Type 0
+  OutputFailed = Rose r.out.faults r.out_after.faults
+
   module _ (c : Command) (bytes : List ℕ) (offered : IsOffered r c bytes) where
-    -- what the input says, all the bytes say
-    all_say : (s : Status) (said : Reading) → Takes s → reading (request c r.limit) input.ended input.bytes ≡ said → Keeps said (reading (request c r.limit) true bytes)
-    all_say s said takes e = told_of_all (request c r.limit) input (AreTooFew r.words r.limit) (is_unread s) r.source r.source_after bytes said takes offered.told e
+    abbrev ComesTo : Status → Type 0
+    ComesTo s = Outcome (endings c) (request c r.limit) OutputFailed bytes s
 
     all_fault : (s : Status) (d : Command) (line : ℕ) (k : Kind) → Takes s → Accepted r.words d → FirstFault (request d r.limit) input.bytes input.ended line k →
         FirstFault (request c r.limit) bytes true line k
     all_fault s d line k takes accepted fault =
-        all_say s (Fault line k) takes (subst (λ d. FirstFault (request d r.limit) input.bytes input.ended line k) (one_command r.words d c accepted offered.accepted) fault)
+        fault_of_all (request c r.limit) input (AreTooFew r.words r.limit) (is_unread s) r.source r.source_after bytes takes offered.told line k
+        (subst (λ d. FirstFault (request d r.limit) input.bytes input.ended line k) (one_command r.words d c accepted offered.accepted) fault)
 
     all_contents : (s : Status) (said : Contents) → Takes s → HasContents (request c r.limit) input said → HasContents (request c r.limit) (whole_input bytes) said
-    all_contents s said takes has =
-        let all = all_say s (Got has.items has.rest) takes has.reads in record { items = has.items; rest = all.0; reads = all.1; are = has.are }
+    all_contents s said takes has = contents_of_all (request c r.limit) input (AreTooFew r.words r.limit) (is_unread s) r.source r.source_after bytes takes offered.told said has
 
-    misfit_outcome : (s : Status) (d : Command) → Takes s → Accepted r.words d → IsMisfit d r.limit input s → Outcome r c bytes s
+    misfit_outcome : (s : Status) (d : Command) → Takes s → Accepted r.words d → IsMisfit d r.limit input s → ComesTo s
     misfit_outcome s d takes accepted is =
         let at = subst (λ d. IsMisfit d r.limit input s) (one_command r.words d c accepted offered.accepted) is in
-        Refused (record { said = at.said; reads = all_contents s at.said takes at.reads; refused = at.refused })
+        Refused at.said (all_contents s at.said takes at.reads) at.refused
 
     answered_at : (text : List ℕ) (t : Status) → IsAnswered r.words r.limit input text t → HasAnswer c r.limit input text t
     answered_at text t (d, accepted, has) = subst (λ d. HasAnswer d r.limit input text t) (one_command r.words d c accepted offered.accepted) has
 
-    written_outcome : (s : Status) → Takes s → HasWritten r input s → Outcome r c bytes s
+    written_outcome : (s : Status) → Takes s → HasWritten r input s → ComesTo s
     written_outcome s takes (text, answered, gained) =
         let at = answered_at text s answered in Answered at.said (all_contents s at.said takes at.reads) at.fits (inl at.ends)
 
-    failed_outcome : (s t : Status) (text : List ℕ) → Takes s → IsAnswered r.words r.limit input text t → Rose r.out.faults r.out_after.faults → Outcome r c bytes s
+    failed_outcome : (s t : Status) (text : List ℕ) → Takes s → IsAnswered r.words r.limit input text t → OutputFailed → ComesTo s
     failed_outcome s t text takes answered rose =
         let at = answered_at text t answered in Answered at.said (all_contents s at.said takes at.reads) at.fits (inr rose)
 
-    outcome : (s : Status) → Takes s → Explains r input s → Outcome r c bytes s
+    outcome : (s : Status) → Takes s → Explains r input s → ComesTo s
     outcome status.Done takes cause = written_outcome status.Done takes cause
     outcome status.No takes cause = written_outcome status.No takes cause
     outcome status.Usage takes cause = absurd (cause.0 c offered.accepted)
@@ -231,44 +212,6 @@ module _ (r : Run) (input : Input) where
     outcome status.WriteFault takes cause = failed_outcome status.WriteFault cause.2 (cause.0 ++ cause.1) takes cause.3 cause.4.rose
     outcome status.Memory takes cause = Wanting refl
     outcome (status.Wide h w) takes cause = misfit_outcome (status.Wide h w) cause.0.0 takes cause.0.1 cause.0.2
-
-    -- a fault is named
-    names_fault : (s : Status) (line : ℕ) (k : Kind) → FirstFault (request c r.limit) bytes true line k → Outcome r c bytes s → IsOrMemory (status.BadText line k) s
-    names_fault s line k fault (Wanting memory) = inr memory
-    names_fault s line k fault (Faulty line' k' fault' is) =
-        let both : Fault line' k' ≡ Fault line k = sym fault' ∙ fault in
-        let lines : line' ≡ line = cc in
-        let kinds : k' ≡ k = cc in
-        inl (is ∙ ap₂ status.BadText lines kinds)
-    names_fault s line k fault (Refused m) = absurd (no_fault (request c r.limit) (whole_input bytes) m.said line k m.reads fault)
-    names_fault s line k fault (Answered said has fits ends) = absurd (no_fault (request c r.limit) (whole_input bytes) said line k has fault)
-
-    -- shapes are refused
-    refuses_shape : (s t : Status) → IsMisfit c r.limit (whole_input bytes) t → Outcome r c bytes s → IsOrMemory t s
-    refuses_shape s t is (Wanting memory) = inr memory
-    refuses_shape s t is (Faulty line k fault e) = absurd (no_fault (request c r.limit) (whole_input bytes) is.said line k is.reads fault)
-    refuses_shape s t is (Refused m) =
-        let same = ap (λ (x : Contents). x.matrices) (one_reading (request c r.limit) (whole_input bytes) m.said is.said m.reads is.reads) in
-        let both : Some s ≡ Some t = sym m.refused ∙ ap (misfit c.task) same ∙ is.refused in
-        let one : s ≡ t = cc in
-        inl one
-    refuses_shape s t is (Answered said has fits ends) =
-        let same = ap (λ (x : Contents). x.matrices) (one_reading (request c r.limit) (whole_input bytes) said is.said has is.reads) in
-        let both : None ≡ Some t = sym fits ∙ ap (misfit c.task) same ∙ is.refused in
-        absurd (let none : ⊥ = cc in none)
-
-    -- and what fits is answered
-    answers_whole : (s : Status) (said : Contents) → HasContents (request c r.limit) (whole_input bytes) said → misfit c.task said.matrices ≡ None →
-        (Rose r.out.faults r.out_after.faults → ⊥) → Outcome r c bytes s → EndsOrMemory c said s
-    answers_whole s said has fits calm (Wanting memory) = inr memory
-    answers_whole s said has fits calm (Faulty line k fault e) = absurd (no_fault (request c r.limit) (whole_input bytes) said line k has fault)
-    answers_whole s said has fits calm (Refused m) =
-        let same = ap (λ (x : Contents). x.matrices) (one_reading (request c r.limit) (whole_input bytes) said m.said has m.reads) in
-        let both : None ≡ Some s = sym fits ∙ ap (misfit c.task) same ∙ m.refused in
-        absurd (let none : ⊥ = cc in none)
-    answers_whole s said has fits calm (Answered said' has' fits' (inl ends)) =
-        let same = one_reading (request c r.limit) (whole_input bytes) said' said has' has in inl (subst (λ x. EndsWith c.task c.modulus x s) same ends)
-    answers_whole s said has fits calm (Answered said' has' fits' (inr rose)) = absurd (calm rose)
 
   -- words that no command accepts
   refuses_words : (s : Status) → Explains r input s → AreRefused r.words → IsOrMemory status.Usage s
@@ -290,14 +233,11 @@ module _ (r : Run) (input : Input) where
     cause = cause;
     complete = record {
       usage = refuses_words s cause;
-      fault = λ c bytes line k offered fault. names_fault c bytes offered s line k fault (outcome c bytes offered s takes cause);
-      shape = λ c bytes t offered is. refuses_shape c bytes offered s t is (outcome c bytes offered s takes cause);
-      done = λ c bytes said offered has fits calm. answers_whole c bytes offered s said has fits calm (outcome c bytes offered s takes cause);
+      fault = λ c bytes line k offered fault. names_fault (endings c) (request c r.limit) OutputFailed bytes s line k fault (outcome c bytes offered s takes cause);
+      shape = λ c bytes t offered is. refuses_shape (endings c) (request c r.limit) OutputFailed bytes s is.said is.reads t is.refused (outcome c bytes offered s takes cause);
+      done = λ c bytes said offered has fits calm. answers_whole (endings c) (request c r.limit) OutputFailed bytes s said has fits calm (outcome c bytes offered s takes cause);
     };
   }
-
-abbrev run_between : List (List ℕ) → ℕ → SourceState → SourceState → SinkState → SinkState → Run
-run_between words limit old new out out' = record { words = words; limit = limit; source = old; source_after = new; out = out; out_after = out' }
 
 -- no answer was found
 pub ran_without : (words : List (List ℕ)) (limit : ℕ) (old new : SourceState) (out : SinkState) (s : Status) → WasFound words limit (Err s) old new → Ran (run_between words limit old new out out) s

@@ -6,8 +6,8 @@ ghost use Rattle.spasm_run.specs.Generator.{numbered_line};
 
 use sms_text::{Sink, WriteFault, write_number, write_text};
 
-/// Writes a line of two numbers, each behind a text.
-pub fn write_two_numbers<K: Sink>(
+// Writes a line of two numbers, each behind a text.
+pub(crate) fn write_two_numbers<K: Sink>(
     out: &mut K,
     first: &str,
     a: u64,

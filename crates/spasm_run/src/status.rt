@@ -65,8 +65,8 @@ impl Status {
         }
     }
 
-    // Writes the fault line to the error stream, if the status has one. Where the stream fails, nothing more is done.
-    pub(crate) fn tell<E: Sink>(self, err: &mut E)
+    /// Writes the fault line to the error stream, if the status has one. Where the stream fails, nothing more is done.
+    pub fn tell<E: Sink>(self, err: &mut E)
         ensures did { SaysWhy self (E.state err.old) (E.state err.new) }
         ensures silent { is_answered self ≡ true → err.new ≡ err.old }
     {

@@ -3,7 +3,7 @@ ghost use Rattle.std.specs.Prelude.{◌≤◌, IfOk};
 ghost use Rattle.certificates.specs.Certificate.{IsFormed};
 ghost use Rattle.pluq_factor.specs.Rounds.{AreFactorsOf};
 
-use crate::texts::matrix;
+use crate::texts::{PRIME, matrix};
 use cert_checker::check;
 use certificates::{CertKind, Certificate};
 use optimistic_search::Open;
@@ -14,9 +14,6 @@ use std::alloc::Global;
 use std::io::{self, Read};
 use std::thread::Threads;
 use std::time::{Clock, Instant};
-
-// The modulus of the matrices.
-const PRIME: u64 = 42013;
 
 // Says how long the factors by one worker take that make a certificate of the rank, and how long its check takes; whether it is
 // valid; and how many entries the matrix, the left and the right factor have.

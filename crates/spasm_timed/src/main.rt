@@ -7,7 +7,6 @@
 #![tactic(auto)]
 
 mod added_rows;
-mod board;
 mod certified;
 mod counts;
 mod factored;
@@ -17,13 +16,12 @@ mod task;
 mod texts;
 
 use added_rows::time_additions;
-use board::time_board;
 use certified::time_certificate;
 use factored::time_factors;
 use pluq_factor::Plan;
 use residue_words::{MODULUS_BOUND, Modulus};
 use rounds::time_rounds;
-use searched::{time_pivots, time_walks};
+use searched::{time_board, time_pivots, time_walks};
 use std::alloc::Global;
 use std::io::{self, Read, Write};
 use std::process::ExitCode;

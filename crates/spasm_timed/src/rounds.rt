@@ -1,7 +1,7 @@
 // The rank of a matrix, and the structural rounds that lead to it.
 ghost use Rattle.std.specs.Prelude.{◌≡◌, ◌≤◌};
 
-use crate::texts::matrix;
+use crate::texts::{PRIME, matrix};
 use fl_pivots::leftmost;
 use optimistic_search::{Open, search_counted};
 use pluq_factor::{Plan, rank};
@@ -13,9 +13,6 @@ use std::io::{self, Read};
 use std::thread::Threads;
 use std::time::{Clock, Instant};
 use triangular_solve::Triangle;
-
-// The modulus of the matrices.
-const PRIME: u64 = 42013;
 
 // Says of each of so many rounds how long its pivots take and how many they are, how long the complement takes, and of what size it
 // is and how many entries it has; and then how long the whole rank takes, and the rank.

@@ -9,6 +9,9 @@ use std::io::{self, ErrorKind, Read, Write};
 use std::time::{Clock, Instant};
 use std_edge::{FromRead, ToWrite};
 
+// The modulus of the matrices, where the words tell none.
+pub(crate) const PRIME: u64 = 42013;
+
 // The largest input, in bytes.
 const LIMIT: u64 = 1099511627776;
 
