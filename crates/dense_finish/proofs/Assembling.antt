@@ -14,7 +14,7 @@ use Rattle.dense_finish.specs.declared.pivots.Pivots.{Pivots}
 use Rattle.dense_finish.specs.declared.right_factor.RightFactor.{RightFactor}
 use Rattle.dense_finish.specs.Block.{DenseBlock, IsBlock, IsBlockOf, IsDense, block_row, with_entries}
 use Rattle.dense_finish.specs.Factors.{IsFactored, IsLeftFactor}
-use Rattle.dense_finish.specs.Pivots.{AreEliminated, AreFound, ArePivotPlaces, Eliminates, IsRightFactorOf, SplitBy, filled_entry}
+use Rattle.dense_finish.specs.Pivots.{AreEliminated, AreFound, ArePivotPlaces, EliminatesBlock, IsRightFactorOf, SplitBy, filled_entry}
 use Rattle.dense_finish.specs.Splitting.{IsTaken, parts}
 use Rattle.dense_finish.proofs.Indexing.{AreIndices, IsEmptyColumn, IsEmptyRow, filled_indices, index_or_not, occupied_indices}
 use Rattle.dense_finish.proofs.Splitting.{fresh, steps_front}
@@ -170,7 +170,7 @@ module _ {p : ℕ} {A : Matrix} {row_indices names : List ℕ} {block rows : Lis
 pub eliminates : {E : Type 0} (old : DenseBlock) (rows : List (List ℕ)) (result : Result Pivots E) → IsDense old → length rows ≡ length old.entries →
     IfOk result (AreFound old.modulus old.columns old.width (length old.entries)) →
     IfOk result (λ f. AreEliminated old.modulus (length old.columns) (length old.entries) f rows) →
-    (IsPrime old.modulus → IfOk result (λ f. SplitBy old.modulus old.columns f old.entries rows)) → IfOk result (Eliminates old (with_entries old rows))
+    (IsPrime old.modulus → IfOk result (λ f. SplitBy old.modulus old.columns f old.entries rows)) → IfOk result (EliminatesBlock old (with_entries old rows))
 eliminates old rows (Ok f) dense long found eliminated split = record {
   same = refl;
   dense = record {
@@ -201,7 +201,7 @@ eliminates old rows (Ok f) dense long found eliminated split = record {
 eliminates old rows (Err e) dense long found eliminated split = tt
 
 -- the factors of A by its eliminated block
-pub assembled : {A L : ResidueMatrix} {old new : DenseBlock} {f : Pivots} {right : RightFactor} → IsBlockOf A old → Eliminates old new f → L.modulus ≡ new.modulus → IsMatrix new.modulus L.matrix →
+pub assembled : {A L : ResidueMatrix} {old new : DenseBlock} {f : Pivots} {right : RightFactor} → IsBlockOf A old → EliminatesBlock old new f → L.modulus ≡ new.modulus → IsMatrix new.modulus L.matrix →
     IsLeftFactor new.height new.rows f.columns.items new.entries L.matrix → IsRightFactorOf new f right →
     IsFactored A.modulus A.matrix (record { pivots = right.pivots; l = L; u = right.u })
 assembled {A} {L} {old} {new} {f} {right} is done left_modulus left_matrix left is_right =

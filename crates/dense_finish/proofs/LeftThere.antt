@@ -7,7 +7,7 @@ use Rattle.dense_finish.specs.declared.pivots.Pivots.{Pivots}
 use Rattle.dense_finish.specs.declared.right_factor.RightFactor.{RightFactor}
 use Rattle.dense_finish.specs.Block.{AreVectors, DenseBlock, IsBlockOf, entry_of}
 use Rattle.dense_finish.specs.Factors.{IsLeftFactor, IsRightFactored}
-use Rattle.dense_finish.specs.Pivots.{Eliminates, IsRightFactorOf}
+use Rattle.dense_finish.specs.Pivots.{EliminatesBlock, IsRightFactorOf}
 use Rattle.dense_finish.proofs.Assembling.{assembled, indices_apart}
 use Rattle.dense_finish.proofs.Indexing.{AreIndices, index_or_not}
 
@@ -50,7 +50,7 @@ module _ (p m n : ℕ) (indices columns : List ℕ) (rows : List (List ℕ)) {Ab
   }
 
 -- the pivots and the right factor of the eliminated block of A
-pub right_assembled : {A : ResidueMatrix} {old new : DenseBlock} {f : Pivots} {right : RightFactor} → IsBlockOf A old → Eliminates old new f → IsRightFactorOf new f right →
+pub right_assembled : {A : ResidueMatrix} {old new : DenseBlock} {f : Pivots} {right : RightFactor} → IsBlockOf A old → EliminatesBlock old new f → IsRightFactorOf new f right →
     IsRightFactored A.modulus A.matrix right
 right_assembled {A} {old} {new} {f} {right} is done is_right =
     let dense = done.dense in

@@ -126,7 +126,7 @@ pub record StandIn (block : DenseBlock) (f : Pivots) : Type 0 where
       entry_of block.entries t (slice_index f.columns.items k) ≡ 0
 
 -- an elimination of the block `old` finds these pivots and leaves `new`
-pub record Eliminates (old new : DenseBlock) (f : Pivots) : Type 0 where
+pub record EliminatesBlock (old new : DenseBlock) (f : Pivots) : Type 0 where
   pub same : new ≡ with_entries old new.entries
   pub dense : IsDense new
   pub stand : StandIn new f

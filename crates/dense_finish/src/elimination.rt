@@ -10,7 +10,7 @@ ghost use Rattle.dense_finish.specs.Units.{HasUnits};
 ghost use Rattle.dense_finish.specs.Dense.{IsFirstFree, IsPivotOf, KeepsCoefficients};
 ghost use Rattle.dense_finish.specs.Factors.{IsFactored};
 ghost use Rattle.sparse_rows.specs.Rows.{AreBelow};
-ghost use Rattle.dense_finish.specs.Pivots.{AddsPivot, AreEliminated, AreFound, CanGoOn, Eliminates, FindsPanel, HasReached, IsPanelFrom, KeepsPivots, KeepsSplit, SplitBy, count, pivot_at, panel_stage, stage};
+ghost use Rattle.dense_finish.specs.Pivots.{AddsPivot, AreEliminated, AreFound, CanGoOn, EliminatesBlock, FindsPanel, HasReached, IsPanelFrom, KeepsPivots, KeepsSplit, SplitBy, count, pivot_at, panel_stage, stage};
 
 use crate::block::Block;
 use crate::dense::Dense;
@@ -104,7 +104,7 @@ fn finish_in<R: Threads + Sync, W: Reducing>(
 }
 
 impl<W: Reducing> Block<W> {
-    // Eliminates the block by so many workers: what is left are the coefficients of its rows at the pivots.
+    // EliminatesBlock the block by so many workers: what is left are the coefficients of its rows at the pivots.
     pub(crate) fn eliminate<R: Threads + Sync>(
         &mut self,
         rt: &R,
@@ -114,7 +114,7 @@ impl<W: Reducing> Block<W> {
         requires modulus { W.serves self.old.modulus }
         requires some { 1 ≤ workers }
         requires dense { IsDense self.old }
-        ensures { IfOk result (Eliminates self.old self.new) }
+        ensures { IfOk result (EliminatesBlock self.old self.new) }
     {
         let elimination = Elimination {
             alloc,
@@ -142,7 +142,7 @@ fn rows_of_finder(rows: RowRange, height: usize, workers: usize) -> usize
 }
 
 impl<'a> Elimination<'a> {
-    // Eliminates a block of a matrix of this width, panel by panel.
+    // EliminatesBlock a block of a matrix of this width, panel by panel.
     fn eliminate<R: Threads + Sync, W: Reducing>(
         &self,
         rt: &R,
@@ -298,7 +298,8 @@ impl<'a> Elimination<'a> {
             AreFound self.now.p self.now.columns.now pivots.old.u.matrix.width rows.end pivots.new) }
         ensures eliminated { IfOk result (λ _.
             AreEliminated self.now.p (length self.now.columns.now) rows.end pivots.new block.new) }
-        ensures panel { IfOk result (IsPanelFrom self.now.p self.now.columns.now (count pivots.old) pivots.new) }
+        ensures panel { IfOk result
+            (IsPanelFrom self.now.p self.now.columns.now (count pivots.old) pivots.new) }
         ensures kept { IfOk result (λ _. KeepsPivots self.now.columns.now pivots.old pivots.new) }
         ensures split { IsPrime self.now.p → IfOk result (λ _. KeepsSplit self.now.p self.now.columns.now
             (stage pivots.old block.old rows.start) (stage pivots.new block.new rows.end)) }

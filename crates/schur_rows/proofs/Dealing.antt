@@ -3,7 +3,7 @@ use Rattle.std.proofs.Common.{ℕ, ◌≡◌, ◌+◌, List, All, subst, ap, ari
 use Rattle.std.proofs.lemmas.List.Elements.{All-contains}
 use Rattle.residue_words.specs.Matrix.{Matrix}
 use Rattle.triangular_solve.specs.Triangle.{TriangleState}
-use Rattle.schur_rows.specs.Parts.{Holds, IsDeal, IsNumbered, IsPartOf, IsPartTo, Joins, cut_at}
+use Rattle.schur_rows.specs.Parts.{IsPartAmong, IsDeal, IsNumbered, IsPartOf, IsPartTo, Joins, cut_at}
 use Rattle.schur_rows.specs.declared.round.SchurRows.{SchurRows}
 use Rattle.schur_rows.specs.declared.deal.Deal.{Deal}
 use Rattle.schur_rows.specs.declared.numbered_part.NumberedPart.{NumberedPart}
@@ -28,5 +28,5 @@ part_at {t} deal j {from} {to} {s} a b part = subst (λ a. IsPartTo t deal.pass.
 
 -- a part by its number
 pub part_of_number : (t : TriangleState) (deal : Deal) (parts : List NumberedPart) → All (IsNumbered t deal) parts →
-    (number : ℕ) (s : SchurRows) → Holds parts number s → IsPartOf t deal number s
+    (number : ℕ) (s : SchurRows) → IsPartAmong parts number s → IsPartOf t deal number s
 part_of_number t deal parts all number s held = All-contains (IsNumbered t deal) parts (record { number = number; left = s }) all held

@@ -120,12 +120,12 @@ abbrev pub IsNumbered : TriangleState → Deal → NumberedPart → Type 0
 IsNumbered t deal part = IsPartOf t deal part.number part.left
 
 -- parts that a worker made, where memory did not run out
-abbrev pub IsShare : {E : Type 0} → TriangleState → Deal → Result (Vec NumberedPart Global) E → Type 0
-IsShare {E} t deal share = IfOk share (λ parts. All (IsNumbered t deal) parts.items)
+abbrev pub IsWorkersShare : {E : Type 0} → TriangleState → Deal → Result (Vec NumberedPart Global) E → Type 0
+IsWorkersShare {E} t deal share = IfOk share (λ parts. All (IsNumbered t deal) parts.items)
 
 -- among these is a part of this number
-abbrev pub Holds : List NumberedPart → ℕ → SchurRows → Type 0
-Holds parts number s = Contains parts (record { number = number; left = s })
+abbrev pub IsPartAmong : List NumberedPart → ℕ → SchurRows → Type 0
+IsPartAmong parts number s = Contains parts (record { number = number; left = s })
 
 -- the parts before the stage's are made, and some of these joined
 pub record IsStage (deal : Deal) (stage : Stage) : Type 0 where

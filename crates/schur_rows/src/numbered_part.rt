@@ -1,6 +1,6 @@
 // A part of what a round leaves, that knows which one it is.
 ghost use Rattle.std.specs.Prelude.{IfSome};
-ghost use Rattle.schur_rows.specs.Parts.{Holds};
+ghost use Rattle.schur_rows.specs.Parts.{IsPartAmong};
 
 use crate::round::SchurRows;
 
@@ -13,7 +13,7 @@ pub(crate) struct NumberedPart {
 
 // The part of this number, if it is among these.
 pub(crate) fn part_among(parts: &[NumberedPart], number: usize) -> Option<&SchurRows>
-    ensures { IfSome result (λ left. Holds parts.now number left.now) }
+    ensures { IfSome result (λ left. IsPartAmong parts.now number left.now) }
 {
     for part in parts {
         if part.number == number {

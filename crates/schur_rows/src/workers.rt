@@ -2,7 +2,7 @@
 ghost use Rattle.std.specs.Prelude.{◌≡◌, ◌<◌, ◌≤◌, ◌+◌, All, IfOk, OnOk};
 ghost use Rattle.std.specs.Thread.{IsSync};
 ghost use Rattle.sparse_rows.specs.declared.rows.TheConstants.{LARGEST_SIZE};
-ghost use Rattle.schur_rows.specs.Parts.{IsDeal, IsNumbered, IsPartOf, IsPartTo, IsShare, IsStage, Joins, cut_at};
+ghost use Rattle.schur_rows.specs.Parts.{IsDeal, IsNumbered, IsPartOf, IsPartTo, IsWorkersShare, IsStage, Joins, cut_at};
 ghost use Rattle.schur_rows.specs.PivotNumbers.{HasNumbers};
 ghost use Rattle.triangular_solve.specs.Reduced.{workspace_of};
 
@@ -150,7 +150,7 @@ fn next_stage<R: Threads + Sync>(
     requires parts { All (IsNumbered deal.pass.reducer.now deal) parts.now }
     requires made { IsPartTo deal.pass.reducer.now deal.pass.kept
         deal.from (cut_at deal stage.joined) made.old }
-    ensures parts { IsShare deal.entry.pass.reducer.now deal.entry result }
+    ensures parts { IsWorkersShare deal.entry.pass.reducer.now deal.entry result }
     ensures made { OnOk result (IsPartTo deal.entry.pass.reducer.now deal.entry.pass.kept
         deal.entry.from (cut_at deal.entry stage.begun) made.new) }
 {
@@ -160,7 +160,7 @@ fn next_stage<R: Threads + Sync>(
         requires { IsSync R.row × (1 ≤ helpers) × IsDeal deal × (stage.end ≤ deal.count)
             × (deal.to ≤ deal.pass.reducer.now.rows.matrix.height)
             × HasNumbers deal.pass.reducer.now.pairs deal.pass.pivot_rows.now }
-        ensures { IsShare deal.entry.pass.reducer.now deal.entry result }
+        ensures { IsWorkersShare deal.entry.pass.reducer.now deal.entry result }
     { parts_by(rt, alloc, deal, stage.end, &next, helpers) };
     let mut own = || -> Share
         requires { IsDeal deal × IsStage deal stage
@@ -168,7 +168,7 @@ fn next_stage<R: Threads + Sync>(
             × HasNumbers deal.pass.reducer.now.pairs deal.pass.pivot_rows.now
             × All (IsNumbered deal.pass.reducer.now deal) parts.now
             × IsPartTo deal.pass.reducer.now deal.pass.kept deal.from (cut_at deal stage.joined) made.now }
-        ensures { IsShare deal.entry.pass.reducer.now deal.entry result
+        ensures { IsWorkersShare deal.entry.pass.reducer.now deal.entry result
             × OnOk result (IsPartTo deal.entry.pass.reducer.now deal.entry.pass.kept
             deal.entry.from (cut_at deal.entry stage.begun) made.exit.now) }
     { join_and_go_on(alloc, deal, stage, &next, parts, made) };
@@ -195,7 +195,7 @@ fn join_and_go_on(
     requires parts { All (IsNumbered deal.pass.reducer.now deal) parts.now }
     requires made { IsPartTo deal.pass.reducer.now deal.pass.kept
         deal.from (cut_at deal stage.joined) made.old }
-    ensures parts { IsShare deal.entry.pass.reducer.now deal.entry result }
+    ensures parts { IsWorkersShare deal.entry.pass.reducer.now deal.entry result }
     ensures made { OnOk result (IsPartTo deal.entry.pass.reducer.now deal.entry.pass.kept
         deal.entry.from (cut_at deal.entry stage.begun) made.new) }
 {
@@ -217,7 +217,7 @@ fn parts_by<R: Threads + Sync>(
     requires inside { deal.to ≤ deal.pass.reducer.now.rows.matrix.height }
     requires numbers { HasNumbers deal.pass.reducer.now.pairs deal.pass.pivot_rows.now }
     requires end { end ≤ deal.count }
-    ensures { IsShare deal.entry.pass.reducer.now deal.entry result }
+    ensures { IsWorkersShare deal.entry.pass.reducer.now deal.entry result }
 {
     let mut shares = shares_of(rt, alloc, deal, end, next, workers)?;
     let mut parts = Vec::new(alloc);
@@ -242,7 +242,7 @@ fn shares_of<R: Threads + Sync>(
     requires numbers { HasNumbers deal.pass.reducer.now.pairs deal.pass.pivot_rows.now }
     requires end { end ≤ deal.count }
     ensures { IfOk result (λ shares.
-        All (IsShare deal.entry.pass.reducer.now deal.entry) shares.items) }
+        All (IsWorkersShare deal.entry.pass.reducer.now deal.entry) shares.items) }
 {
     thread::map_indices(
         rt,
@@ -258,7 +258,7 @@ fn parts_of_worker(alloc: Global, deal: Deal, end: usize, next: &AtomicU64) -> S
     requires inside { deal.to ≤ deal.pass.reducer.now.rows.matrix.height }
     requires numbers { HasNumbers deal.pass.reducer.now.pairs deal.pass.pivot_rows.now }
     requires end { end ≤ deal.count }
-    ensures { IsShare deal.entry.pass.reducer.now deal.entry result }
+    ensures { IsWorkersShare deal.entry.pass.reducer.now deal.entry result }
 {
     // The call's contract tells how high a matrix is.
     let _ = deal.pass.reducer.rows().height();
