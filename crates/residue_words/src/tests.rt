@@ -1,36 +1,43 @@
 // Each call against values from outside.
+ghost use Rattle.std.specs.Prelude.{◌<◌};
+
 use crate::{Fold, LANE_BOUND, MODULUS_BOUND, Modulus, Shoup};
 use std::test::Fail;
 
 // Each row: p, a, b, then a + b, a - b, -a and a b modulo p.
-const OPERATIONS: [(u64, u64, u64, u64, u64, u64, u64); 8] = [
-    (2, 1, 1, 0, 0, 1, 1),
-    (7, 3, 6, 2, 4, 4, 4),
-    (42013, 14005, 21007, 35012, 35011, 28008, 28009),
-    (4294967296, 4294967295, 4294967295, 4294967294, 0, 1, 1),
+const OPERATIONS: [(u64, u64, u64, [u64; 4]); 8] = [
+    (2, 1, 1, [0, 0, 1, 1]),
+    (7, 3, 6, [2, 4, 4, 4]),
+    (42013, 14005, 21007, [35012, 35011, 28008, 28009]),
+    (4294967296, 4294967295, 4294967295, [4294967294, 0, 1, 1]),
     (
-        4294967296, 1431655766, 2147483649, 3579139415, 3579139413, 2863311530, 1431655766,
+        4294967296,
+        1431655766,
+        2147483649,
+        [3579139415, 3579139413, 2863311530, 1431655766],
     ),
     (
-        4294967311, 1431655771, 2147483656, 3579139427, 3579139426, 2863311540, 2863311541,
+        4294967311,
+        1431655771,
+        2147483656,
+        [3579139427, 3579139426, 2863311540, 2863311541],
     ),
     (
         281474976710597,
         281474976710596,
         281474976710596,
-        281474976710595,
-        0,
-        1,
-        1,
+        [281474976710595, 0, 1, 1],
     ),
     (
         281474976710597,
         93824992236866,
         140737488355299,
-        234562480592165,
-        234562480592164,
-        187649984473731,
-        46912496118433,
+        [
+            234562480592165,
+            234562480592164,
+            187649984473731,
+            46912496118433,
+        ],
     ),
 ];
 
@@ -79,18 +86,28 @@ const FOLDS: [(&str, u64, u64, bool); 7] = [
     ),
 ];
 
+// The sum, the difference, the negative and the product of residues.
+fn results(p: &Modulus, a: u64, b: u64) -> [u64; 4]
+    requires first { a < p.now }
+    requires second { b < p.now }
+{
+    [p.add(a, b), p.sub(a, b), p.neg(a), p.mul(a, b)]
+}
+
 #[test]
-fn arithmetic_agrees_with_values_from_outside(rt: HostRuntime) -> Result<(), Fail> {
-    for (p, a, b, sum, difference, negative, product) in OPERATIONS {
+fn operations_agree_with_values_from_outside(rt: HostRuntime) -> Result<(), Fail> {
+    for (p, a, b, wanted) in OPERATIONS {
         assert!(rt; 2 <= p && p < MODULUS_BOUND && a < p && b < p);
         let modulus = Modulus::new(p);
-        assert_eq!(rt; modulus.p(), p);
-        assert_eq!(rt; modulus.add(a, b), sum, "{a} + {b} modulo {p}");
-        assert_eq!(rt; modulus.sub(a, b), difference, "{a} - {b} modulo {p}");
-        assert_eq!(rt; modulus.neg(a), negative, "-{a} modulo {p}");
-        assert_eq!(rt; modulus.mul(a, b), product, "{a} {b} modulo {p}");
-        assert_eq!(rt; modulus.residue(a + b), sum, "{a} + {b} reduced modulo {p}");
+        assert_eq!(rt; results(&modulus, a, b), wanted, "{a} and {b} modulo {p}");
+        let [sum, ..] = wanted;
+        assert!(rt; modulus.p() == p && modulus.residue(a + b) == sum);
     }
+    Ok(())
+}
+
+#[test]
+fn inverses_agree_with_values_from_outside(rt: HostRuntime) -> Result<(), Fail> {
     for (p, a, inverse) in INVERSES {
         assert!(rt; 2 <= p && p < MODULUS_BOUND && 0 < a && a < p);
         assert_eq!(rt; Modulus::new(p).inv(a), inverse, "1 / {a} modulo {p}");
@@ -103,8 +120,11 @@ fn prepared_products_agree_with_values_from_outside(rt: HostRuntime) -> Result<(
     for (p, a, quotient, y, product) in PREPARED {
         assert!(rt; 2 <= p && p < LANE_BOUND && a < p && y < LANE_BOUND);
         let prepared = Shoup::of(a, &Modulus::new(p));
-        assert_eq!(rt; prepared.quotient(), quotient, "{a} 2^32 / {p}");
-        assert_eq!(rt; prepared.times(y), product, "{a} {y} modulo {p}");
+        assert_eq!(rt;
+            (prepared.quotient(), prepared.times(y)),
+            (quotient, product),
+            "{a} {y} modulo {p}"
+        );
     }
     Ok(())
 }
@@ -118,8 +138,11 @@ fn folds_agree_with_values_from_outside(rt: HostRuntime) -> Result<(), Fail> {
             assert!(rt; b'0' <= digit && digit <= b'9');
             fold.push_digit(digit - b'0');
         }
-        assert_eq!(rt; fold.value(), value, "{digits} modulo {p}");
-        assert_eq!(rt; fold.is_zero_integer(), is_zero, "{digits}");
+        assert_eq!(rt;
+            (fold.value(), fold.is_zero_integer()),
+            (value, is_zero),
+            "{digits} modulo {p}"
+        );
     }
     Ok(())
 }
