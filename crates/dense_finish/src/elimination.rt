@@ -104,7 +104,7 @@ fn finish_in<R: Threads + Sync, W: Reducing>(
 }
 
 impl<W: Reducing> Block<W> {
-    // EliminatesBlock the block by so many workers: what is left are the coefficients of its rows at the pivots.
+    // Eliminates the block by so many workers: what is left are the coefficients of its rows at the pivots.
     pub(crate) fn eliminate<R: Threads + Sync>(
         &mut self,
         rt: &R,
@@ -142,7 +142,7 @@ fn rows_of_finder(rows: RowRange, height: usize, workers: usize) -> usize
 }
 
 impl<'a> Elimination<'a> {
-    // EliminatesBlock a block of a matrix of this width, panel by panel.
+    // Eliminates a block of a matrix of this width, panel by panel.
     fn eliminate<R: Threads + Sync, W: Reducing>(
         &self,
         rt: &R,
