@@ -103,7 +103,7 @@ pub record IsDeal (deal : Deal) : Type 0 where
   pub few_workers : deal.workers ≤ 64
   pub some : 1 ≤ deal.stage
   pub few_a_stage : deal.stage ≤ 512
-  pub few : deal.count ≤ 2048
+  pub few : deal.count ≤ 4096
   pub small : deal.size ≤ LARGEST_SIZE + 1
   pub covered : deal.to ≤ deal.from + deal.count * deal.size
 

@@ -24,10 +24,10 @@ use triangular_solve::Work;
 const PARTS: usize = 8;
 
 // Where more entries than these are left, one worker joins those of a stage while the next one is made.
-const STAGE_ENTRIES: usize = 1 << 19;
+const STAGE_ENTRIES: usize = 1 << 17;
 
 // But there are no more stages than these.
-const MOST_STAGES: usize = 4;
+const MOST_STAGES: usize = 8;
 
 // Parts that a worker makes, or that memory ran out for it.
 type Share = Result<Vec<NumberedPart>, AllocError>;
@@ -35,7 +35,7 @@ type Share = Result<Vec<NumberedPart>, AllocError>;
 // In how many stages rows are made that leave about so many entries.
 fn stages(entries: usize) -> usize
     ensures some { 1 ≤ result }
-    ensures few { result ≤ 4 }
+    ensures few { result ≤ 8 }
 {
     (entries / STAGE_ENTRIES).max(1).min(MOST_STAGES)
 }
