@@ -1,6 +1,6 @@
 // Each call once, on small matrices modulo 7 and on huge ones with few entries.
 ghost use Rattle.sparse_rows.specs.declared.rows.TheConstants.{LARGEST_SIZE};
-ghost use Rattle.std.specs.Prelude.{◌≡◌, ◌≤◌, ◌+◌, IfOk};
+ghost use Rattle.std.specs.Prelude.{◌≡◌, ◌<◌, ◌≤◌, ◌+◌, All, IfOk};
 
 use crate::{LARGEST_SIZE, List, Rows, RowsBuilder, Sparse};
 use residue_words::Modulus;
@@ -66,7 +66,27 @@ fn scattered(alloc: Global, count: u32, seed: u32) -> Result<Vec<(u32, u32, u64)
 
 // Whether these are the entries, row by row.
 fn lists(alloc: Global, rows: &Rows, entries: &[(u32, u32, u64)]) -> Result<bool, AllocError> {
-    Ok(rows.triples(alloc)?.as_slice() == entries)
+    let triples = rows.triples(alloc)?;
+    Ok(triples.as_slice() == entries)
+}
+
+// Whether the transpose has these entries.
+fn turns_into(alloc: Global, rows: &Rows, entries: &[(u32, u32, u64)]) -> Result<bool, AllocError> {
+    let turned = rows.transpose(alloc)?;
+    lists(alloc, &turned, entries)
+}
+
+// Whether the matrix of two rows has these entries.
+fn selects(
+    alloc: Global,
+    rows: &Rows,
+    numbers: [u32; 2],
+    entries: &[(u32, u32, u64)],
+) -> Result<bool, AllocError>
+    requires { All (λ i. i < rows.now.matrix.height) numbers }
+{
+    let selected = rows.select(alloc, &numbers)?;
+    lists(alloc, &selected, entries)
 }
 
 // Whether what is pushed in no order is summed, in as many rows.
@@ -82,11 +102,9 @@ fn what_is_pushed_in_any_order_is_summed(rt: HostRuntime) -> Result<(), Fail> {
     let alloc = rt.alloc();
     for count in [0, 1, 2, 5, 20, 60, 300] {
         // In few rows, and in many more than there are entries.
-        assert!(rt; is_summed(alloc, 9, count)?, "{count} pushed");
-        assert!(rt;
-            is_summed(alloc, LARGEST_SIZE, count)?,
-            "{count} pushed far apart"
-        );
+        let near = is_summed(alloc, 9, count)?;
+        let far = is_summed(alloc, LARGEST_SIZE, count)?;
+        assert_eq!(rt; (near, far), (true, true), "{count} pushed");
     }
     Ok(())
 }
@@ -127,19 +145,30 @@ const LAST_AND_FIRST: &[(u32, u32, u64)] = &[
 fn small_matrices(rt: HostRuntime) -> Result<(), Fail> {
     let alloc = rt.alloc();
     let x = built(alloc, 3, 3, SMALL)?;
-    assert!(rt; lists(alloc, &x.transpose(alloc)?, SMALL_TURNED)?);
-    assert!(rt; lists(alloc, &x.select(alloc, &[2, 0])?, LAST_AND_FIRST)?);
-    assert_eq!(rt;
-        x.times(alloc, &[5, 1, 0])?.as_slice(),
-        [0, 0, 0].as_slice()
-    );
+    let turned = turns_into(alloc, &x, SMALL_TURNED)?;
+    let selected = selects(alloc, &x, [2, 0], LAST_AND_FIRST)?;
+    assert_eq!(rt; (turned, selected), (true, true));
+    Ok(())
+}
+
+#[test]
+fn products_with_a_vector(rt: HostRuntime) -> Result<(), Fail> {
+    let x = built(rt.alloc(), 3, 3, SMALL)?;
+    let product = x.times(rt.alloc(), &[5, 1, 0])?;
+    assert_eq!(rt; product.as_slice(), [0, 0, 0].as_slice());
     Ok(())
 }
 
 #[test]
 fn sums_that_are_zero_are_no_entries(rt: HostRuntime) -> Result<(), Fail> {
+    let rows = built(rt.alloc(), 1, 1, &[(0, 0, 3), (0, 0, 4)])?;
+    assert_eq!(rt; rows.entries(), 0);
+    Ok(())
+}
+
+#[test]
+fn the_identity_has_ones_alone(rt: HostRuntime) -> Result<(), Fail> {
     let alloc = rt.alloc();
-    assert_eq!(rt; built(alloc, 1, 1, &[(0, 0, 3), (0, 0, 4)])?.entries(), 0);
     let one = Rows::identity(alloc, 2, &Modulus::new(7))?;
     assert!(rt; lists(alloc, &one, &[(0, 0, 1), (1, 1, 1)])?);
     Ok(())
@@ -169,35 +198,34 @@ const FAR_TURNED: &[(u32, u32, u64)] = &[
     (2_147_483_647, 5, 3),
 ];
 
+const FAR_SELECTED: &[(u32, u32, u64)] = &[(1, 7, 2), (1, 2_147_483_647, 3)];
+
 #[test]
 fn huge_matrices(rt: HostRuntime) -> Result<(), Fail> {
     let alloc = rt.alloc();
     let x = built(alloc, LARGEST_SIZE, LARGEST_SIZE, FAR)?;
-    assert!(rt; lists(alloc, &x.copy(alloc)?, FAR_ENTRIES)?);
-    assert!(rt; lists(alloc, &x.transpose(alloc)?, FAR_TURNED)?);
-    assert!(rt;
-        lists(
-            alloc,
-            &x.select(alloc, &[6, 5])?,
-            &[(1, 7, 2), (1, 2_147_483_647, 3)]
-        )?
-    );
+    let copy = x.copy(alloc)?;
+    let copied = lists(alloc, &copy, FAR_ENTRIES)?;
+    let turned = turns_into(alloc, &x, FAR_TURNED)?;
+    let selected = selects(alloc, &x, [6, 5], FAR_SELECTED)?;
+    assert_eq!(rt; (copied, turned, selected), (true, true, true));
     Ok(())
 }
+
+const FAR_FILLED: &[u32] = &[5, 1_000_000_000, 2_147_483_647];
+
+const FAR_OCCUPIED: &[u32] = &[0, 7, 2_147_483_647];
 
 #[test]
 fn filled_rows_and_occupied_columns(rt: HostRuntime) -> Result<(), Fail> {
     let alloc = rt.alloc();
     let x = built(alloc, LARGEST_SIZE, LARGEST_SIZE, FAR)?;
+    let filled = x.filled(alloc)?;
+    let occupied = x.occupied(alloc)?;
     assert_eq!(rt;
-        x.filled(alloc)?.as_slice(),
-        [5, 1_000_000_000, 2_147_483_647].as_slice()
+        (filled.as_slice(), occupied.as_slice(), x.next_filled(6)),
+        (FAR_FILLED, FAR_OCCUPIED, Some(1_000_000_000))
     );
-    assert_eq!(rt;
-        x.occupied(alloc)?.as_slice(),
-        [0, 7, 2_147_483_647].as_slice()
-    );
-    assert_eq!(rt; x.next_filled(6), Some(1_000_000_000));
     Ok(())
 }
 
@@ -223,19 +251,43 @@ fn matrices_side_by_side(rt: HostRuntime) -> Result<(), Fail> {
     Ok(())
 }
 
+// A matrix of such heights with another below it.
+fn stacked(
+    alloc: Global,
+    high: u32,
+    low: u32,
+    first: &[(u32, u32, u64)],
+    second: &[(u32, u32, u64)],
+) -> Result<Rows, Fail>
+    requires { high + low ≤ LARGEST_SIZE }
+{
+    let mut rows = built(alloc, high, 6, first)?;
+    let below = built(alloc, low, 6, second)?;
+    rows.append_all(&below)?;
+    Ok(rows)
+}
+
+// Appends entries, as many rows lower.
+fn append_lower(
+    list: &mut Vec<(u32, u32, u64)>,
+    by: u32,
+    entries: &[(u32, u32, u64)],
+) -> Result<(), AllocError> {
+    for (i, j, v) in entries {
+        list.push((by.wrapping_add(*i), *j, *v))?;
+    }
+    Ok(())
+}
+
 // Whether a matrix with another below it has the entries of both.
 fn is_stacked(alloc: Global, high: u32, low: u32) -> Result<bool, Fail>
     requires { high + low ≤ LARGEST_SIZE }
 {
     let first = scattered(alloc, 20, high)?;
     let second = scattered(alloc, 20, low)?;
-    let mut rows = built(alloc, high, 6, &first)?;
-    let below = built(alloc, low, 6, &second)?;
-    rows.append_all(&below)?;
+    let rows = stacked(alloc, high, low, &first, &second)?;
     let mut wanted = sums(alloc, 9, 6, &first)?;
-    for (i, j, v) in &sums(alloc, 9, 6, &second)? {
-        wanted.push((high.wrapping_add(*i), *j, *v))?;
-    }
+    append_lower(&mut wanted, high, &sums(alloc, 9, 6, &second)?)?;
     Ok(lists(alloc, &rows, &wanted)?)
 }
 
@@ -262,20 +314,26 @@ fn what_does_not_fit_makes_no_matrix(rt: HostRuntime) -> Result<(), Fail> {
 fn matrices_above_each_other(rt: HostRuntime) -> Result<(), Fail> {
     let alloc = rt.alloc();
     // Each row stored, or those alone that have an entry.
-    assert!(rt; is_stacked(alloc, 9, 9)?);
-    assert!(rt; is_stacked(alloc, 9, 1_000_000)?);
-    assert!(rt; is_stacked(alloc, 1_000_000, 9)?);
-    assert!(rt; is_stacked(alloc, 1_000_000, 1_000_000)?);
+    let stacked = [
+        is_stacked(alloc, 9, 9)?,
+        is_stacked(alloc, 9, 1_000_000)?,
+        is_stacked(alloc, 1_000_000, 9)?,
+        is_stacked(alloc, 1_000_000, 1_000_000)?,
+    ];
+    assert_eq!(rt; stacked, [true, true, true, true]);
     Ok(())
 }
 
 #[test]
-fn single_rows_and_lists(rt: HostRuntime) -> Result<(), Fail> {
+fn single_rows(rt: HostRuntime) -> Result<(), Fail> {
     let mut row = Sparse::new(rt.alloc(), 3, Modulus::new(7));
     row.push(1, 2)?;
-    assert_eq!(rt; row.cols(), [1].as_slice());
-    assert_eq!(rt; row.vals(), [2].as_slice());
+    assert_eq!(rt; (row.cols(), row.vals()), ([1].as_slice(), [2].as_slice()));
+    Ok(())
+}
 
+#[test]
+fn lists_of_items(rt: HostRuntime) -> Result<(), Fail> {
     let mut list = List::new(rt.alloc());
     list.push(5)?;
     assert_eq!(rt; list.items(), [5].as_slice());
