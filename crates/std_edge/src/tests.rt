@@ -22,16 +22,25 @@ impl Read for Stutter {
 }
 
 #[test]
-fn a_reader_gives_what_it_reads_and_fails_where_it_fails(rt: HostRuntime) -> Result<(), Fail> {
+fn a_reader_gives_what_it_reads(rt: HostRuntime) -> Result<(), Fail> {
     let mut buffer = [0; 8];
     let bytes = [3, 1, 4];
     let mut source = FromRead::new(bytes.as_slice());
-    assert_eq!(rt; source.pull(&mut buffer), Pulled::Got(3));
-    assert_eq!(rt; source.pull(&mut buffer), Pulled::End);
+    let pulled = [source.pull(&mut buffer), source.pull(&mut buffer)];
+    assert_eq!(rt; pulled, [Pulled::Got(3), Pulled::End]);
+    Ok(())
+}
+
+#[test]
+fn a_reader_fails_where_it_fails(rt: HostRuntime) -> Result<(), Fail> {
+    let mut buffer = [0; 8];
     let mut source = FromRead::new(Stutter { calls: 0 });
-    assert_eq!(rt; source.pull(&mut buffer), Pulled::Got(2));
-    assert_eq!(rt; source.pull(&mut buffer), Pulled::Failed);
-    assert_eq!(rt; source.pull(&mut buffer), Pulled::Got(2));
+    let pulled = [
+        source.pull(&mut buffer),
+        source.pull(&mut buffer),
+        source.pull(&mut buffer),
+    ];
+    assert_eq!(rt; pulled, [Pulled::Got(2), Pulled::Failed, Pulled::Got(2)]);
     Ok(())
 }
 
@@ -56,14 +65,26 @@ impl Write for Sticky {
 }
 
 #[test]
-fn a_writer_gains_what_it_takes_and_fails_where_it_fails(rt: HostRuntime) -> Result<(), Fail> {
+fn a_writer_gains_what_it_takes(rt: HostRuntime) -> Result<(), Fail> {
     let mut written = Vec::new(rt.alloc());
-    assert_eq!(rt; ToWrite::new(&mut written).put(b"314"), Put::Took(3));
-    assert_eq!(rt; written.as_slice(), b"314".as_slice());
+    let put = ToWrite::new(&mut written).put(b"314");
+    assert_eq!(rt;
+        (put, written.as_slice()),
+        (Put::Took(3), b"314".as_slice())
+    );
+    Ok(())
+}
+
+#[test]
+fn a_writer_fails_where_it_fails(rt: HostRuntime) -> Result<(), Fail> {
     let mut sink = ToWrite::new(Sticky { flushes: 0 });
-    assert_eq!(rt; sink.put(b"314"), Put::Took(2));
-    assert_eq!(rt; sink.put(b"314"), Put::Failed);
-    assert_eq!(rt; sink.put(b"3"), Put::Took(1));
+    let puts = [sink.put(b"314"), sink.put(b"314"), sink.put(b"3")];
+    assert_eq!(rt; puts, [Put::Took(2), Put::Failed, Put::Took(1)]);
+    Ok(())
+}
+
+#[test]
+fn a_full_writer_takes_nothing(rt: HostRuntime) -> Result<(), Fail> {
     let mut full: &mut [u8] = &mut [];
     assert_eq!(rt; ToWrite::new(&mut full).put(b"3"), Put::Failed);
     Ok(())
@@ -97,20 +118,23 @@ impl<'a> Env for Started<'a> {
 }
 
 #[test]
-fn words_stand_behind_the_program_s_name_and_are_text(rt: HostRuntime) -> Result<(), Fail> {
-    let alloc = rt.alloc();
+fn words_stand_behind_the_program_s_name(rt: HostRuntime) -> Result<(), Fail> {
     let started = Started {
         words: &[b"spasm", b"rank", b"--modulus=7", b""],
     };
-    let words = words_of(&(started, alloc))?;
+    let words = words_of(&(started, rt.alloc()))?;
     assert_eq!(rt; words.len(), 3);
-    assert_eq!(rt; words[0].as_str(), "rank");
-    assert_eq!(rt; words[1].as_str(), "--modulus=7");
-    assert_eq!(rt; words[2].as_str(), "");
+    let texts = [words[0].as_str(), words[1].as_str(), words[2].as_str()];
+    assert_eq!(rt; texts, ["rank", "--modulus=7", ""]);
+    Ok(())
+}
+
+#[test]
+fn words_are_text(rt: HostRuntime) -> Result<(), Fail> {
     let started = Started {
         words: &[b"spasm", b"rank", b"\xff"],
     };
-    match words_of(&(started, alloc)) {
+    match words_of(&(started, rt.alloc())) {
         Ok(_) => panic!(rt; "a word that isn't UTF-8 was taken"),
         Err(none) => assert_eq!(rt; none.code(), 2),
     }
