@@ -1,5 +1,5 @@
 // Matrices read and written.
-ghost use Rattle.std.specs.Prelude.{◌≤◌, IfOk};
+ghost use Rattle.std.specs.Prelude.{◌<◌, ◌≤◌, IfOk};
 ghost use Rattle.sms_text.specs.declared.reader.TheConstants.{LARGEST_TEXT_SIZE};
 
 use crate::{Kind, MemorySink, Put, Reader, Sink, SteadySource, TextError, read_rows, write_rows};
@@ -36,14 +36,14 @@ impl Sink for Lengths {
 }
 
 #[test]
-fn a_text_is_read_and_written(rt: HostRuntime) -> Result<(), Fail> {
+fn what_stands_behind_a_text_is_left(rt: HostRuntime) -> Result<(), Fail> {
     let alloc = rt.alloc();
     let p = Modulus::new(7);
     let mut source = SteadySource::new(Vec::from_slice(alloc, READ)?, 5);
     let mut reader = Reader::new(alloc, 99)?;
-    let Ok(rows) = read_rows(&mut reader, alloc, &mut source, &p) else {
+    if read_rows(&mut reader, alloc, &mut source, &p).is_err() {
         return Err(Fail::new("not read"));
-    };
+    }
     let bad = TextError::Bad {
         line: 12,
         kind: Kind::Words,
@@ -52,24 +52,16 @@ fn a_text_is_read_and_written(rt: HostRuntime) -> Result<(), Fail> {
         read_rows(&mut reader, alloc, &mut source, &p).err(),
         Some(bad)
     );
-
-    // The puts that fail, each of at most 16 bytes, and how many bytes the sink holds in the end.
-    let cases: [(&[u64], usize); 4] = [(&[], 60), (&[1], 0), (&[3], 32), (&[5], 60)];
-    for (fails, held) in cases {
-        let fails = Vec::from_slice(alloc, fails)?;
-        let mut sink = MemorySink::new(alloc, 64, 16, fails)?;
-        assert_eq!(rt; write_rows(&mut sink, &rows).is_ok(), held == 60);
-        assert_eq!(rt; sink.content(), &WRITTEN[..held]);
-    }
     Ok(())
 }
 
-// The matrix of a text modulo 7.
-fn rows_of(alloc: Global, text: &[u8]) -> Result<Rows, Fail>
+// The matrix modulo 7 of a text that is read in pieces.
+fn rows_of(alloc: Global, text: &[u8], piece: usize) -> Result<Rows, Fail>
+    requires { 0 < piece }
     ensures height { IfOk result (λ rows. rows.matrix.height ≤ LARGEST_TEXT_SIZE) }
     ensures width { IfOk result (λ rows. rows.matrix.width ≤ LARGEST_TEXT_SIZE) }
 {
-    let mut source = SteadySource::new(Vec::from_slice(alloc, text)?, 9);
+    let mut source = SteadySource::new(Vec::from_slice(alloc, text)?, piece);
     let mut reader = Reader::new(alloc, 99)?;
     match read_rows(&mut reader, alloc, &mut source, &Modulus::new(7)) {
         Ok(rows) => Ok(rows),
@@ -78,13 +70,31 @@ fn rows_of(alloc: Global, text: &[u8]) -> Result<Rows, Fail>
 }
 
 #[test]
+fn a_text_is_read_and_written(rt: HostRuntime) -> Result<(), Fail> {
+    let alloc = rt.alloc();
+    let rows = rows_of(alloc, READ, 5)?;
+    // The puts that fail, each of at most 16 bytes, and how many bytes the sink holds in the end.
+    let cases: [(&[u64], usize); 4] = [(&[], 60), (&[1], 0), (&[3], 32), (&[5], 60)];
+    for (fails, held) in cases {
+        let fails = Vec::from_slice(alloc, fails)?;
+        let mut sink = MemorySink::new(alloc, 64, 16, fails)?;
+        let result = write_rows(&mut sink, &rows);
+        assert_eq!(rt;
+            (result.is_ok(), sink.content()),
+            (held == 60, &WRITTEN[..held])
+        );
+    }
+    Ok(())
+}
+
+#[test]
 fn what_is_written_reads_back(rt: HostRuntime) -> Result<(), Fail> {
     let alloc = rt.alloc();
     for text in [READ, WRITTEN] {
-        let rows = rows_of(alloc, text)?;
+        let rows = rows_of(alloc, text, 9)?;
         let mut sink = MemorySink::new(alloc, 64, 64, Vec::new(alloc))?;
-        assert_eq!(rt; write_rows(&mut sink, &rows).is_ok(), true);
-        assert_eq!(rt; sink.content(), WRITTEN);
+        let result = write_rows(&mut sink, &rows);
+        assert_eq!(rt; (result.is_ok(), sink.content()), (true, WRITTEN));
     }
     Ok(())
 }
@@ -97,8 +107,14 @@ fn a_long_text_is_written_in_blocks(rt: HostRuntime) -> Result<(), Fail> {
         least: 8192,
         last: 8192,
     };
-    assert_eq!(rt; write_rows(&mut sink, &rows), Ok(()));
-    assert!(rt; sink.least >= 4096);
-    assert!(rt; 4 <= sink.count && sink.count <= 9);
+    let result = write_rows(&mut sink, &rows);
+    assert_eq!(rt;
+        (
+            result,
+            sink.least >= 4096,
+            4 <= sink.count && sink.count <= 9
+        ),
+        (Ok(()), true, true)
+    );
     Ok(())
 }
