@@ -27,12 +27,19 @@ fn built(alloc: Global, m: u32, n: u32, triples: &[(u32, u32, u64)]) -> Result<R
 fn kernel_of<R: Threads + Sync>(
     rt: &R,
     alloc: Global,
-    m: u32,
-    n: u32,
-    triples: &[(u32, u32, u64)],
-) -> Result<Vec<(u32, u32, u64)>, Fail> {
-    let form = Echelon::of(rt, alloc, &built(alloc, m, n, triples)?, 1)?;
-    Ok(kernel(alloc, &form)?.triples(alloc)?)
+    a: &Rows,
+) -> Result<Vec<(u32, u32, u64)>, AllocError> {
+    let form = Echelon::of(rt, alloc, a, 1)?;
+    kernel(alloc, &form)?.triples(alloc)
+}
+
+// The entries of the left kernel basis of a matrix.
+fn left_kernel_of<R: Threads + Sync>(
+    rt: &R,
+    alloc: Global,
+    a: &Rows,
+) -> Result<Vec<(u32, u32, u64)>, AllocError> {
+    left_kernel(rt, alloc, a, 1)?.triples(alloc)
 }
 
 // What the form of a system tells: whether there is a solution, and its entries.
@@ -63,6 +70,14 @@ fn solved_for<R: Threads + Sync>(
 }
 
 // Whether there is an inverse, and its entries or those of the null vector.
+fn told(alloc: Global, found: &Inverse) -> Result<(bool, Vec<(u32, u32, u64)>), AllocError> {
+    match found {
+        Inverse::Of(b) => Ok((true, b.triples(alloc)?)),
+        Inverse::Singular(v) => Ok((false, v.triples(alloc)?)),
+    }
+}
+
+// The same of an n x n matrix.
 fn inverted<R: Threads + Sync>(
     rt: &R,
     alloc: Global,
@@ -72,10 +87,8 @@ fn inverted<R: Threads + Sync>(
     requires { n ≤ 8 }
 {
     let a = built(alloc, n, n, triples)?;
-    match inverse(rt, alloc, &a, 2)? {
-        Inverse::Of(b) => Ok((true, b.triples(alloc)?)),
-        Inverse::Singular(v) => Ok((false, v.triples(alloc)?)),
-    }
+    let found = inverse(rt, alloc, &a, 2)?;
+    Ok(told(alloc, &found)?)
 }
 
 // 3 x 3, of rank 2: the second column is twice the first.
@@ -118,20 +131,22 @@ const KERNELS: &[(u32, u32, &[(u32, u32, u64)], &[(u32, u32, u64)])] = &[
 fn kernels(rt: HostRuntime) -> Result<(), Fail> {
     let alloc = rt.alloc();
     for (m, n, entries, basis) in KERNELS {
-        let found = kernel_of(&rt, alloc, *m, *n, *entries)?;
+        let a = built(alloc, *m, *n, *entries)?;
+        let found = kernel_of(&rt, alloc, &a)?;
         assert_eq!(rt; found.as_slice(), *basis);
     }
     Ok(())
 }
 
+// The entries of the left kernel basis of X.
+const LEFT_KERNEL: &[(u32, u32, u64)] = &[(0, 0, 6), (0, 1, 6), (0, 2, 1)];
+
 #[test]
 fn left_kernels(rt: HostRuntime) -> Result<(), Fail> {
     let alloc = rt.alloc();
-    let found = left_kernel(&rt, alloc, &built(alloc, 3, 3, X)?, 1)?;
-    assert_eq!(rt;
-        found.triples(alloc)?.as_slice(),
-        [(0, 0, 6), (0, 1, 6), (0, 2, 1)].as_slice()
-    );
+    let a = built(alloc, 3, 3, X)?;
+    let found = left_kernel_of(&rt, alloc, &a)?;
+    assert_eq!(rt; found.as_slice(), LEFT_KERNEL);
     Ok(())
 }
 
@@ -171,19 +186,29 @@ const REFUTING: &[(u32, u32, u64)] = &[
     (3, 3, 1),
 ];
 
+// The entries of the solution of that system.
+const REFUTATION: &[(u32, u32, u64)] = &[(0, 0, 6), (1, 0, 6), (2, 0, 1)];
+
+// The same system, as it is built.
+fn refuting(alloc: Global) -> Result<Rows, Fail> {
+    let a = built(alloc, 3, 3, X)?;
+    let b = built(alloc, 3, 1, &[(2, 0, 1)])?;
+    Ok(refuting_system(alloc, &a, &b)?)
+}
+
+#[test]
+fn refuting_systems(rt: HostRuntime) -> Result<(), Fail> {
+    let alloc = rt.alloc();
+    let entries = refuting(alloc)?.triples(alloc)?;
+    assert_eq!(rt; entries.as_slice(), REFUTING);
+    Ok(())
+}
+
 #[test]
 fn refutations(rt: HostRuntime) -> Result<(), Fail> {
     let alloc = rt.alloc();
-    let a = built(alloc, 3, 3, X)?;
-    let b = built(alloc, 3, 1, &[(2, 0, 1)])?;
-    let system = refuting_system(alloc, &a, &b)?;
-    assert_eq!(rt; system.triples(alloc)?.as_slice(), REFUTING);
-
-    let (found, entries) = solved(&rt, alloc, &system)?;
-    assert_eq!(rt;
-        (found, entries.as_slice()),
-        (true, [(0, 0, 6), (1, 0, 6), (2, 0, 1)].as_slice())
-    );
+    let (found, entries) = solved(&rt, alloc, &refuting(alloc)?)?;
+    assert_eq!(rt; (found, entries.as_slice()), (true, REFUTATION));
     Ok(())
 }
 
@@ -219,19 +244,34 @@ fn inverses(rt: HostRuntime) -> Result<(), Fail> {
     Ok(())
 }
 
-// What is replied to a column, for the matrix X: whether there is a solution, and the entries of the reply.
+// What is replied to a column, for the matrix X.
 fn replied<R: Threads + Sync>(
     rt: &R,
     alloc: Global,
     triples: &[(u32, u32, u64)],
-) -> Result<(bool, Vec<(u32, u32, u64)>), Fail> {
+) -> Result<Reply, Fail> {
     let a = built(alloc, 3, 3, X)?;
     let prepared = Prepared::of(rt, alloc, &a, 1)?;
     let b = built(alloc, 3, 1, triples)?;
-    match prepared.answer(alloc, &b)? {
+    Ok(prepared.answer(alloc, &b)?)
+}
+
+// Whether a reply is a solution, and its entries.
+fn read(alloc: Global, reply: &Reply) -> Result<(bool, Vec<(u32, u32, u64)>), AllocError> {
+    match reply {
         Reply::Solution(x) => Ok((true, x.triples(alloc)?)),
         Reply::Refuted(y) => Ok((false, y.triples(alloc)?)),
     }
+}
+
+// The same of what is replied to a column, for the matrix X.
+fn read_reply<R: Threads + Sync>(
+    rt: &R,
+    alloc: Global,
+    triples: &[(u32, u32, u64)],
+) -> Result<(bool, Vec<(u32, u32, u64)>), Fail> {
+    let reply = replied(rt, alloc, triples)?;
+    Ok(read(alloc, &reply)?)
 }
 
 // The entries of a column, whether there is a solution for the matrix X, and the entries of the reply.
@@ -245,7 +285,7 @@ const REPLIES: &[(&[(u32, u32, u64)], bool, &[(u32, u32, u64)])] = &[
 fn replies(rt: HostRuntime) -> Result<(), Fail> {
     let alloc = rt.alloc();
     for (b, is_solvable, expected) in REPLIES {
-        let (found, entries) = replied(&rt, alloc, *b)?;
+        let (found, entries) = read_reply(&rt, alloc, *b)?;
         assert_eq!(rt; (found, entries.as_slice()), (*is_solvable, *expected));
     }
     Ok(())
