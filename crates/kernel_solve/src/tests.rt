@@ -244,14 +244,22 @@ fn inverses(rt: HostRuntime) -> Result<(), Fail> {
     Ok(())
 }
 
+// The matrix X prepared.
+fn prepared<R: Threads + Sync>(rt: &R, alloc: Global) -> Result<Prepared, Fail>
+    ensures modulus { IfOk result (λ kept. kept.modulus ≡ 7) }
+    ensures height { IfOk result (λ kept. kept.height ≡ 3) }
+{
+    let a = built(alloc, 3, 3, X)?;
+    Ok(Prepared::of(rt, alloc, &a, 1)?)
+}
+
 // What is replied to a column, for the matrix X.
 fn replied<R: Threads + Sync>(
     rt: &R,
     alloc: Global,
     triples: &[(u32, u32, u64)],
 ) -> Result<Reply, Fail> {
-    let a = built(alloc, 3, 3, X)?;
-    let prepared = Prepared::of(rt, alloc, &a, 1)?;
+    let prepared = prepared(rt, alloc)?;
     let b = built(alloc, 3, 1, triples)?;
     Ok(prepared.answer(alloc, &b)?)
 }
