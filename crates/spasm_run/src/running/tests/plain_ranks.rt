@@ -31,6 +31,16 @@ fn pivots<R: Threads + Sync>(
     Ok(factors.pivots.items().len())
 }
 
+// The ranks of a matrix by its echelon form, and by dense eliminations of one worker and of four.
+fn ranks<R: Threads + Sync>(rt: &R, alloc: Global, rows: &Rows) -> Result<[usize; 3], AllocError> {
+    let form = Echelon::of(rt, alloc, rows, 1)?;
+    Ok([
+        form.rank() as usize,
+        pivots(rt, alloc, rows, 1)?,
+        pivots(rt, alloc, rows, 4)?,
+    ])
+}
+
 // Wide and high matrices with multiples of a row, a row that is the sum of two, and a column that is combined from two.
 const WIDE: &str =
     "3 10 M\n1 1 2147483646\n1 4 2\n1 9 2147483645\n1 10 1\n2 2 2147483644\n2 4 2147483646\n2 9 5\n\
@@ -66,10 +76,7 @@ fn forms_and_factors_have_the_rank_of_plain_elimination(rt: HostRuntime) -> Resu
         assert!(rt; 2 <= *p && *p < MODULUS_BOUND);
         let rows = rows_of(alloc, &Modulus::new(*p), text.as_bytes())?;
         let rank = plain_rank(alloc, &rows)?;
-        let form = Echelon::of(&rt, alloc, &rows, 1)?;
-        assert_eq!(rt; form.rank() as usize, rank, "at {p} {text}");
-        assert_eq!(rt; pivots(&rt, alloc, &rows, 1)?, rank, "at {p} {text}");
-        assert_eq!(rt; pivots(&rt, alloc, &rows, 4)?, rank, "at {p} {text}");
+        assert_eq!(rt; ranks(&rt, alloc, &rows)?, [rank; 3], "at {p} {text}");
     }
     Ok(())
 }
