@@ -163,7 +163,7 @@ impl<'a> Elimination<'a> {
         ensures split { IsPrime self.now.p → IfOk result (λ pivots.
             SplitBy self.now.p self.now.columns.now pivots block.old block.new) }
     {
-        let mut pivots = Pivots::new(self.alloc, self.columns, width, &self.p)?;
+        let mut pivots = Pivots::new(self.alloc, block.len(), self.columns, width, &self.p)?;
         let mut found = Found {
             panel: Panel::new(self.alloc, self.columns.len()),
             units: Vec::new(self.alloc),

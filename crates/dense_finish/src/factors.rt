@@ -8,7 +8,7 @@ ghost use Rattle.dense_finish.specs.Factors.{IsLeftFactor};
 ghost use Rattle.dense_finish.specs.Pivots.{StandIn};
 
 use crate::block::Block;
-use crate::pivots::Pivots;
+use crate::pivots::{Pivots, room_for};
 use crate::residue::Residue;
 use residue_words::plain::Pair;
 use sparse_rows::{List, Rows, Sparse};
@@ -41,7 +41,8 @@ pub(crate) fn left_factor<W: Residue>(
         pivots.now.columns.items block.now.entries left.matrix) }
 {
     let width = pivots.columns.len() as u32;
-    let mut left = Rows::with_room(alloc, block.p, width, block.height, block.rows.len())?;
+    let room = left_room(block.height as usize, block.rows.len(), width as usize);
+    let mut left = Rows::with_room(alloc, block.p, width, block.height, room)?;
     let mut row = Sparse::new(alloc, width, block.p);
     let mut count = 0;
     for t in 0..block.rows.len() {
@@ -53,6 +54,16 @@ pub(crate) fn left_factor<W: Residue>(
     }
     pad(&mut left, block.height)?;
     Ok(left)
+}
+
+// Room for the entries of a left factor of this height, with entries in so many rows and columns. As `with_room` goes by it to tell
+// whether rows without an entry are stored, room for all is asked for only where there are none.
+fn left_room(height: usize, rows: usize, columns: usize) -> usize {
+    if rows == height {
+        room_for(rows, columns)
+    } else {
+        rows
+    }
 }
 
 // How many of these ascending rows come up to row t, of which so many come before it.

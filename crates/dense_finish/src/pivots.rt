@@ -12,6 +12,15 @@ use residue_words::plain::Pair;
 use sparse_rows::{List, Rows, Sparse};
 use std::alloc::{AllocError, Global};
 
+// Room for more entries than these isn't asked for at once: 192 MB.
+const MOST_ROOM: usize = 1 << 24;
+
+// Room for the entries of so many rows at so many columns, so that they are not moved as they become more. Memory that is never
+// written costs nothing.
+pub(crate) fn room_for(rows: usize, columns: usize) -> usize {
+    rows.saturating_mul(columns).min(MOST_ROOM)
+}
+
 // Of each pivot its row and its column in the block, and its row of U, in the matrix's columns; and which columns of the
 // block are pivots'.
 #[derive(Drop)]
@@ -25,9 +34,10 @@ pub(crate) struct Pivots {
 impl Pivots {
     ghost use Rattle.dense_finish.specs.Pivots.{AddsPivot, AreFound, ArePivotPlaces, count, pivot_at};
 
-    // No pivot of a block with these columns of a matrix of this width.
+    // No pivot of a block of so many rows with these columns of a matrix of this width.
     pub(crate) fn new(
         alloc: Global,
+        height: usize,
         columns: &[u32],
         width: u32,
         p: &Modulus,
@@ -38,10 +48,11 @@ impl Pivots {
     {
         // The call's contract tells the range of the modulus.
         let _ = p.p();
+        let room = room_for(height.min(columns.len()), columns.len());
         Ok(Pivots {
             rows: Vec::new(alloc),
             columns: Vec::new(alloc),
-            u: Rows::with_room(alloc, *p, width, 0, 0)?,
+            u: Rows::with_room(alloc, *p, width, 0, room)?,
             taken: vec![in alloc; false; columns.len()]?,
         })
     }
