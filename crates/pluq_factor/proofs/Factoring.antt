@@ -1,5 +1,6 @@
 -- Factors that rounds give.
-use Rattle.std.proofs.Common.{ℕ, zero, suc, ◌≡◌, ◌+◌, ◌-◌, ◌*◌, ◌%◌, ◌<◌, ◌≤◌, List, [], ◌++◌, length, slice_index, sym, refl, ap, subst, ◌∙◌, arith, length-append, mod-eq_of_lt}
+use Rattle.std.proofs.Common.{ℕ, zero, suc, ◌≡◌, ◌+◌, ◌-◌, ◌*◌, ◌%◌, ◌<◌, ◌≤◌, List, [], ◌++◌, inl, inr, length, slice_index, sym, refl, ap, subst, ◌∙◌, arith, length-append, mod-eq_of_lt}
+use Rattle.std.proofs.lemmas.Bool.{cases_lt}
 use Rattle.residue_words.specs.declared.plain.Pair.{Pair}
 use Rattle.residue_words.specs.Residues.{IsPrime}
 use Rattle.residue_words.specs.Matrix.{Matrix, IsMatrix, entry}
@@ -18,10 +19,12 @@ use Rattle.schur_rows.specs.declared.round.SchurRows.{SchurRows}
 use Rattle.schur_rows.proofs.FactorRows.{fit_few}
 use Rattle.schur_rows.proofs.Joining.{joined}
 use Rattle.schur_rows.proofs.Above.{above_matrix, beside_matrix, col_first, col_second, each_of, pivot_height, pivots_matrix, row_first, row_second}
+use Rattle.pluq_factor.specs.Joined.{EmptyWhereMany, FitsRoundAbove, JoinsWhereFew, pivot_count, top_of}
 use Rattle.pluq_factor.specs.Rounds.{AreFactorsOf, AreWithoutPivots, HaveSizes}
 use Rattle.pluq_factor.specs.Staged.{Staged}
 use Rattle.pluq_factor.specs.RoundPivots.{IsRoundTaken, triangle_on}
 use Rattle.pluq_factor.specs.declared.round_pivots.RoundPivots.{RoundPivots}
+use Rattle.pluq_factor.specs.declared.round_pivots.Top.{Top}
 
 -- a dense finish gives factors
 pub finished : {p : ℕ} {A : Matrix} {f : Factors} → IsFactored p A f → AreFactorsOf p A f
@@ -179,6 +182,49 @@ nothing_factored {p} {A} {f} {m} {n} h high wide odd =
       };
       factors = λ prime. absurd (odd prime);
     }
+
+-- what a round gives fits above factors of what it left
+pub together : {R B : ResidueMatrix} {workers : ℕ} {taken : RoundPivots} {top : Top} {below : Factors} → IsRoundTaken R workers taken → top ≡ top_of taken → B ≡ taken.left.rows → AreFactorsOf B.modulus B.matrix below → FitsRoundAbove top below
+together {R} {B} {workers} {taken} {top} {below} h kept left factors = subst (λ t. FitsRoundAbove t below) (sym kept) (above_rest h (subst (λ (B : ResidueMatrix). AreFactorsOf B.modulus B.matrix below) left factors))
+  where
+    above_rest : {R : ResidueMatrix} {workers : ℕ} {taken : RoundPivots} {below : Factors} → IsRoundTaken R workers taken → AreFactorsOf taken.left.rows.modulus taken.left.rows.matrix below → FitsRoundAbove (top_of taken) below
+    above_rest {R} {workers} {taken} {below} h factored = record {
+      left_modulus = h.fits.modulus ∙ sym h.fits.rest.modulus ∙ sym factored.left_modulus;
+      right_modulus = h.modulus ∙ sym h.fits.rest.modulus ∙ sym factored.right_modulus;
+      height = h.fits.height ∙ sym h.fits.rest.height ∙ sym factored.sizes.left_height;
+      width = ap (λ (M : Matrix). M.width) h.top ∙ sym h.fits.rest.width ∙ sym factored.sizes.right_width;
+      left_width = h.fits.width;
+      right_height = ap (λ (M : Matrix). M.height) h.top ∙ pivot_height R.matrix taken.pivots;
+      below_width = factored.sizes.left_width;
+      below_height = factored.sizes.right_height;
+    }
+
+-- the factors that both give, where they have no more pivots than the matrix has rows, and those without a pivot elsewhere
+module _ {R B : ResidueMatrix} {workers : ℕ} (r : ℕ) {taken : RoundPivots} {top : Top} {below f : Factors} (h : IsRoundTaken R workers taken) (kept : top ≡ top_of taken) (left : B ≡ taken.left.rows)
+    (factors : AreFactorsOf B.modulus B.matrix below) (staged : IsPrime B.modulus → Staged B.modulus B.matrix workers r below.pivots) (joins : JoinsWhereFew top below f) (without : EmptyWhereMany top below f) where
+  all : IsMet (triangle_on R taken.pivots) taken.left workers r below
+  all = met h (subst (λ (B : ResidueMatrix). AreFactorsOf B.modulus B.matrix below) left factors) (subst (λ (B : ResidueMatrix). IsPrime B.modulus → Staged B.modulus B.matrix workers r below.pivots) left staged)
+
+  many : EmptyWhereMany (top_of taken) below f
+  many = subst (λ t. EmptyWhereMany t below f) kept without
+
+  few : JoinsWhereFew (top_of taken) below f
+  few = subst (λ t. JoinsWhereFew t below f) kept joins
+
+  fits : IsPrime R.modulus → pivot_count (top_of taken) below ≤ taken.left.coefficients.matrix.height
+  fits prime = omega (arith, met_few all prime, h.fits.height)
+
+  pub whole_factored : AreFactorsOf R.modulus R.matrix f
+  whole_factored = elim (cases_lt taken.left.coefficients.matrix.height (pivot_count (top_of taken) below)) [
+    | inl more ↦ nothing_factored (subst (λ p. AreWithoutPivots p taken.left.coefficients.matrix.height taken.top.matrix.width f) h.modulus (many more)) h.fits.height (ap (λ (M : Matrix). M.width) h.top)
+        (λ prime. absurd (omega (arith, fits prime)))
+    | inr less ↦
+        let both = few (omega arith) in
+        factored all (omega (arith, h.fits.height)) (both.left_modulus ∙ h.fits.modulus) (both.right_modulus ∙ h.modulus) both.pivots both.left (both.right ∙ ap (λ (T : Matrix). above T below.u.matrix) h.top)
+  ]
+
+  pub whole_staged : {rounds : ℕ} → suc r ≡ rounds → IsPrime R.modulus → Staged R.modulus R.matrix workers rounds f.pivots
+  whole_staged count prime = met_staged all count (few (fits prime)).pivots prime
 
 pub last_round : (rounds : ℕ) → (rounds ≡ 0 → ⊥) → suc (rounds - 1) ≡ rounds
 last_round rounds some = omega (arith, some)

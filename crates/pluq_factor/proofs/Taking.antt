@@ -1,16 +1,16 @@
 -- A round as it is met.
-use Rattle.std.proofs.Common.{ℕ, ◌≡◌, ◌<◌, ◌≤◌, ◌∙◌, List, length, map, slice_index, slice_index_or, sym, ap, ap₂, subst, arith}
+use Rattle.std.proofs.Common.{ℕ, ◌≡◌, ◌<◌, ◌≤◌, ◌∙◌, List, length, map, slice_index, slice_index_or, sym, ap, subst, arith}
 use Rattle.std.proofs.lemmas.List.{get_or_default, length-map}
 use Rattle.residue_words.specs.declared.plain.Pair.{Pair}
 use Rattle.residue_words.specs.Residues.{IsPrime}
 use Rattle.residue_words.specs.Matrix.{IsMatrix}
 use Rattle.row_space.specs.Factors.{row_at}
-use Rattle.sparse_rows.specs.Rows.{ResidueMatrix, selected}
+use Rattle.sparse_rows.specs.Rows.{ResidueMatrix}
 use Rattle.sparse_rows.specs.declared.rows.TheConstants.{LARGEST_SIZE}
 use Rattle.pivot_table.specs.Order.{Triangular}
 use Rattle.pivot_table.specs.Selected.{Selected}
 use Rattle.triangular_solve.specs.Triangle.{TriangleState}
-use Rattle.schur_rows.specs.Round.{FitsRound, IsRound}
+use Rattle.schur_rows.specs.Round.{FitsRound, IsRound, pivot_rows}
 use Rattle.schur_rows.specs.declared.round.SchurRows.{SchurRows}
 use Rattle.schur_rows.proofs.Distinct.{triangular_short}
 use Rattle.pluq_factor.specs.RoundPivots.{IsRoundTaken, triangle_on}
@@ -28,17 +28,15 @@ rows_few R {qs} {ps} {xs} {ys} {h} tri pairs value listed high bound =
     let all : xs ≡ map (λ (q : Pair). q.row) qs = value ∙ listed ∙ ap (map (λ (q : Pair). q.row)) pairs in
     omega (arith, ap length all, length-map qs (λ (q : Pair). q.row), triangular_short tri)
 
-pub taken_of : {R top : ResidueMatrix} {workers : ℕ} {t : TriangleState} {left : SchurRows} {ps pivots : List Pair} {xs ys : List ℕ} → IsMatrix R.modulus R.matrix → t.rows ≡ R → Selected R.matrix workers t.pairs → ps ≡ t.pairs →
-    FitsRound t left → (IsPrime t.rows.modulus → IsRound t left) → xs ≡ ys → ys ≡ map (λ (q : Pair). q.row) ps → top.modulus ≡ R.modulus → top.matrix ≡ selected R.matrix xs → pivots ≡ ps →
-    IsRoundTaken R workers (record { pivots = pivots; top = top; left = left })
-taken_of {R} {top} {workers} {t} {left} {ps} {pivots} {xs} {ys} sound same chosen pairs fits round value listed modulus matrix copied =
-    let at : pivots ≡ t.pairs = copied ∙ pairs in
-    let e : t ≡ triangle_on R pivots = ap₂ triangle_on same (sym at) in
+pub taken_of : {t : TriangleState} {top : ResidueMatrix} {workers : ℕ} {left : SchurRows} {pivots : List Pair} → IsMatrix t.rows.modulus t.rows.matrix → Selected t.rows.matrix workers t.pairs → FitsRound t left → (IsPrime t.rows.modulus → IsRound t left) →
+    top.modulus ≡ t.rows.modulus → top.matrix ≡ pivot_rows t.rows.matrix t.pairs → pivots ≡ t.pairs → IsRoundTaken t.rows workers (record { pivots = pivots; top = top; left = left })
+taken_of {t} {top} {workers} {left} {pivots} sound chosen fits round modulus matrix same =
+    let e : t ≡ triangle_on t.rows pivots = ap (triangle_on t.rows) (sym same) in
     record {
       sound = sound;
-      selected = subst (Selected R.matrix workers) (sym at) chosen;
+      selected = subst (Selected t.rows.matrix workers) (sym same) chosen;
       modulus = modulus;
-      top = matrix ∙ ap (selected R.matrix) (value ∙ listed ∙ ap (map (λ (q : Pair). q.row)) (sym copied));
+      top = matrix ∙ ap (pivot_rows t.rows.matrix) (sym same);
       fits = subst (λ t. FitsRound t left) e fits;
       round = subst (λ (t : TriangleState). IsPrime t.rows.modulus → IsRound t left) e round;
     }

@@ -114,15 +114,13 @@ fn basis_from<R: Threads + Sync, G: Gate>(
     requires few { workers ≤ 64 }
     ensures { IfOk result (IsBasis rows.modulus rows.matrix) }
 {
-    // The calls' contracts tell that the entries are residues.
-    let _ = (rows.height(), rows.width());
+    // The call's contract tells how high a matrix is.
+    let _ = rows.height();
     if rounds == 0 {
-        let basis = finished(rt, alloc, rows, workers)?;
-        return Ok(basis);
+        return finished(rt, alloc, rows, workers);
     }
     let Some(left) = take_left(rt, alloc, &rows, workers, gate)? else {
-        let basis = finished(rt, alloc, rows, workers)?;
-        return Ok(basis);
+        return finished(rt, alloc, rows, workers);
     };
     drop(rows);
     let Left { top, rest } = left;

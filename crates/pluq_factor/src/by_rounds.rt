@@ -1,13 +1,13 @@
 // Factors by rounds.
-ghost use Rattle.std.specs.Prelude.{◌≡◌, ◌≤◌, ◌+◌, ◌++◌, IfOk};
+ghost use Rattle.std.specs.Prelude.{◌≡◌, ◌≤◌, ◌++◌, IfOk};
 ghost use Rattle.residue_words.specs.Residues.{IsPrime};
-ghost use Rattle.sparse_rows.specs.Rows.{above, beside};
 ghost use Rattle.sparse_rows.specs.declared.rows.TheConstants.{LARGEST_SIZE};
+ghost use Rattle.pluq_factor.specs.Joined.{JoinRound, EmptyWhereMany, FitsRoundAbove, JoinsWhereFew, pivot_count, top_of};
 ghost use Rattle.pluq_factor.specs.Rounds.{AreFactorsOf, AreWithoutPivots};
 ghost use Rattle.pluq_factor.specs.Staged.{Staged};
 
 use crate::plan::Plan;
-use crate::round_pivots::{RoundPivots, listed, take_round};
+use crate::round_pivots::{RoundPivots, Top, listed, take_round};
 use dense_finish::{Factors, finish};
 use optimistic_search::Gate;
 use pivot_table::Pair;
@@ -55,9 +55,8 @@ fn factor_from<R: Threads + Sync, G: Gate>(
     ensures staged { IfOk result (λ f. IsPrime rows.modulus →
         Staged rows.modulus rows.matrix workers rounds f.pivots) }
 {
-    let height = rows.height();
-    let width = rows.width();
-    let p = rows.modulus();
+    // The call's contract tells that the entries are residues.
+    let _ = rows.height();
     if rounds == 0 {
         let factors = finish(rt, alloc, &rows, workers)?;
         return Ok(factors);
@@ -67,19 +66,39 @@ fn factor_from<R: Threads + Sync, G: Gate>(
         return Ok(factors);
     };
     drop(rows);
-    let RoundPivots { pivots, top, left } = round;
-    let SchurRows {
-        rows: rest,
-        coefficients,
-    } = left;
+    let (top, rest) = parted(round);
     let below = factor_from(rt, alloc, rest, workers, rounds - 1, gate)?;
-    // Only where the modulus isn't prime.
-    if pivots.items().len() + below.pivots.items().len() > height as usize {
-        let factors = no_factors(alloc, p, height, width)?;
-        return Ok(factors);
-    }
-    let factors = join(alloc, pivots.items(), top, &coefficients, &below)?;
+    let factors = with_below(alloc, top, &below)?;
     Ok(factors)
+}
+
+// What a round gives the factors, and what it leaves.
+fn parted(round: RoundPivots) -> (Top, Rows)
+    ensures top { result.0 ≡ top_of round }
+    ensures rest { result.1 ≡ round.left.rows }
+{
+    let RoundPivots { pivots, top, left } = round;
+    let SchurRows { rows, coefficients } = left;
+    let top = Top {
+        pivots,
+        rows: top,
+        coefficients,
+    };
+    (top, rows)
+}
+
+// The factors with those of what the round left; without a pivot where there would be more than the matrix has rows, which a prime
+// modulus excludes.
+fn with_below(alloc: Global, top: Top, below: &Factors) -> Result<Factors, AllocError>
+    requires { FitsRoundAbove top below.now }
+    ensures joined { IfOk result (JoinsWhereFew top below.now) }
+    ensures without { IfOk result (EmptyWhereMany top below.now) }
+{
+    let height = top.coefficients.height();
+    if top.pivots.items().len() + below.pivots.items().len() > height as usize {
+        return no_factors(alloc, top.rows.modulus(), height, top.rows.width());
+    }
+    join(alloc, top, below)
 }
 
 // The pairs of both lists.
@@ -108,28 +127,15 @@ fn no_factors(alloc: Global, p: Modulus, height: u32, width: u32) -> Result<Fact
     })
 }
 
-// Factors of a matrix of the pivots of a round, their rows and their coefficients, and of factors of what the round left.
-fn join(
-    alloc: Global,
-    pairs: &[Pair],
-    top: Rows,
-    coefficients: &Rows,
-    below: &Factors,
-) -> Result<Factors, AllocError>
-    requires moduli { (top.modulus ≡ below.now.u.modulus) × (coefficients.now.modulus ≡ below.now.l.modulus) }
-    requires height { coefficients.now.matrix.height ≡ below.now.l.matrix.height }
-    requires width { top.matrix.width ≡ below.now.u.matrix.width }
-    requires widths { coefficients.now.matrix.width + below.now.l.matrix.width ≤ LARGEST_SIZE }
-    requires heights { top.matrix.height + below.now.u.matrix.height ≤ LARGEST_SIZE }
-    ensures moduli { IfOk result (λ f. (f.l.modulus ≡ coefficients.now.modulus)
-        × (f.u.modulus ≡ top.modulus)) }
-    ensures pivots { IfOk result (λ f. f.pivots ≡ pairs.now ++ below.now.pivots) }
-    ensures left { IfOk result (λ f. f.l.matrix ≡ beside coefficients.now.matrix below.now.l.matrix) }
-    ensures right { IfOk result (λ f. f.u.matrix ≡ above top.matrix below.now.u.matrix) }
+// The factors of both.
+fn join(alloc: Global, top: Top, below: &Factors) -> Result<Factors, AllocError>
+    requires together { FitsRoundAbove top below.now }
+    requires few { pivot_count top below.now ≤ LARGEST_SIZE }
+    ensures { IfOk result (JoinRound top below.now) }
 {
-    let pivots = both(alloc, pairs, below.pivots.items())?;
-    let l = coefficients.beside(alloc, &below.l)?;
-    let mut u = top;
+    let pivots = both(alloc, top.pivots.items(), below.pivots.items())?;
+    let l = top.coefficients.beside(alloc, &below.l)?;
+    let Top { rows: mut u, .. } = top;
     u.append_all(&below.u)?;
     Ok(Factors { pivots, l, u })
 }

@@ -4,6 +4,7 @@ ghost use Rattle.std.specs.Option.{MatchOption};
 ghost use Rattle.pivot_table.specs.Selected.{Selected};
 ghost use Rattle.pluq_factor.specs.Counted.{LeavesRank};
 ghost use Rattle.pluq_factor.specs.RoundPivots.{IsLeftBy, IsRestOf, IsRoundTaken};
+ghost use Rattle.schur_rows.specs.Round.{pivot_rows};
 
 use crate::extent::Extent;
 use crate::plan::{any_pivots, rows_of, select_pivots};
@@ -21,6 +22,14 @@ pub(crate) struct RoundPivots {
     pub(crate) pivots: List<Pair>,
     pub(crate) top: Rows,
     pub(crate) left: SchurRows,
+}
+
+// What a round gives the factors: its pivots, their rows, and the coefficients of all rows at them.
+#[derive(Debug, Drop)]
+pub(crate) struct Top {
+    pub(crate) pivots: List<Pair>,
+    pub(crate) rows: Rows,
+    pub(crate) coefficients: Rows,
 }
 
 // The rows of a round's pivots, and what they leave.
@@ -57,17 +66,45 @@ pub(crate) fn take_round<R: Threads + Sync, G: Gate>(
     ensures { IfOk result (λ r. MatchOption r (Selected rows.now.matrix workers [])
         (IsRoundTaken rows.now workers)) }
 {
-    // The call's contract tells that the entries are residues.
-    let _ = rows.height();
     let triangle = select_pivots(rt, alloc, rows, workers, gate)?;
-    let pairs = triangle.pairs();
-    if pairs.is_empty() {
+    if triangle.pairs().is_empty() {
         return Ok(None);
     }
-    let left = schur(rt, alloc, &triangle, workers)?;
-    let top = rows.select(alloc, &rows_of(alloc, pairs)?)?;
-    let pivots = listed(alloc, pairs)?;
-    Ok(Some(RoundPivots { pivots, top, left }))
+    let round = round_by(rt, alloc, &triangle, workers)?;
+    Ok(Some(round))
+}
+
+// What these pivots take out, with the coefficients.
+fn round_by<R: Threads + Sync>(
+    rt: &R,
+    alloc: Global,
+    triangle: &Triangle,
+    workers: u32,
+) -> Result<RoundPivots, AllocError>
+    requires some { 1 ≤ workers }
+    requires few { workers ≤ 64 }
+    requires selected { Selected triangle.now.rows.matrix workers triangle.now.pairs }
+    ensures { IfOk result (IsRoundTaken triangle.now.rows workers) }
+{
+    // The call's contract tells that the entries are residues.
+    let _ = triangle.rows().height();
+    let left = schur(rt, alloc, triangle, workers)?;
+    let top = rows_at_pivots(alloc, triangle)?;
+    let pivots = listed(alloc, triangle.pairs())?;
+    Ok(RoundPivots { pivots, top, left })
+}
+
+// The rows of the pivots, in their order.
+fn rows_at_pivots(alloc: Global, triangle: &Triangle) -> Result<Rows, AllocError>
+    ensures modulus { IfOk result (λ top. top.modulus ≡ triangle.now.rows.modulus) }
+    ensures matrix { IfOk result (λ top.
+        top.matrix ≡ pivot_rows triangle.now.rows.matrix triangle.now.pairs) }
+{
+    let rows = triangle.rows();
+    // The call's contract tells how high a matrix is.
+    let _ = rows.height();
+    let numbers = rows_of(alloc, triangle.pairs())?;
+    rows.select(alloc, &numbers)
 }
 
 // One round without the coefficients; None where there is no pivot.
@@ -82,16 +119,30 @@ pub(crate) fn take_left<R: Threads + Sync, G: Gate>(
     requires few { workers ≤ 64 }
     ensures { IfOk result (λ r. IfSome r (IsLeftBy rows.now)) }
 {
-    // The call's contract tells that the entries are residues.
-    let _ = rows.height();
     let triangle = any_pivots(rt, alloc, rows, workers, gate)?;
-    let pairs = triangle.pairs();
-    if pairs.is_empty() {
+    if triangle.pairs().is_empty() {
         return Ok(None);
     }
-    let rest = rest_of(rt, alloc, &triangle, workers)?;
-    let top = rows.select(alloc, &rows_of(alloc, pairs)?)?;
-    Ok(Some(Left { top, rest }))
+    let left = left_by(rt, alloc, &triangle, workers)?;
+    Ok(Some(left))
+}
+
+// The rows of these pivots, and what they leave.
+fn left_by<R: Threads + Sync>(
+    rt: &R,
+    alloc: Global,
+    triangle: &Triangle,
+    workers: u32,
+) -> Result<Left, AllocError>
+    requires some { 1 ≤ workers }
+    requires few { workers ≤ 64 }
+    ensures { IfOk result (IsLeftBy triangle.now.rows) }
+{
+    // The calls' contracts tell that the entries are residues, and that the pivots are triangular.
+    let _ = (triangle.rows().height(), triangle.pairs().len());
+    let rest = rest_of(rt, alloc, triangle, workers)?;
+    let top = rows_at_pivots(alloc, triangle)?;
+    Ok(Left { top, rest })
 }
 
 // What the pivots leave. Where few columns, many rows and many entries are left, it isn't stored, but a basis of its row space is
@@ -108,13 +159,41 @@ fn rest_of<R: Threads + Sync>(
 {
     let reducer = RowReducer::of(alloc, triangle, workers)?;
     if Extent::is_streamed(alloc, &reducer)? {
-        let basis = left_basis(rt, alloc, &reducer, workers)?;
-        return Ok(Rest {
-            rows: basis,
-            is_basis: true,
-        });
+        return basis_rest(rt, alloc, &reducer, workers);
     }
-    let rows = complement(rt, alloc, &reducer, workers)?;
+    whole_rest(rt, alloc, &reducer, workers)
+}
+
+// A basis of what pivots leave.
+fn basis_rest<R: Threads + Sync>(
+    rt: &R,
+    alloc: Global,
+    reducer: &RowReducer,
+    workers: u32,
+) -> Result<Rest, AllocError>
+    requires some { 1 ≤ workers }
+    requires few { workers ≤ 64 }
+    ensures { IfOk result (IsRestOf reducer.now) }
+{
+    let rows = left_basis(rt, alloc, reducer, workers)?;
+    Ok(Rest {
+        rows,
+        is_basis: true,
+    })
+}
+
+// All that pivots leave.
+fn whole_rest<R: Threads + Sync>(
+    rt: &R,
+    alloc: Global,
+    reducer: &RowReducer,
+    workers: u32,
+) -> Result<Rest, AllocError>
+    requires some { 1 ≤ workers }
+    requires few { workers ≤ 64 }
+    ensures { IfOk result (IsRestOf reducer.now) }
+{
+    let rows = complement(rt, alloc, reducer, workers)?;
     Ok(Rest {
         rows,
         is_basis: false,
@@ -134,46 +213,69 @@ pub(crate) fn count_round<R: Threads + Sync, G: Gate>(
     requires few { workers ≤ 64 }
     ensures { IfOk result (λ r. IfSome r (LeavesRank rows.now)) }
 {
-    // The law's contract: the rank of the complement gives that of the matrix.
-    schur_rows::round_rank();
-    // The call's contract tells that the entries are residues.
-    let _ = rows.height();
     let triangle = any_pivots(rt, alloc, rows, workers, gate)?;
-    let count = triangle.pairs().len() as u32;
-    if count == 0 {
+    if triangle.pairs().is_empty() {
         return Ok(None);
     }
-    let reducer = RowReducer::of(alloc, &triangle, workers)?;
-    if Extent::is_streamed(alloc, &reducer)? {
-        let counted = count_left(rt, alloc, rows, &reducer, workers, count)?;
-        return Ok(Some(counted));
-    }
-    let rest = complement(rt, alloc, &reducer, workers)?;
-    Ok(Some(Counted { count, rest }))
+    let counted = count_by(rt, alloc, &triangle, workers)?;
+    Ok(Some(counted))
 }
 
-// The pivots of a round with the rank of what they leave: no entry is left.
-fn count_left<R: Threads + Sync>(
+// The number of these pivots, and what they leave or its rank.
+fn count_by<R: Threads + Sync>(
     rt: &R,
     alloc: Global,
-    rows: &Rows,
-    reducer: &RowReducer,
+    triangle: &Triangle,
     workers: u32,
-    count: u32,
 ) -> Result<Counted, AllocError>
     requires some { 1 ≤ workers }
     requires few { workers ≤ 64 }
-    requires triangle { reducer.now.rows ≡ rows.now }
-    requires count { count ≡ length reducer.now.pairs }
-    ensures { IfOk result (LeavesRank rows.now) }
+    ensures { IfOk result (LeavesRank triangle.now.rows) }
 {
-    // The call's contract tells that the pivots are triangular.
-    let _ = reducer.pairs().len();
+    let reducer = RowReducer::of(alloc, triangle, workers)?;
+    if Extent::is_streamed(alloc, &reducer)? {
+        return count_left(rt, alloc, &reducer, workers);
+    }
+    count_stored(rt, alloc, &reducer, workers)
+}
+
+// The number of the pivots, and what they leave.
+fn count_stored<R: Threads + Sync>(
+    rt: &R,
+    alloc: Global,
+    reducer: &RowReducer,
+    workers: u32,
+) -> Result<Counted, AllocError>
+    requires some { 1 ≤ workers }
+    requires few { workers ≤ 64 }
+    ensures { IfOk result (LeavesRank reducer.now.rows) }
+{
+    // The law's contract: the rank of the complement gives that of the matrix.
+    schur_rows::round_rank();
+    // The call's contract tells that the entries are residues.
+    let _ = reducer.rows().height();
+    let count = reducer.pairs().len() as u32;
+    let rest = complement(rt, alloc, reducer, workers)?;
+    Ok(Counted { count, rest })
+}
+
+// The number of the pivots with the rank of what they leave: no entry is left.
+fn count_left<R: Threads + Sync>(
+    rt: &R,
+    alloc: Global,
+    reducer: &RowReducer,
+    workers: u32,
+) -> Result<Counted, AllocError>
+    requires some { 1 ≤ workers }
+    requires few { workers ≤ 64 }
+    ensures { IfOk result (LeavesRank reducer.now.rows) }
+{
+    let rows = reducer.rows();
     let height = rows.height();
     let width = rows.width();
     let most = height.min(width);
-    let basis = left_basis(rt, alloc, reducer, workers)?;
-    let left = basis.height();
+    let count = reducer.pairs().len() as u32;
+    let left = left_basis(rt, alloc, reducer, workers)?.height();
     let mut rest = Rows::with_room(alloc, rows.modulus(), width, 0, 0)?;
     rest.append_zeros(height)?;
     // Less only where the modulus isn't prime.

@@ -13,4 +13,4 @@ returns-then-is_basis g t c =
 pub returns : goal.returns
 returns g t c =
     let left = subst (λ (o : Option Left). IfSome o (IsLeftBy c.args.rows)) c.in-Some.is c.in_ok-left.ensures in
-    basis_joined {V = c.in_ok-below.below} left c.height-3.ensures.sound c.in_ok-below.ensures (omega (arith, c.height.ensures.value, c.height.ensures.bound)) c.in_ok-basis-3.ensures.modulus c.in_ok-basis-3.ensures.width c.in_ok-basis-3.ensures.stacked
+    basis_joined {V = c.in_ok-below.below} left c.height-3.ensures.sound c.in_ok-below.ensures (omega (arith, c.height.ensures.value, c.height.ensures.bound)) c.in_ok-basis.ensures.modulus c.in_ok-basis.ensures.width c.in_ok-basis.ensures.stacked
