@@ -15,6 +15,16 @@ use std::io::{self, Read};
 use std::thread::Threads;
 use std::time::{Clock, Instant};
 
+// How many microseconds a certificate and its check take, whether it is valid, and how many entries the matrix, the left and the
+// right factor have.
+#[derive(Clone, Copy)]
+struct Certified {
+    elimination: u128,
+    checking: u128,
+    valid: bool,
+    entries: [u64; 3],
+}
+
 // Says how long the factors by one worker take that make a certificate of the rank, and how long its check takes; whether it is
 // valid; and how many entries the matrix, the left and the right factor have.
 pub(crate) fn time_certificate<R: Threads + Sync + Clock + Print, I: Read + Drop>(
@@ -24,13 +34,42 @@ pub(crate) fn time_certificate<R: Threads + Sync + Clock + Print, I: Read + Drop
     rounds: u32,
 ) -> io::Result<()> {
     let rows = matrix(alloc, input, &Modulus::new(PRIME))?;
+    let certified = made_and_checked(rt, alloc, &rows, rounds)?;
+    say(rt, &certified)
+}
+
+// Says what a certificate took.
+fn say<R: Print>(rt: &R, certified: &Certified) -> io::Result<()> {
+    let Certified {
+        elimination,
+        checking,
+        valid,
+        entries,
+    } = certified;
+    let [rows, left, right] = entries;
+    println!(rt; "{elimination} {checking} {valid} {rows} {left} {right}")
+}
+
+// Makes a certificate of the rank, and checks it.
+fn made_and_checked<R: Threads + Sync + Clock>(
+    rt: &R,
+    alloc: Global,
+    rows: &Rows,
+    rounds: u32,
+) -> io::Result<Certified> {
     let plan = Plan { workers: 1, rounds };
-    let (certificate, elimination) = made(rt, alloc, &rows, plan)?;
-    let (valid, checking) = checked(rt, alloc, &rows, &certificate)?;
-    let entries = rows.entries();
-    let left = certificate.l.entries();
-    let right = certificate.u.entries();
-    println!(rt; "{elimination} {checking} {valid} {entries} {left} {right}")
+    let (certificate, elimination) = made(rt, alloc, rows, plan)?;
+    let (valid, checking) = checked(rt, alloc, rows, &certificate)?;
+    Ok(Certified {
+        elimination,
+        checking,
+        valid,
+        entries: [
+            rows.entries(),
+            certificate.l.entries(),
+            certificate.u.entries(),
+        ],
+    })
 }
 
 // Makes a certificate of the rank, and tells the microseconds of its factors.

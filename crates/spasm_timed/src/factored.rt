@@ -4,6 +4,7 @@ ghost use Rattle.std.specs.Prelude.{◌≤◌};
 use crate::texts::matrix;
 use dense_finish::finish;
 use residue_words::Modulus;
+use sparse_rows::Rows;
 use std::alloc::Global;
 use std::io::{self, Read};
 use std::thread::Threads;
@@ -21,9 +22,22 @@ pub(crate) fn time_factors<R: Threads + Sync + Clock + Print, I: Read + Drop>(
     requires few { workers ≤ 64 }
 {
     let rows = matrix(alloc, input, p)?;
-    let start = Instant::now(rt)?;
-    let factors = finish(rt, alloc, &rows, workers)?;
-    let time = start.elapsed(rt)?.as_micros();
-    let rank = factors.pivots.items().len();
+    let (time, rank) = factored(rt, alloc, &rows, workers)?;
     println!(rt; "{time} {rank}")
+}
+
+// How long the factors of a matrix take by so many workers, and the rank.
+fn factored<R: Threads + Sync + Clock>(
+    rt: &R,
+    alloc: Global,
+    rows: &Rows,
+    workers: u32,
+) -> io::Result<(u128, usize)>
+    requires some { 1 ≤ workers }
+    requires few { workers ≤ 64 }
+{
+    let start = Instant::now(rt)?;
+    let factors = finish(rt, alloc, rows, workers)?;
+    let time = start.elapsed(rt)?.as_micros();
+    Ok((time, factors.pivots.items().len()))
 }

@@ -14,8 +14,20 @@ use std::thread::Threads;
 use std::time::{Clock, Instant};
 use triangular_solve::Triangle;
 
-// Says of each of so many rounds how long its pivots take and how many they are, how long the complement takes, and of what size it
-// is and how many entries it has; and then how long the whole rank takes, and the rank.
+// How many microseconds a round's search and its complement take, how many pivots it finds, and how many rows, columns and entries
+// it leaves.
+#[derive(Clone, Copy)]
+struct Round {
+    search: u128,
+    elimination: u128,
+    found: usize,
+    height: usize,
+    width: usize,
+    entries: u64,
+}
+
+// Says how long the whole rank takes, and the rank; and then of each of so many rounds how long its pivots take and how many they
+// are, how long the complement takes, and of what size it is and how many entries it has.
 pub(crate) fn time_rounds<R: Threads + Sync + Clock + Print, I: Read + Drop>(
     rt: &R,
     alloc: Global,
@@ -26,15 +38,28 @@ pub(crate) fn time_rounds<R: Threads + Sync + Clock + Print, I: Read + Drop>(
     requires few { plan.workers ≤ 64 }
 {
     let rows = matrix(alloc, input, &Modulus::new(PRIME))?;
-    let start = Instant::now(rt)?;
-    let rank = rank(rt, alloc, &rows, plan, &Open)?;
-    let time = start.elapsed(rt)?.as_micros();
-    println!(rt; "{time} {rank}")?;
+    time_rank(rt, alloc, &rows, plan)?;
     let mut rest = rows;
     for _round in 0..plan.rounds {
         rest = time_round(rt, alloc, &rest, plan.workers)?;
     }
     Ok(())
+}
+
+// Says how long the rank takes, and the rank.
+fn time_rank<R: Threads + Sync + Clock + Print>(
+    rt: &R,
+    alloc: Global,
+    rows: &Rows,
+    plan: Plan,
+) -> io::Result<()>
+    requires some { 1 ≤ plan.workers }
+    requires few { plan.workers ≤ 64 }
+{
+    let start = Instant::now(rt)?;
+    let rank = rank(rt, alloc, rows, plan, &Open)?;
+    let time = start.elapsed(rt)?.as_micros();
+    println!(rt; "{time} {rank}")
 }
 
 // Takes one round, and says how long that takes.
@@ -51,19 +76,47 @@ fn time_round<R: Threads + Sync + Clock + Print>(
     let triangle = pivots(rt, alloc, rows, workers)?;
     let search = start.elapsed(rt)?.as_micros();
     let found = triangle.pairs().len();
-    let start = Instant::now(rt)?;
-    let rest = complement(
-        rt,
-        alloc,
-        &RowReducer::of(alloc, &triangle, workers)?,
-        workers,
-    )?;
-    let elimination = start.elapsed(rt)?.as_micros();
-    let height = rest.filled(alloc)?.len();
-    let width = rest.occupied(alloc)?.len();
-    let entries = rest.entries();
-    println!(rt; "{search} {found} {elimination} {height} {width} {entries}")?;
+    let (rest, elimination) = left(rt, alloc, &triangle, workers)?;
+    let round = Round {
+        search,
+        elimination,
+        found,
+        height: rest.filled(alloc)?.len(),
+        width: rest.occupied(alloc)?.len(),
+        entries: rest.entries(),
+    };
+    say(rt, &round)?;
     Ok(rest)
+}
+
+// What pivots leave, and how many microseconds that takes.
+fn left<R: Threads + Sync + Clock>(
+    rt: &R,
+    alloc: Global,
+    triangle: &Triangle<'_>,
+    workers: u32,
+) -> io::Result<(Rows, u128)>
+    requires some { 1 ≤ workers }
+    requires few { workers ≤ 64 }
+{
+    let start = Instant::now(rt)?;
+    let reducer = RowReducer::of(alloc, triangle, workers)?;
+    let rest = complement(rt, alloc, &reducer, workers)?;
+    let time = start.elapsed(rt)?.as_micros();
+    Ok((rest, time))
+}
+
+// Says what a round took.
+fn say<R: Print>(rt: &R, round: &Round) -> io::Result<()> {
+    let Round {
+        search,
+        elimination,
+        found,
+        height,
+        width,
+        entries,
+    } = round;
+    println!(rt; "{search} {found} {elimination} {height} {width} {entries}")
 }
 
 // The pivots of a round in triangular order.
