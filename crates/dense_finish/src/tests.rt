@@ -74,26 +74,31 @@ fn product(left: &Rows, right: &Rows, i: u32, j: u32, p: u64) -> u128
     sum
 }
 
-// The factors have so many pivots, multiply to the matrix, and are the same by any number of workers.
-fn assert_factors<R: Threads + Sync + Abort>(
-    rt: &R,
-    alloc: Global,
-    a: &Rows,
-    rank: usize,
-) -> Result<(), Fail> {
-    let f = finish(rt, alloc, a, 1)?;
-    assert_eq!(rt; f.pivots.items().len(), rank);
+// The factors multiply to the matrix.
+fn assert_product(rt: &impl Abort, a: &Rows, f: &Factors) {
+    let p = a.modulus().p();
     for i in 0..a.height() {
         for j in 0..a.width() {
             assert_eq!(rt;
-                product(&f.l, &f.u, i, j, a.modulus().p()),
+                product(&f.l, &f.u, i, j, p),
                 u128::from(entry(a, i, j)),
                 "at {i}, {j}"
             );
         }
     }
-    assert_same(rt, alloc, a, &f, 2)?;
-    assert_same(rt, alloc, a, &f, 8)
+}
+
+// Whether two matrices have the same entries.
+fn have_same_entries(alloc: Global, a: &Rows, b: &Rows) -> Result<bool, AllocError> {
+    let (left, right) = (a.triples(alloc)?, b.triples(alloc)?);
+    Ok(left.as_slice() == right.as_slice())
+}
+
+// Whether two factorings are the same.
+fn are_same(alloc: Global, f: &Factors, g: &Factors) -> Result<bool, AllocError> {
+    let left = have_same_entries(alloc, &f.l, &g.l)?;
+    let right = have_same_entries(alloc, &f.u, &g.u)?;
+    Ok(left && right && f.pivots.items() == g.pivots.items())
 }
 
 // The factors by so many workers are these.
@@ -108,10 +113,22 @@ fn assert_same<R: Threads + Sync + Abort>(
     requires few { workers ≤ 64 }
 {
     let g = finish(rt, alloc, a, workers)?;
-    assert_eq!(rt; g.pivots.items(), f.pivots.items());
-    assert_eq!(rt; g.l.triples(alloc)?, f.l.triples(alloc)?);
-    assert_eq!(rt; g.u.triples(alloc)?, f.u.triples(alloc)?);
+    assert!(rt; are_same(alloc, f, &g)?, "by {workers} workers");
     Ok(())
+}
+
+// The factors have so many pivots, multiply to the matrix, and are the same by any number of workers.
+fn assert_factors<R: Threads + Sync + Abort>(
+    rt: &R,
+    alloc: Global,
+    a: &Rows,
+    rank: usize,
+) -> Result<(), Fail> {
+    let f = finish(rt, alloc, a, 1)?;
+    assert_eq!(rt; f.pivots.items().len(), rank);
+    assert_product(rt, a, &f);
+    assert_same(rt, alloc, a, &f, 2)?;
+    assert_same(rt, alloc, a, &f, 8)
 }
 
 // A modulus, a height and a width, the entries row after row, and the rank.
@@ -257,6 +274,16 @@ const MODULI: [u64; 9] = [
     140737488355213,
 ];
 
+// The factors have the rank that a plain elimination finds.
+fn assert_plain_rank<R: Threads + Sync + Abort>(
+    rt: &R,
+    alloc: Global,
+    a: &Rows,
+) -> Result<(), Fail> {
+    let rank = plain_rank(plain_rows(alloc, a)?, a.modulus().p());
+    assert_factors(rt, alloc, a, rank)
+}
+
 // Heights, widths, and how many rows the others come from.
 const SIZES: [(u32, u32, u32); 9] = [
     (1, 1, 1),
@@ -279,7 +306,7 @@ fn ranks_agree_with_plain_elimination(rt: HostRuntime) -> Result<(), Fail> {
                 2 <= p && p < MODULUS_BOUND && m <= LARGEST_SIZE && n <= LARGEST_SIZE && 1 <= rank
             );
             let a = drawn_matrix(alloc, Modulus::new(p), m, n, rank)?;
-            assert_factors(&rt, alloc, &a, plain_rank(plain_rows(alloc, &a)?, p))?;
+            assert_plain_rank(&rt, alloc, &a)?;
         }
     }
     Ok(())
@@ -298,22 +325,29 @@ fn scattered(alloc: Global) -> Result<Rows, AllocError> {
     builder.finish()
 }
 
+// Of factors of a huge matrix: how many pivots, the first of them, the sizes and the entries, and those at the ends.
+fn seen(f: &Factors) -> (usize, Option<&Pair>, [u64; 6]) {
+    let sizes = [
+        u64::from(f.l.height()),
+        f.l.entries(),
+        u64::from(f.u.width()),
+        f.u.entries(),
+        entry(&f.l, HUGE - 1, 9),
+        entry(&f.u, 9, 0),
+    ];
+    (f.pivots.items().len(), f.pivots.items().first(), sizes)
+}
+
 // They cost what ten entries cost.
 #[test]
 fn entries_cost_and_not_sizes(rt: HostRuntime) -> Result<(), Fail> {
     let alloc = rt.alloc();
     let f = finish(&rt, alloc, &scattered(alloc)?, 2)?;
-    assert_eq!(rt; f.pivots.items().len(), 10);
-    assert_eq!(rt;
-        f.pivots.items().first(),
-        Some(&Pair {
-            row: HUGE - 1 - 9 * STEP,
-            col: 9 * STEP
-        })
-    );
-    assert_eq!(rt; (f.l.height(), f.l.entries()), (HUGE, 10));
-    assert_eq!(rt; (f.u.width(), f.u.entries()), (HUGE, 10));
-    assert_eq!(rt; entry(&f.l, HUGE - 1, 9), 1);
-    assert_eq!(rt; entry(&f.u, 9, 0), 1);
+    let first = Pair {
+        row: HUGE - 1 - 9 * STEP,
+        col: 9 * STEP,
+    };
+    let size = u64::from(HUGE);
+    assert_eq!(rt; seen(&f), (10, Some(&first), [size, 10, size, 10, 1, 1]));
     Ok(())
 }

@@ -85,16 +85,46 @@ fn agrees<R: Threads + Sync>(
     Ok(alone && shared && single && some && whole)
 }
 
+// What walks leave, and its rank.
+fn known_rest<R: Threads + Sync>(
+    rt: &R,
+    alloc: Global,
+    triangle: &Triangle,
+) -> Result<(Rows, usize), AllocError> {
+    let known = complement(rt, alloc, &RowReducer::by_walks(triangle), 1)?;
+    let factors = finish(rt, alloc, &known, 1)?;
+    Ok((known, factors.pivots.items().len()))
+}
+
+// Whether flat rows leave what is known, and give bases of the rank.
+fn flat_agrees<R: Threads + Sync>(
+    rt: &R,
+    alloc: Global,
+    triangle: &Triangle,
+    known: &Rows,
+    rank: usize,
+) -> Result<bool, AllocError> {
+    let flat = RowReducer::by_flat_rows(alloc, triangle)?;
+    agrees(rt, alloc, &flat, known, rank)
+}
+
+// Whether walks and flat rows agree on what these pivots leave.
+fn both_agree<R: Threads + Sync>(
+    rt: &R,
+    alloc: Global,
+    triangle: &Triangle,
+) -> Result<bool, AllocError> {
+    let (known, rank) = known_rest(rt, alloc, triangle)?;
+    let by_walks = agrees(rt, alloc, &RowReducer::by_walks(triangle), &known, rank)?;
+    let by_flat_rows = flat_agrees(rt, alloc, triangle, &known, rank)?;
+    Ok(by_walks && by_flat_rows)
+}
+
 // Whether walks and flat rows agree on what the leftmost pivots leave.
 fn ways_agree<R: Threads + Sync>(rt: &R, alloc: Global, rows: &Rows) -> Result<bool, AllocError> {
-    let triangle = Triangle::of(alloc, &leftmost(alloc, rows)?)?;
-    let walks = RowReducer::by_walks(&triangle);
-    let known = complement(rt, alloc, &walks, 1)?;
-    let rank = finish(rt, alloc, &known, 1)?.pivots.items().len();
-    let flat = RowReducer::by_flat_rows(alloc, &triangle)?;
-    let by_walks = agrees(rt, alloc, &walks, &known, rank)?;
-    let by_flat_rows = agrees(rt, alloc, &flat, &known, rank)?;
-    Ok(by_walks && by_flat_rows)
+    let book = leftmost(alloc, rows)?;
+    let triangle = Triangle::of(alloc, &book)?;
+    both_agree(rt, alloc, &triangle)
 }
 
 // Heights, widths and values a row: a complement of few rows, tall ones, one of full rank, a dense matrix, and sizes where a row costs

@@ -267,6 +267,20 @@ const CERTIFIED: &[(&[&str], &str, &str)] = &[
     ),
 ];
 
+// Whether `check` says yes to this certificate of the matrix in a text.
+fn is_valid<R: Threads + Sync>(
+    rt: &R,
+    alloc: Global,
+    text: &str,
+    certificate: &[u8],
+) -> Result<bool, AllocError> {
+    let mut both = Vec::from_slice(alloc, text.as_bytes())?;
+    both.extend_from_slice(certificate)?;
+    let words = ["check", "--modulus=7"];
+    let verdict = written(rt, alloc, &words, both.as_slice(), &Open)?;
+    Ok(is_among(&verdict, &["yes\n"]))
+}
+
 // Whether a certificate is written that begins so, and is valid for the matrix before it.
 fn is_certified<'a, R: Threads + Sync>(
     rt: &R,
@@ -278,11 +292,8 @@ fn is_certified<'a, R: Threads + Sync>(
     let Some(certificate) = written(rt, alloc, words, text.as_bytes(), &Open)? else {
         return Ok(false);
     };
-    let mut both = Vec::from_slice(alloc, text.as_bytes())?;
-    both.extend_from_slice(certificate.content())?;
-    let words = ["check", "--modulus=7"];
-    let verdict = written(rt, alloc, &words, both.as_slice(), &Open)?;
-    Ok(certificate.content().starts_with(begins.as_bytes()) && is_among(&verdict, &["yes\n"]))
+    let valid = is_valid(rt, alloc, text, certificate.content())?;
+    Ok(valid && certificate.content().starts_with(begins.as_bytes()))
 }
 
 fn check_certified<R: Threads + Sync + Abort>(rt: &R, alloc: Global) -> Result<(), Fail> {

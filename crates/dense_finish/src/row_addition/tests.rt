@@ -91,7 +91,89 @@ fn narrow(out: &mut [u32], row: &[u64], p: u64)
     }
 }
 
-// All ways on rows of one length, whose entries come from a simple generator.
+// A multiple of one row of a simple generator added to another, plainly.
+fn plainly(p: &Modulus, a: u64, length: usize) -> [u64; LONGEST]
+    requires factor { a < p.now }
+    requires short { length ≤ 40 }
+{
+    let mut out = [0u64; LONGEST];
+    let mut y = [0u64; LONGEST];
+    let row = &mut out[..length];
+    let y = &mut y[..length];
+    fill(row, 1, p.p());
+    fill(y, 2, p.p());
+    axpy_plainly(row, a, y, p);
+    out
+}
+
+// The same by lanes.
+fn by_lanes(p: &Modulus, a: u64, length: usize) -> [u64; LONGEST]
+    requires factor { a < p.now }
+    requires short { length ≤ 40 }
+{
+    let mut out = [0u64; LONGEST];
+    let mut y = [0u64; LONGEST];
+    let row = &mut out[..length];
+    let y = &mut y[..length];
+    fill(row, 1, p.p());
+    fill(y, 2, p.p());
+    axpy(row, a, y, p);
+    out
+}
+
+// The same with residues kept in 64 bits.
+fn in_64_bits(p: &Modulus, a: u64, length: usize) -> [u64; LONGEST]
+    requires factor { a < p.now }
+    requires short { length ≤ 40 }
+{
+    let mut out = [0u64; LONGEST];
+    let mut y = [0u64; LONGEST];
+    let row = &mut out[..length];
+    let y = &mut y[..length];
+    fill(row, 1, p.p());
+    fill(y, 2, p.p());
+    <u64 as Residue>::add_multiple(row, a, y, p);
+    out
+}
+
+// Residues of the generator, in 32 bits.
+fn fill_narrow(out: &mut [u32], seed: u64, p: u64)
+    requires two_or_more { 2 ≤ p }
+    requires in_range { p < LANE_BOUND }
+    requires short { length out.old ≤ 40 }
+    ensures { (k : ℕ) → k < length out.old → slice_index out.new k < p }
+{
+    let mut row = [0u64; LONGEST];
+    let row = &mut row[..out.len()];
+    fill(row, seed, p);
+    narrow(out, row, p);
+}
+
+// The same with residues kept in 32 bits.
+fn in_32_bits(p: &Modulus, a: u64, length: usize) -> [u64; LONGEST]
+    requires factor { a < p.now }
+    requires narrow { p.now < LANE_BOUND }
+    requires short { length ≤ 40 }
+{
+    let mut out = [0u32; LONGEST];
+    let mut y = [0u32; LONGEST];
+    let row = &mut out[..length];
+    let y = &mut y[..length];
+    fill_narrow(row, 1, p.p());
+    fill_narrow(y, 2, p.p());
+    <u32 as Residue>::add_multiple(row, a, y, p);
+    widened(&out)
+}
+
+fn widened(row: &[u32; LONGEST]) -> [u64; LONGEST] {
+    let mut wide = [0u64; LONGEST];
+    for k in 0..LONGEST {
+        wide[k] = u64::from(row[k]);
+    }
+    wide
+}
+
+// All ways agree on rows of one length.
 fn assert_all_ways_agree(rt: &impl Abort, p: u64, a: u64, length: usize)
     requires two_or_more { 2 ≤ p }
     requires factor { a < p }
@@ -99,37 +181,22 @@ fn assert_all_ways_agree(rt: &impl Abort, p: u64, a: u64, length: usize)
     requires short { length ≤ 40 }
 {
     let modulus = Modulus::new(p);
-    let mut row = [0u64; LONGEST];
-    let mut y = [0u64; LONGEST];
-    let row = &mut row[..length];
-    let y = &mut y[..length];
-    fill(row, 1, p);
-    fill(y, 2, p);
-    let mut by_lanes = [0u64; LONGEST];
-    let by_lanes = &mut by_lanes[..length];
-    fill(by_lanes, 1, p);
-    axpy(by_lanes, a, y, &modulus);
-    let mut in_64_bits = [0u64; LONGEST];
-    let in_64_bits = &mut in_64_bits[..length];
-    fill(in_64_bits, 1, p);
-    <u64 as Residue>::add_multiple(in_64_bits, a, y, &modulus);
-    let mut in_32_bits = [0u32; LONGEST];
-    let in_32_bits = &mut in_32_bits[..length];
-    let is_narrow = p < LANE_BOUND;
-    if is_narrow {
-        let mut y_in_32_bits = [0u32; LONGEST];
-        let y_in_32_bits = &mut y_in_32_bits[..length];
-        narrow(in_32_bits, row, p);
-        narrow(y_in_32_bits, y, p);
-        <u32 as Residue>::add_multiple(in_32_bits, a, y_in_32_bits, &modulus);
-    }
-    axpy_plainly(row, a, y, &modulus);
-    for k in 0..length {
-        assert_eq!(rt; by_lanes[k], row[k], "entry {k} of {length} modulo {p}");
-        assert_eq!(rt; in_64_bits[k], row[k], "entry {k} of {length} modulo {p}");
-        assert!(rt;
-            !is_narrow || u64::from(in_32_bits[k]) == row[k],
-            "entry {k} of {length} modulo {p}"
+    let sums = plainly(&modulus, a, length);
+    assert_eq!(rt;
+        by_lanes(&modulus, a, length),
+        sums,
+        "{length} entries modulo {p}"
+    );
+    assert_eq!(rt;
+        in_64_bits(&modulus, a, length),
+        sums,
+        "{length} entries modulo {p}"
+    );
+    if p < LANE_BOUND {
+        assert_eq!(rt;
+            in_32_bits(&modulus, a, length),
+            sums,
+            "{length} entries modulo {p}"
         );
     }
 }

@@ -75,6 +75,23 @@ fn list(alloc: Global, fails: u64) -> Result<Vec<u64>, AllocError> {
     Ok(list)
 }
 
+// A text that comes in pieces.
+fn source_of(alloc: Global, text: &[u8], streams: &Streams) -> Result<MemorySource, AllocError>
+    requires piece { 0 < streams.now.piece }
+{
+    let fails = list(alloc, streams.pull)?;
+    let text = Vec::from_slice(alloc, text)?;
+    Ok(MemorySource::new(text, streams.piece, fails))
+}
+
+// A sink with so much room, that fails in one call, if any.
+fn sink_of(alloc: Global, room: usize, piece: usize, fails: u64) -> Result<MemorySink, AllocError>
+    requires { 0 < piece }
+{
+    let fails = list(alloc, fails)?;
+    MemorySink::new(alloc, room, piece, fails)
+}
+
 pub fn run_on<'a, R: Threads + Sync>(
     rt: &R,
     alloc: Global,
@@ -86,15 +103,9 @@ pub fn run_on<'a, R: Threads + Sync>(
     requires piece { 0 < streams.now.piece }
     requires put_piece { 0 < streams.now.put_piece }
 {
-    let text = Vec::from_slice(alloc, text)?;
-    let mut source = MemorySource::new(text, streams.piece, list(alloc, streams.pull)?);
-    let mut out = MemorySink::new(
-        alloc,
-        streams.room,
-        streams.put_piece,
-        list(alloc, streams.put)?,
-    )?;
-    let mut err = MemorySink::new(alloc, 64, 64, list(alloc, streams.err_put)?)?;
+    let mut source = source_of(alloc, text, streams)?;
+    let mut out = sink_of(alloc, streams.room, streams.put_piece, streams.put)?;
+    let mut err = sink_of(alloc, 64, 64, streams.err_put)?;
     let status = run_within(
         rt,
         alloc,
