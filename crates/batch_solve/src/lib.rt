@@ -3,8 +3,6 @@
 
 mod batch_run;
 mod batch_status;
-#[cfg(test)]
-mod batch_tests;
 mod batch_texts;
 mod batch_words;
 mod desk;
@@ -14,8 +12,6 @@ mod laws;
 mod preparing;
 mod slip;
 mod taker;
-#[cfg(test)]
-mod tests;
 mod together;
 mod watch;
 mod worker;

@@ -11,7 +11,5 @@ mod factoring;
 mod outer_ones;
 mod product;
 mod showing;
-#[cfg(test)]
-mod tests;
 
 pub use checking::check;

@@ -8,8 +8,6 @@
 mod certificate;
 mod laws;
 mod reading;
-#[cfg(test)]
-mod tests;
 mod title;
 mod writing;
 

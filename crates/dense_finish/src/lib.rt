@@ -14,8 +14,6 @@ mod reducing;
 mod residue;
 mod right_factor;
 mod row_addition;
-#[cfg(test)]
-mod tests;
 
 pub use elimination::finish;
 pub use factors::Factors;

@@ -5,8 +5,6 @@ mod echelon;
 mod lead_order;
 mod settle;
 mod sparse_elimination;
-#[cfg(test)]
-mod tests;
 
 pub use echelon::Echelon;
 pub use sparse_elimination::rank;

@@ -6,8 +6,6 @@
 #![tactic(auto)]
 
 mod beginning;
-#[cfg(test)]
-mod tests;
 
 ghost use Rattle.std.specs.Prelude.{◌≡◌, [], IfOk, OnOk};
 ghost use Rattle.fl_pivots.specs.Beginnings.{AreBeginnings, AreSorted};

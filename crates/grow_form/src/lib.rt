@@ -8,8 +8,6 @@ mod numbering;
 mod reduced_form;
 mod script;
 mod scripts;
-#[cfg(test)]
-mod tests;
 mod writing;
 
 ghost use Rattle.grow_form.specs.Example.{IsWorkedScript};

@@ -14,8 +14,6 @@ mod reduction;
 mod refutations;
 mod substitution;
 mod systems;
-#[cfg(test)]
-mod tests;
 mod vectors;
 
 pub use bases::{kernel, left_kernel};

@@ -12,8 +12,6 @@ mod form_by_rounds;
 mod plan;
 mod rank_by_rounds;
 mod round_pivots;
-#[cfg(test)]
-mod tests;
 
 ghost use Rattle.pluq_factor.specs.Laws.{SelectedIsOne, StagedGoesOn};
 

@@ -7,8 +7,6 @@ mod fold;
 mod modulus;
 pub mod plain;
 mod shoup;
-#[cfg(test)]
-mod tests;
 
 pub use fold::Fold;
 pub use modulus::{MODULUS_BOUND, Modulus};

@@ -9,8 +9,6 @@ mod laws;
 mod publication;
 mod reading;
 mod replaying;
-#[cfg(test)]
-mod tests;
 mod title;
 mod trace;
 mod tracing;

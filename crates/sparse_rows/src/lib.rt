@@ -16,8 +16,6 @@ mod rows;
 mod sparse;
 mod stored_rows;
 mod sums;
-#[cfg(test)]
-mod tests;
 
 pub use builder::RowsBuilder;
 pub use column_set::ColumnSet;

@@ -12,8 +12,6 @@ mod read_matrices;
 mod running;
 mod status;
 mod summary;
-#[cfg(test)]
-mod tests;
 pub mod words;
 mod written_pivots;
 

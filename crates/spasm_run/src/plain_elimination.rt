@@ -6,8 +6,6 @@ ghost use Rattle.row_space.specs.Echelon.{HasRank};
 ghost use Rattle.row_space.specs.Rows.{DiffersBy, HasSteps};
 ghost use Rattle.spasm_run.specs.Plain.{AreKept, PassesRow, StartsAt, lists, plain_matrix, steps};
 
-#[cfg(test)]
-mod tests;
 
 use residue_words::Modulus;
 use sparse_rows::Rows;

@@ -9,8 +9,6 @@ ghost use Rattle.spasm_run.specs.Options.{AreTaken, AsksFor, RowsSet, bytes_of};
 ghost use Rattle.spasm_run.specs.declared.words.Task.TheVariants as task;
 
 pub mod command_line;
-#[cfg(test)]
-mod tests;
 
 use crate::generator::{Generator, LARGEST_GENERATED, MOST_PER_ROW};
 use certificates::CertKind;

@@ -2,8 +2,6 @@
 #![tactic(auto)]
 
 mod from_read;
-#[cfg(test)]
-mod tests;
 mod to_write;
 mod words;
 

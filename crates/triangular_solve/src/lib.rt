@@ -16,8 +16,6 @@ mod led;
 mod pivot_rows;
 mod queue;
 mod reduced;
-#[cfg(test)]
-mod tests;
 mod triangle;
 mod work;
 

@@ -1,0 +1,5 @@
+//! Tests of the public calls of the base: residues, sparse rows, texts and streams.
+#![tactic(auto)]
+
+#[cfg(test)]
+mod tests;

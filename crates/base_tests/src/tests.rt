@@ -1,0 +1,7 @@
+// The calls of each crate against values from outside.
+mod matrices;
+mod reading;
+mod residues;
+mod rows;
+mod streams;
+mod writing;

@@ -1,0 +1,341 @@
+// Each call once, on small matrices modulo 7 and on huge ones with few entries.
+ghost use Rattle.sparse_rows.specs.declared.rows.TheConstants.{LARGEST_SIZE};
+ghost use Rattle.std.specs.Prelude.{◌≡◌, ◌<◌, ◌≤◌, ◌+◌, All, IfOk};
+
+use residue_words::Modulus;
+use sparse_rows::{LARGEST_SIZE, List, Rows, RowsBuilder, Sparse};
+use std::alloc::{AllocError, Global};
+use std::test::Fail;
+
+// The matrix of these places and values modulo 7.
+fn built(alloc: Global, m: u32, n: u32, triples: &[(u32, u32, u64)]) -> Result<Rows, Fail>
+    ensures modulus { IfOk result (λ rows. rows.modulus ≡ 7) }
+    ensures height { IfOk result (λ rows. rows.matrix.height ≡ m) }
+    ensures width { IfOk result (λ rows. rows.matrix.width ≡ n) }
+{
+    match Rows::checked_from_triples(alloc, m, n, &Modulus::new(7), triples)? {
+        Some(rows) => Ok(rows),
+        None => Err(Fail::new("a place is outside")),
+    }
+}
+
+// The sum modulo 7 of what stands at a place.
+fn sum_at(triples: &[(u32, u32, u64)], i: u32, j: u32) -> u64 {
+    let mut sum = 0u64;
+    for (a, b, v) in triples {
+        if *a == i && *b == j {
+            sum = sum.wrapping_add(*v) % 7;
+        }
+    }
+    sum
+}
+
+// The entries of the matrix of the sums, looked up place by place.
+fn sums(
+    alloc: Global,
+    m: u32,
+    n: u32,
+    triples: &[(u32, u32, u64)],
+) -> Result<Vec<(u32, u32, u64)>, AllocError> {
+    let mut list = Vec::new(alloc);
+    for i in 0..m {
+        for j in 0..n {
+            let sum = sum_at(triples, i, j);
+            if sum != 0 {
+                list.push((i, j, sum))?;
+            }
+        }
+    }
+    Ok(list)
+}
+
+// Places and values in no order, from a linear congruential generator.
+fn scattered(alloc: Global, count: u32, seed: u32) -> Result<Vec<(u32, u32, u64)>, AllocError> {
+    let mut list = Vec::new(alloc);
+    let mut state = seed;
+    for _ in 0..count {
+        state = state.wrapping_mul(1_664_525).wrapping_add(1_013_904_223);
+        list.push((
+            (state >> 8) % 9,
+            (state >> 16) % 6,
+            (state >> 24) as u64 % 7,
+        ))?;
+    }
+    Ok(list)
+}
+
+// Whether these are the entries, row by row.
+fn lists(alloc: Global, rows: &Rows, entries: &[(u32, u32, u64)]) -> Result<bool, AllocError> {
+    let triples = rows.triples(alloc)?;
+    Ok(triples.as_slice() == entries)
+}
+
+// Whether the transpose has these entries.
+fn turns_into(alloc: Global, rows: &Rows, entries: &[(u32, u32, u64)]) -> Result<bool, AllocError> {
+    let turned = rows.transpose(alloc)?;
+    lists(alloc, &turned, entries)
+}
+
+// Whether the matrix of two rows has these entries.
+fn selects(
+    alloc: Global,
+    rows: &Rows,
+    numbers: [u32; 2],
+    entries: &[(u32, u32, u64)],
+) -> Result<bool, AllocError>
+    requires { All (λ i. i < rows.now.matrix.height) numbers }
+{
+    let selected = rows.select(alloc, &numbers)?;
+    lists(alloc, &selected, entries)
+}
+
+// Whether what is pushed in no order is summed, in as many rows.
+fn is_summed(alloc: Global, height: u32, count: u32) -> Result<bool, Fail> {
+    let pushed = scattered(alloc, count, count)?;
+    let wanted = sums(alloc, 9, 6, &pushed)?;
+    let rows = built(alloc, height, 6, &pushed)?;
+    Ok(lists(alloc, &rows, &wanted)?)
+}
+
+#[test]
+fn what_is_pushed_in_any_order_is_summed(rt: HostRuntime) -> Result<(), Fail> {
+    let alloc = rt.alloc();
+    for count in [0, 1, 2, 5, 20, 60, 300] {
+        // In few rows, and in many more than there are entries.
+        let near = is_summed(alloc, 9, count)?;
+        let far = is_summed(alloc, LARGEST_SIZE, count)?;
+        assert_eq!(rt; (near, far), (true, true), "{count} pushed");
+    }
+    Ok(())
+}
+
+const SMALL: &[(u32, u32, u64)] = &[
+    (2, 1, 5),
+    (0, 1, 4),
+    (0, 0, 2),
+    (2, 1, 1),
+    (0, 2, 1),
+    (1, 0, 1),
+    (1, 1, 2),
+    (2, 0, 3),
+    (2, 2, 1),
+];
+
+const SMALL_TURNED: &[(u32, u32, u64)] = &[
+    (0, 0, 2),
+    (0, 1, 1),
+    (0, 2, 3),
+    (1, 0, 4),
+    (1, 1, 2),
+    (1, 2, 6),
+    (2, 0, 1),
+    (2, 2, 1),
+];
+
+const LAST_AND_FIRST: &[(u32, u32, u64)] = &[
+    (0, 0, 3),
+    (0, 1, 6),
+    (0, 2, 1),
+    (1, 0, 2),
+    (1, 1, 4),
+    (1, 2, 1),
+];
+
+#[test]
+fn small_matrices(rt: HostRuntime) -> Result<(), Fail> {
+    let alloc = rt.alloc();
+    let x = built(alloc, 3, 3, SMALL)?;
+    let turned = turns_into(alloc, &x, SMALL_TURNED)?;
+    let selected = selects(alloc, &x, [2, 0], LAST_AND_FIRST)?;
+    assert_eq!(rt; (turned, selected), (true, true));
+    Ok(())
+}
+
+#[test]
+fn products_with_a_vector(rt: HostRuntime) -> Result<(), Fail> {
+    let x = built(rt.alloc(), 3, 3, SMALL)?;
+    let product = x.times(rt.alloc(), &[5, 1, 0])?;
+    assert_eq!(rt; product.as_slice(), [0, 0, 0].as_slice());
+    Ok(())
+}
+
+#[test]
+fn sums_that_are_zero_are_no_entries(rt: HostRuntime) -> Result<(), Fail> {
+    let rows = built(rt.alloc(), 1, 1, &[(0, 0, 3), (0, 0, 4)])?;
+    assert_eq!(rt; rows.entries(), 0);
+    Ok(())
+}
+
+#[test]
+fn the_identity_has_ones_alone(rt: HostRuntime) -> Result<(), Fail> {
+    let alloc = rt.alloc();
+    let one = Rows::identity(alloc, 2, &Modulus::new(7))?;
+    assert!(rt; lists(alloc, &one, &[(0, 0, 1), (1, 1, 1)])?);
+    Ok(())
+}
+
+// Few entries in a matrix of the largest sizes, and those that are left.
+const FAR: &[(u32, u32, u64)] = &[
+    (5, 2_147_483_647, 3),
+    (2_147_483_647, 0, 1),
+    (5, 7, 2),
+    (1_000_000_000, 7, 6),
+    (9, 9, 4),
+    (9, 9, 3),
+];
+
+const FAR_ENTRIES: &[(u32, u32, u64)] = &[
+    (5, 7, 2),
+    (5, 2_147_483_647, 3),
+    (1_000_000_000, 7, 6),
+    (2_147_483_647, 0, 1),
+];
+
+const FAR_TURNED: &[(u32, u32, u64)] = &[
+    (0, 2_147_483_647, 1),
+    (7, 5, 2),
+    (7, 1_000_000_000, 6),
+    (2_147_483_647, 5, 3),
+];
+
+const FAR_SELECTED: &[(u32, u32, u64)] = &[(1, 7, 2), (1, 2_147_483_647, 3)];
+
+#[test]
+fn huge_matrices(rt: HostRuntime) -> Result<(), Fail> {
+    let alloc = rt.alloc();
+    let x = built(alloc, LARGEST_SIZE, LARGEST_SIZE, FAR)?;
+    let copy = x.copy(alloc)?;
+    let copied = lists(alloc, &copy, FAR_ENTRIES)?;
+    let turned = turns_into(alloc, &x, FAR_TURNED)?;
+    let selected = selects(alloc, &x, [6, 5], FAR_SELECTED)?;
+    assert_eq!(rt; (copied, turned, selected), (true, true, true));
+    Ok(())
+}
+
+const FAR_FILLED: &[u32] = &[5, 1_000_000_000, 2_147_483_647];
+
+const FAR_OCCUPIED: &[u32] = &[0, 7, 2_147_483_647];
+
+#[test]
+fn filled_rows_and_occupied_columns(rt: HostRuntime) -> Result<(), Fail> {
+    let alloc = rt.alloc();
+    let x = built(alloc, LARGEST_SIZE, LARGEST_SIZE, FAR)?;
+    let filled = x.filled(alloc)?;
+    let occupied = x.occupied(alloc)?;
+    assert_eq!(rt;
+        (filled.as_slice(), occupied.as_slice(), x.next_filled(6)),
+        (FAR_FILLED, FAR_OCCUPIED, Some(1_000_000_000))
+    );
+    Ok(())
+}
+
+#[test]
+fn columns_are_left_out_and_put_back(rt: HostRuntime) -> Result<(), Fail> {
+    let alloc = rt.alloc();
+    let x = built(alloc, 3, 9, &[(0, 8, 1), (2, 3, 2), (2, 8, 5)])?;
+    let columns = x.occupied(alloc)?;
+    let narrowed = x.narrowed(alloc, &columns)?;
+    assert!(rt; lists(alloc, &narrowed, &[(0, 1, 1), (2, 0, 2), (2, 1, 5)])?);
+    let widened = narrowed.widened(alloc, 9, &columns)?;
+    assert!(rt; lists(alloc, &widened, &[(0, 8, 1), (2, 3, 2), (2, 8, 5)])?);
+    Ok(())
+}
+
+#[test]
+fn matrices_side_by_side(rt: HostRuntime) -> Result<(), Fail> {
+    let alloc = rt.alloc();
+    let mut x = built(alloc, LARGEST_SIZE - 1, 2, &[(5, 0, 1), (8, 1, 2)])?;
+    x.append_zeros(1)?;
+    let wide = x.beside(alloc, &x)?;
+    assert!(rt; lists(alloc, &wide, &[(5, 0, 1), (5, 2, 1), (8, 1, 2), (8, 3, 2)])?);
+    Ok(())
+}
+
+// A matrix of such heights with another below it.
+fn stacked(
+    alloc: Global,
+    high: u32,
+    low: u32,
+    first: &[(u32, u32, u64)],
+    second: &[(u32, u32, u64)],
+) -> Result<Rows, Fail>
+    requires { high + low ≤ LARGEST_SIZE }
+{
+    let mut rows = built(alloc, high, 6, first)?;
+    let below = built(alloc, low, 6, second)?;
+    rows.append_all(&below)?;
+    Ok(rows)
+}
+
+// Appends entries, as many rows lower.
+fn append_lower(
+    list: &mut Vec<(u32, u32, u64)>,
+    by: u32,
+    entries: &[(u32, u32, u64)],
+) -> Result<(), AllocError> {
+    for (i, j, v) in entries {
+        list.push((by.wrapping_add(*i), *j, *v))?;
+    }
+    Ok(())
+}
+
+// Whether a matrix with another below it has the entries of both.
+fn is_stacked(alloc: Global, high: u32, low: u32) -> Result<bool, Fail>
+    requires { high + low ≤ LARGEST_SIZE }
+{
+    let first = scattered(alloc, 20, high)?;
+    let second = scattered(alloc, 20, low)?;
+    let rows = stacked(alloc, high, low, &first, &second)?;
+    let mut wanted = sums(alloc, 9, 6, &first)?;
+    append_lower(&mut wanted, high, &sums(alloc, 9, 6, &second)?)?;
+    Ok(lists(alloc, &rows, &wanted)?)
+}
+
+// A row, a column and a value that don't fit a matrix of 2 x 3 modulo 7.
+const OUTSIDE: &[(u32, u32, u64)] = &[(2, 0, 1), (0, 3, 1), (1, 2, 7)];
+
+#[test]
+fn what_does_not_fit_makes_no_matrix(rt: HostRuntime) -> Result<(), Fail> {
+    let alloc = rt.alloc();
+    for triple in OUTSIDE {
+        let made = Rows::checked_from_triples(
+            alloc,
+            2,
+            3,
+            &Modulus::new(7),
+            &[(0, 0, 1), *triple],
+        )?;
+        assert!(rt; made.is_none());
+    }
+    Ok(())
+}
+
+#[test]
+fn matrices_above_each_other(rt: HostRuntime) -> Result<(), Fail> {
+    let alloc = rt.alloc();
+    // Each row stored, or those alone that have an entry.
+    let stacked = [
+        is_stacked(alloc, 9, 9)?,
+        is_stacked(alloc, 9, 1_000_000)?,
+        is_stacked(alloc, 1_000_000, 9)?,
+        is_stacked(alloc, 1_000_000, 1_000_000)?,
+    ];
+    assert_eq!(rt; stacked, [true, true, true, true]);
+    Ok(())
+}
+
+#[test]
+fn single_rows(rt: HostRuntime) -> Result<(), Fail> {
+    let mut row = Sparse::new(rt.alloc(), 3, Modulus::new(7));
+    row.push(1, 2)?;
+    assert_eq!(rt; (row.cols(), row.vals()), ([1].as_slice(), [2].as_slice()));
+    Ok(())
+}
+
+#[test]
+fn lists_of_items(rt: HostRuntime) -> Result<(), Fail> {
+    let mut list = List::new(rt.alloc());
+    list.push(5)?;
+    assert_eq!(rt; list.items(), [5].as_slice());
+    Ok(())
+}

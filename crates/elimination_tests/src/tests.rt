@@ -1,0 +1,10 @@
+// The calls of each crate against values from outside.
+mod certificates_read;
+mod checks;
+mod dense_factors;
+mod factors_by_rounds;
+mod forms;
+mod growth;
+mod leads;
+mod solutions;
+mod triangles;

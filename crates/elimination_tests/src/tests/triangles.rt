@@ -1,0 +1,40 @@
+// The triangular order of two pivots.
+ghost use Rattle.std.specs.Prelude.{◌≡◌, IfOk};
+ghost use Rattle.pivot_table.specs.Example.{pivot_example};
+
+use pivot_table::{Book, Pair};
+use residue_words::Modulus;
+use sparse_rows::Rows;
+use std::alloc::{AllocError, Global};
+use std::test::Fail;
+use triangular_solve::Triangle;
+
+// The rows (1, 0, 0), (1, 1, 1) and (1, 1, 2) modulo 7.
+fn rows(alloc: Global) -> Result<Rows, AllocError>
+    ensures { IfOk result (λ rows. rows.matrix ≡ pivot_example) }
+{
+    let entries = [
+        (0, 0, 1),
+        (1, 0, 1),
+        (1, 1, 1),
+        (1, 2, 1),
+        (2, 0, 1),
+        (2, 1, 1),
+        (2, 2, 2),
+    ];
+    Rows::from_triples(alloc, 3, 3, &Modulus::new(7), &entries)
+}
+
+#[test]
+fn the_row_with_the_other_column_is_first(rt: HostRuntime) -> Result<(), Fail> {
+    let rows = rows(rt.alloc())?;
+    let mut book = Book::empty(rt.alloc(), &rows)?;
+    book.reserve(2)?;
+    book.push(Pair { row: 0, col: 0 });
+    book.push(Pair { row: 1, col: 1 });
+    let triangle = Triangle::of(rt.alloc(), &book)?;
+    let order = [Pair { row: 1, col: 1 }, Pair { row: 0, col: 0 }];
+    assert_eq!(rt; triangle.pairs(), order.as_slice());
+    assert_eq!(rt; triangle.rows().height(), 3);
+    Ok(())
+}

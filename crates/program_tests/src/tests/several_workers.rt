@@ -1,0 +1,313 @@
+// The pivots that one worker finds and those that several may find, two workers that a gate holds apart, and certificates that are
+// checked.
+mod scripts;
+pub(crate) mod texts;
+mod traces;
+
+use crate::tests::runs::{X, Y};
+use sms_text::{MemorySink, MemorySource};
+use spasm_run::{Gate, Open, Point, Status, run};
+use std::alloc::{AllocError, Global};
+use std::process::Abort;
+use std::sync::atomic::{AtomicU64, Ordering};
+use std::test::Fail;
+use std::thread::Threads;
+
+// What a run with these words writes, where it is done.
+fn written<'a, R: Threads + Sync, G: Gate>(
+    rt: &R,
+    alloc: Global,
+    words: &'a [&'a str],
+    text: &[u8],
+    gate: &G,
+) -> Result<Option<MemorySink>, AllocError> {
+    let mut source = MemorySource::new(Vec::from_slice(alloc, text)?, 64, Vec::new(alloc));
+    let mut out = MemorySink::new(alloc, 512, 64, Vec::new(alloc))?;
+    let mut err = MemorySink::new(alloc, 64, 64, Vec::new(alloc))?;
+    let status = run(rt, alloc, words, &mut source, &mut out, &mut err, gate);
+    Ok(if status == Status::Done {
+        Some(out)
+    } else {
+        None
+    })
+}
+
+// Whether one of these texts was written.
+fn is_among(written: &Option<MemorySink>, texts: &[&str]) -> bool {
+    match written {
+        Some(out) => texts.iter().any(|text| out.content() == text.as_bytes()),
+        None => false,
+    }
+}
+
+// Words, texts, and all that may be answered: by one worker the greedy selection, whatever rounds are asked for; by several
+// any pivots that are triangular and maximal.
+const KNOWN: &[(&[&str], &str, &[&str])] = &[
+    (
+        &["pivots", "--modulus=7", "--workers=1"],
+        X,
+        &["pivots 2\n1 3\n2 1\n"],
+    ),
+    (
+        &["pivots", "--modulus=7", "--workers", "1", "--rounds", "0"],
+        X,
+        &["pivots 2\n1 3\n2 1\n"],
+    ),
+    (&["pivots", "--modulus=7"], Y, &["pivots 2\n2 2\n1 1\n"]),
+    (
+        &["pivots", "--modulus=7", "--rounds=16"],
+        Y,
+        &["pivots 2\n2 2\n1 1\n"],
+    ),
+    (
+        &["pivots", "--modulus=7"],
+        "0 5 M\n0 0 0\n",
+        &["pivots 0\n"],
+    ),
+    (
+        &["pivots", "--modulus=7", "--workers", "64"],
+        "0 5 M\n0 0 0\n",
+        &["pivots 0\n"],
+    ),
+    (
+        &["pivots", "--modulus=7", "--workers", "2"],
+        X,
+        &["pivots 2\n1 3\n2 1\n", "pivots 2\n3 3\n2 1\n"],
+    ),
+    (
+        &["pivots", "--modulus=7", "--workers", "2"],
+        Y,
+        &["pivots 2\n2 2\n1 1\n", "pivots 2\n3 2\n1 1\n"],
+    ),
+    (
+        &["pivots", "--modulus=7", "--workers=64", "--rounds=0"],
+        Y,
+        &["pivots 2\n2 2\n1 1\n", "pivots 2\n3 2\n1 1\n"],
+    ),
+    (&["trace", "--modulus=7"], Y, &["trace 7 2\n1 1 0\n2 2 1\n"]),
+    (
+        &["trace", "--modulus=7", "--workers=64"],
+        Y,
+        &["trace 7 2\n1 1 0\n2 2 1\n", "trace 7 2\n1 1 0\n3 2 1\n"],
+    ),
+    (
+        &["trace", "--workers", "2"],
+        "0 5 M\n0 0 0\n",
+        &["trace 42013 0\n"],
+    ),
+];
+
+fn check_pivots<R: Threads + Sync + Abort>(rt: &R, alloc: Global) -> Result<(), Fail> {
+    for (words, text, answers) in KNOWN {
+        let out = written(rt, alloc, words, text.as_bytes(), &Open)?;
+        assert!(rt; is_among(&out, answers), "{:?} at {:?}", words, text);
+    }
+    Ok(())
+}
+
+#[test]
+fn pivots_are_among_those_that_may_be_found(rt: HostRuntime) -> Result<(), Fail> {
+    check_pivots(&rt, rt.alloc())
+}
+
+// Holds whoever has the second row before it publishes, until whoever has the third row has published.
+#[derive(Drop)]
+struct Hold {
+    owner: AtomicU64,
+    published: AtomicU64,
+}
+
+impl Gate for Hold {
+    fn at(&self, worker: u32, point: Point) {
+        let worker = u64::from(worker) + 1;
+        match point {
+            Point::Claimed(2) => self.owner.store(worker, Ordering::SeqCst),
+            Point::Published(_) => {
+                if self.owner.load(Ordering::SeqCst) == worker {
+                    self.published.store(1, Ordering::SeqCst);
+                }
+            }
+            Point::Before(1, _, _) => {
+                for _ in 0..500_000_000u64 {
+                    if self.published.load(Ordering::SeqCst) == 1 {
+                        return;
+                    }
+                }
+            }
+            _ => {}
+        }
+    }
+}
+
+// Words of commands that search by two workers, matrices, and what is answered where the third row overtakes the second. In the first
+// matrix the second row is dropped, which changes the pivots and no form; in the last one it is published behind, with the version of its
+// claim.
+const OVERTAKEN: &[(&[&str], &str, &str)] = &[
+    (
+        &["pivots", "--modulus=7", "--workers=2"],
+        Y,
+        "pivots 2\n3 2\n1 1\n",
+    ),
+    (
+        &["rref", "--modulus=7", "--workers=2"],
+        Y,
+        "3 3 M\n1 1 1\n2 2 1\n3 3 1\n0 0 0\n",
+    ),
+    (
+        &["trace", "--modulus=7", "--workers=2"],
+        Y,
+        "trace 7 2\n1 1 0\n3 2 1\n",
+    ),
+    (
+        &["trace", "--modulus=7", "--workers=2"],
+        "3 3 M\n1 1 1\n2 1 1\n2 2 1\n3 1 1\n3 3 1\n0 0 0\n",
+        "trace 7 3\n1 1 0\n3 3 1\n2 2 1\n",
+    ),
+];
+
+// Whether the third row overtakes the second where the gate holds it, and this is answered: two workers go at once.
+fn is_overtaken<'a, R: Threads + Sync>(
+    rt: &R,
+    alloc: Global,
+    words: &'a [&'a str],
+    text: &str,
+    answer: &str,
+) -> Result<bool, AllocError> {
+    let gate = Hold {
+        owner: AtomicU64::new(0),
+        published: AtomicU64::new(0),
+    };
+    let out = written(rt, alloc, words, text.as_bytes(), &gate)?;
+    Ok(is_among(&out, &[answer]) && gate.published.load(Ordering::SeqCst) == 1)
+}
+
+#[test]
+fn two_workers_go_at_once(rt: HostRuntime) -> Result<(), Fail> {
+    for (words, text, answer) in OVERTAKEN {
+        assert!(rt;
+            is_overtaken(&rt, rt.alloc(), words, text, answer)?,
+            "{words:?}"
+        );
+    }
+    Ok(())
+}
+
+// Words, matrices, and the lines that the certificate begins with.
+const CERTIFIED: &[(&[&str], &str, &str)] = &[
+    (
+        &["certify", "--modulus=7", "--kind=rank"],
+        Y,
+        "certificate rank 7 3\n2 2\n1 1\n3 3\n",
+    ),
+    (
+        &["certify", "--modulus=7", "--kind=rank", "--rounds=0"],
+        Y,
+        "certificate rank 7 3\n",
+    ),
+    (
+        &["certify", "--modulus=7", "--kind=rref"],
+        Y,
+        "certificate rref 7 3\n2 2\n1 1\n3 3\n",
+    ),
+    (
+        &["certify", "--modulus=7", "--kind=rref", "--rounds=0"],
+        Y,
+        "certificate rref 7 3\n",
+    ),
+    (
+        &["certify", "--modulus=7", "--kind=kernel"],
+        Y,
+        "certificate kernel 7 3\n2 2\n1 1\n3 3\n",
+    ),
+    (
+        &["certify", "--modulus=7", "--kind=kernel", "--rounds=0"],
+        Y,
+        "certificate kernel 7 3\n",
+    ),
+    (
+        &["certify", "--modulus=7", "--kind=rank"],
+        X,
+        "certificate rank 7 2\n1 3\n2 1\n",
+    ),
+    (
+        &["certify", "--modulus=7", "--kind=rank", "--rounds=0"],
+        X,
+        "certificate rank 7 2\n",
+    ),
+    (
+        &["certify", "--modulus=7", "--kind=rref"],
+        X,
+        "certificate rref 7 2\n1 3\n2 1\n",
+    ),
+    (
+        &["certify", "--modulus=7", "--kind=rref", "--rounds=0"],
+        X,
+        "certificate rref 7 2\n",
+    ),
+    (
+        &["certify", "--modulus=7", "--kind=kernel"],
+        X,
+        "certificate kernel 7 2\n1 3\n2 1\n",
+    ),
+    (
+        &["certify", "--modulus=7", "--kind=kernel", "--rounds=0"],
+        X,
+        "certificate kernel 7 2\n",
+    ),
+    (
+        &["certify", "--modulus=7", "--kind=kernel", "--workers=2"],
+        X,
+        "certificate kernel 7 2\n",
+    ),
+    (
+        &["certify", "--modulus=7", "--kind=rref"],
+        "0 5 M\n0 0 0\n",
+        "certificate rref 7 0\n0 0 M\n0 0 0\n0 5 M\n0 0 0\n0 5 M\n0 0 0\n",
+    ),
+];
+
+// Whether `check` says yes to this certificate of the matrix in a text.
+fn is_valid<R: Threads + Sync>(
+    rt: &R,
+    alloc: Global,
+    text: &str,
+    certificate: &[u8],
+) -> Result<bool, AllocError> {
+    let mut both = Vec::from_slice(alloc, text.as_bytes())?;
+    both.extend_from_slice(certificate)?;
+    let words = ["check", "--modulus=7"];
+    let verdict = written(rt, alloc, &words, both.as_slice(), &Open)?;
+    Ok(is_among(&verdict, &["yes\n"]))
+}
+
+// Whether a certificate is written that begins so, and is valid for the matrix before it.
+fn is_certified<'a, R: Threads + Sync>(
+    rt: &R,
+    alloc: Global,
+    words: &'a [&'a str],
+    text: &str,
+    begins: &str,
+) -> Result<bool, AllocError> {
+    let Some(certificate) = written(rt, alloc, words, text.as_bytes(), &Open)? else {
+        return Ok(false);
+    };
+    let valid = is_valid(rt, alloc, text, certificate.content())?;
+    Ok(valid && certificate.content().starts_with(begins.as_bytes()))
+}
+
+fn check_certified<R: Threads + Sync + Abort>(rt: &R, alloc: Global) -> Result<(), Fail> {
+    for (words, text, begins) in CERTIFIED {
+        assert!(rt;
+            is_certified(rt, alloc, words, text, begins)?,
+            "{:?} at {:?}",
+            words,
+            text
+        );
+    }
+    Ok(())
+}
+
+#[test]
+fn what_is_certified_is_valid(rt: HostRuntime) -> Result<(), Fail> {
+    check_certified(&rt, rt.alloc())
+}

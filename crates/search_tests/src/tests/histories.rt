@@ -1,0 +1,276 @@
+// A book and a board of a small matrix.
+ghost use Rattle.std.specs.Prelude.{◌≡◌, [], ◌∷◌, length, IfOk, IsTrue};
+ghost use Rattle.pivot_table.specs.Board.{IsSeatOf};
+ghost use Rattle.pivot_table.specs.Calls.{MayFinish};
+ghost use Rattle.pivot_table.specs.Core.{claiming, opened, splitting};
+ghost use Rattle.pivot_table.specs.Example.{pivot_example};
+ghost use Rattle.pivot_table.specs.History.{pair};
+
+use pivot_table::{Board, Book, Closed, Outcome, Pair, Seat, histories_are_worked};
+use residue_words::Modulus;
+use sparse_rows::Rows;
+use std::alloc::{AllocError, Global};
+use std::sync::atomic::{AtomicU64, Ordering};
+use std::test::Fail;
+use std::thread::{Threads, join_mut};
+
+// The rows (1, 0, 0), (1, 1, 1) and (1, 1, 2) modulo 7.
+fn rows(alloc: Global) -> Result<Rows, AllocError>
+    ensures { IfOk result (λ rows. rows.matrix ≡ pivot_example) }
+{
+    let entries = [
+        (0, 0, 1),
+        (1, 0, 1),
+        (1, 1, 1),
+        (1, 2, 1),
+        (2, 0, 1),
+        (2, 1, 1),
+        (2, 2, 2),
+    ];
+    Rows::from_triples(alloc, 3, 3, &Modulus::new(7), &entries)
+}
+
+#[test]
+fn a_book_keeps_its_pairs_in_order(rt: HostRuntime) -> Result<(), Fail> {
+    let rows = rows(rt.alloc())?;
+    let mut book = Book::empty(rt.alloc(), &rows)?;
+    assert_eq!(rt; book.pairs().len(), 0);
+    assert_eq!(rt; book.rows().height(), 3);
+    book.reserve(2)?;
+    assert!(rt; book.spare() >= 2);
+    book.push(Pair { row: 0, col: 0 });
+    assert_eq!(rt; book.pairs(), [Pair { row: 0, col: 0 }].as_slice());
+    book.push(Pair { row: 1, col: 1 });
+    assert_eq!(rt;
+        book.pairs(),
+        [Pair { row: 0, col: 0 }, Pair { row: 1, col: 1 }].as_slice()
+    );
+    Ok(())
+}
+
+// The first seat takes row 1.
+fn claim_first(board: &Board<'_>, first: &mut Seat) -> bool
+    requires seat { IsSeatOf board.now first.old }
+    requires matrix { board.now.rows.matrix ≡ pivot_example }
+    requires opened { first.old.chair ≡ opened (pair 0 0 ∷ []) }
+    ensures seat { IsSeatOf board.now first.new }
+    ensures chair { IsTrue result → first.new.chair ≡ claiming (opened (pair 0 0 ∷ [])) 1 }
+{
+    board.claim(first, 1)
+}
+
+// The second seat doesn't get row 1, takes row 2 and publishes it.
+fn overtake(board: &Board<'_>, second: &mut Seat) -> bool
+    requires seat { IsSeatOf board.now second.old }
+    requires matrix { board.now.rows.matrix ≡ pivot_example }
+    requires split { second.old.chair ≡ splitting (opened (pair 0 0 ∷ [])) }
+    ensures seat { IsSeatOf board.now second.new }
+    ensures settled { IsTrue result → MayFinish pivot_example second.new.chair }
+{
+    // What is least alive in the first pair.
+    histories_are_worked();
+    if board.claim(second, 1) || !board.claim(second, 2) {
+        return false;
+    }
+    match board.publish(second, 1) {
+        Outcome::Published(place) => place == 1,
+        Outcome::Newer(_) => false,
+    }
+}
+
+// The first seat is too late with row 1, which is dead then.
+fn be_late(board: &Board<'_>, first: &mut Seat) -> bool
+    requires seat { IsSeatOf board.now first.old }
+    requires matrix { board.now.rows.matrix ≡ pivot_example }
+    requires claimed { first.old.chair ≡ claiming (opened (pair 0 0 ∷ [])) 1 }
+    ensures seat { IsSeatOf board.now first.new }
+    ensures settled { IsTrue result → MayFinish pivot_example first.new.chair }
+{
+    // What is least alive in the first pair, and that row 1 is dead in both.
+    histories_are_worked();
+    match board.publish(first, 1) {
+        Outcome::Published(_) => false,
+        Outcome::Newer(pair) => pair == Pair { row: 2, col: 1 },
+    }
+}
+
+// Whether the counter comes to n.
+fn comes_to(counter: &AtomicU64, n: u64) -> bool {
+    for _ in 0..500_000_000u64 {
+        if counter.load(Ordering::SeqCst) == n {
+            return true;
+        }
+    }
+    false
+}
+
+// One thread goes by turns.
+fn by_turns(board: &Board<'_>, first: &mut Seat, second: &mut Seat) -> bool
+    requires matrix { board.now.rows.matrix ≡ pivot_example }
+    requires first { IsSeatOf board.now first.old × (first.old.chair ≡ opened (pair 0 0 ∷ [])) }
+    requires second { IsSeatOf board.now second.old
+        × (second.old.chair ≡ splitting (opened (pair 0 0 ∷ []))) }
+    ensures first { IsSeatOf board.now first.new × (IsTrue result → MayFinish pivot_example first.new.chair) }
+    ensures second { IsSeatOf board.now second.new
+        × (IsTrue result → MayFinish pivot_example second.new.chair) }
+{
+    if !claim_first(board, first) {
+        return false;
+    }
+    if !overtake(board, second) {
+        return false;
+    }
+    be_late(board, first)
+}
+
+// The first seat's calls, each in its turn.
+fn be_late_in_turn(board: &Board<'_>, first: &mut Seat, turn: &AtomicU64) -> bool
+    requires matrix { board.now.rows.matrix ≡ pivot_example }
+    requires seat { IsSeatOf board.now first.old }
+    requires opened { first.old.chair ≡ opened (pair 0 0 ∷ []) }
+    ensures seat { IsSeatOf board.now first.new }
+    ensures settled { IsTrue result → MayFinish pivot_example first.new.chair }
+{
+    if !claim_first(board, first) {
+        return false;
+    }
+    turn.store(1, Ordering::SeqCst);
+    if !comes_to(turn, 2) {
+        return false;
+    }
+    be_late(board, first)
+}
+
+// The second seat's calls, each in its turn.
+fn overtake_in_turn(board: &Board<'_>, second: &mut Seat, turn: &AtomicU64) -> bool
+    requires matrix { board.now.rows.matrix ≡ pivot_example }
+    requires seat { IsSeatOf board.now second.old }
+    requires split { second.old.chair ≡ splitting (opened (pair 0 0 ∷ [])) }
+    ensures seat { IsSeatOf board.now second.new }
+    ensures settled { IsTrue result → MayFinish pivot_example second.new.chair }
+{
+    if !comes_to(turn, 1) {
+        return false;
+    }
+    if !overtake(board, second) {
+        return false;
+    }
+    turn.store(2, Ordering::SeqCst);
+    true
+}
+
+// Two threads go by the turns that a counter tells.
+fn in_threads<R: Threads + Sync>(
+    rt: &R,
+    board: &Board<'_>,
+    first: &mut Seat,
+    second: &mut Seat,
+) -> bool
+    requires matrix { board.now.rows.matrix ≡ pivot_example }
+    requires first { IsSeatOf board.now first.old × (first.old.chair ≡ opened (pair 0 0 ∷ [])) }
+    requires second { IsSeatOf board.now second.old
+        × (second.old.chair ≡ splitting (opened (pair 0 0 ∷ []))) }
+    ensures first { IsSeatOf board.now first.new × (IsTrue result → MayFinish pivot_example first.new.chair) }
+    ensures second { IsSeatOf board.now second.new
+        × (IsTrue result → MayFinish pivot_example second.new.chair) }
+{
+    let turn = AtomicU64::new(0);
+    let (late, early) = join_mut(
+        rt,
+        &mut || -> bool
+            requires { (board.now.rows.matrix ≡ pivot_example) × IsSeatOf board.now first.now
+                × (first.now.chair ≡ opened (pair 0 0 ∷ [])) }
+            ensures { IsSeatOf board.entry.now first.exit.now
+                × (IsTrue result → MayFinish pivot_example first.exit.now.chair) }
+        { be_late_in_turn(board, first, &turn) },
+        &mut || -> bool
+            requires { (board.now.rows.matrix ≡ pivot_example) × IsSeatOf board.now second.now
+                × (second.now.chair ≡ splitting (opened (pair 0 0 ∷ []))) }
+            ensures { IsSeatOf board.entry.now second.exit.now
+                × (IsTrue result → MayFinish pivot_example second.exit.now.chair) }
+        { overtake_in_turn(board, second, &turn) },
+    );
+    if !late {
+        return false;
+    }
+    early
+}
+
+// The calls of both seats, in two threads or in one.
+fn both_go<R: Threads + Sync>(
+    rt: &R,
+    board: &Board<'_>,
+    first: &mut Seat,
+    second: &mut Seat,
+    threads: bool,
+) -> bool
+    requires matrix { board.now.rows.matrix ≡ pivot_example }
+    requires first { IsSeatOf board.now first.old × (first.old.chair ≡ opened (pair 0 0 ∷ [])) }
+    requires second { IsSeatOf board.now second.old
+        × (second.old.chair ≡ splitting (opened (pair 0 0 ∷ []))) }
+    ensures first { IsSeatOf board.now first.new × (IsTrue result → MayFinish pivot_example first.new.chair) }
+    ensures second { IsSeatOf board.now second.new
+        × (IsTrue result → MayFinish pivot_example second.new.chair) }
+{
+    if threads {
+        return in_threads(rt, board, first, second);
+    }
+    by_turns(board, first, second)
+}
+
+// The first pair alone.
+fn first_pair<'a>(alloc: Global, rows: &'a Rows) -> Result<Book<'a>, AllocError>
+    requires { rows.now.matrix ≡ pivot_example }
+    ensures { IfOk result (λ b. (b.rows.matrix ≡ pivot_example) × (b.pairs ≡ pair 0 0 ∷ [])) }
+{
+    let mut book = Book::empty(alloc, rows)?;
+    book.reserve(1)?;
+    book.push(Pair { row: 0, col: 0 });
+    Ok(book)
+}
+
+// Lets both rows go and ends the board.
+fn ended<'a>(board: Board<'a>, first: Seat, second: Seat) -> Closed<'a>
+    requires matrix { board.rows.matrix ≡ pivot_example }
+    requires first { IsSeatOf board first × MayFinish pivot_example first.chair }
+    requires second { IsSeatOf board second × MayFinish pivot_example second.chair }
+    ensures { length result.done ≡ 3 }
+{
+    let mut first = first;
+    let mut second = second;
+    board.finish_row(&mut first);
+    board.finish_row(&mut second);
+    board.join(&mut first, second);
+    board.close(first)
+}
+
+// Whether the calls of two seats, in one thread or in two, leave what they should.
+fn two_seats<R: Threads + Sync>(rt: &R, alloc: Global, threads: bool) -> Result<bool, AllocError> {
+    let rows = rows(alloc)?;
+    let book = first_pair(alloc, &rows)?;
+    let (board, mut first) = Board::new(alloc, &book)?;
+    let mut second = board.split(&mut first);
+    let went = both_go(rt, &board, &mut first, &mut second, threads);
+    if !went {
+        return Ok(false);
+    }
+    let Closed { book, done, starts } = ended(board, first, second);
+    let wanted = [Pair { row: 0, col: 0 }, Pair { row: 2, col: 1 }];
+    Ok(
+        book.pairs() == wanted.as_slice()
+            && done.is_done(0)
+            && done.is_done(1)
+            && done.is_done(2)
+            && starts.at(0).is_none()
+            && starts.at(1) == Some(1)
+            && starts.at(2).is_none(),
+    )
+}
+
+#[test]
+fn two_seats_take_turns(rt: HostRuntime) -> Result<(), Fail> {
+    for threads in &[false, true] {
+        assert!(rt; two_seats(&rt, rt.alloc(), *threads)?);
+    }
+    Ok(())
+}

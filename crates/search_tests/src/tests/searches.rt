@@ -1,0 +1,343 @@
+// The walk on the example of histories, and both searches on small matrices.
+ghost use Rattle.sparse_rows.specs.declared.rows.TheConstants.{LARGEST_SIZE};
+ghost use Rattle.std.specs.Prelude.{◌≡◌, ◌<◌, ◌≤◌, ◌+◌, [], ◌∷◌, None, IfOk};
+ghost use Rattle.pivot_table.specs.Example.{pivot_example};
+ghost use Rattle.pivot_table.specs.History.{pair};
+ghost use Rattle.optimistic_search.specs.Taking.{IsIdle};
+
+use optimistic_search::{
+    Gate, Open, Point, Steps, Taken, Walk, search, search_by_walk, search_traced, take_row,
+};
+use pivot_table::{Board, Book};
+use residue_words::Modulus;
+use residue_words::plain::Pair;
+use sparse_rows::{Rows, RowsBuilder};
+use std::alloc::{AllocError, Global};
+use std::marker::Brand;
+use std::sync::atomic::{AtomicU64, Ordering};
+use std::sync::ledger::{Blank, Ledger};
+use std::test::Fail;
+use std::thread::Threads;
+
+// The rows (1, 0, 0), (1, 1, 1) and (1, 1, 2) modulo 7.
+fn example_rows(alloc: Global) -> Result<Rows, AllocError>
+    ensures { IfOk result (λ rows. rows.matrix ≡ pivot_example) }
+{
+    let mut builder = RowsBuilder::new(alloc, 3, 3, Modulus::new(7))?;
+    builder.push(0, 0, 1)?;
+    builder.push(1, 0, 1)?;
+    builder.push(1, 1, 1)?;
+    builder.push(1, 2, 1)?;
+    builder.push(2, 0, 1)?;
+    builder.push(2, 1, 1)?;
+    builder.push(2, 2, 2)?;
+    builder.finish()
+}
+
+// What is alive least for row 1 with the pair (0, 0), and then once row 2 has the column 1: the first takes at most 4 steps, the
+// second at most 3 more, and the pair (0, 0) none.
+fn overtaken<L: Ledger>(walk: &mut Walk, steps: &mut Steps<L>) -> [Option<u32>; 2]
+    requires matrix { walk.old.rows.matrix ≡ pivot_example }
+    requires pairs { walk.old.pairs ≡ [] }
+    requires closed { walk.old.current ≡ None }
+    ensures { steps.new ≤ steps.old + 7 }
+{
+    walk.extend(Pair { row: 0, col: 0 }, steps);
+    walk.begin(1, steps);
+    let first = walk.least_alive();
+    walk.extend(Pair { row: 2, col: 1 }, steps);
+    [first, walk.least_alive()]
+}
+
+// The same with a count of its own.
+fn answers<L: Ledger>(alloc: Global, blank: Blank) -> Result<[Option<u32>; 2], AllocError>
+    requires name { blank.name ≡ L.name }
+    requires parts { blank.parts ≡ L.parts }
+    requires some { 0 < blank.parts }
+{
+    let rows = example_rows(alloc)?;
+    let mut walk = Walk::new(alloc, &rows)?;
+    let mut steps = Steps::<L>::new(blank);
+    Ok(overtaken(&mut walk, &mut steps))
+}
+
+#[test]
+fn a_walk_is_carried_on(rt: HostRuntime) -> Result<(), Fail> {
+    let found = answers::<Brand>(rt.alloc(), Blank::new(1))?;
+    assert_eq!(rt; found[0], Some(1));
+    assert_eq!(rt; found[1], None);
+    Ok(())
+}
+
+// The first pair of the example alone.
+fn first_pair<'a>(alloc: Global, rows: &'a Rows) -> Result<Book<'a>, AllocError>
+    requires { rows.now.matrix ≡ pivot_example }
+    ensures matrix { IfOk result (λ b. b.rows.matrix ≡ pivot_example) }
+    ensures rows { IfOk result (λ b. b.rows ≡ rows.now) }
+    ensures pairs { IfOk result (λ b. b.pairs ≡ pair 0 0 ∷ []) }
+{
+    let mut book = Book::empty(alloc, rows)?;
+    book.reserve(1)?;
+    book.push(Pair { row: 0, col: 0 });
+    Ok(book)
+}
+
+// What becomes of the three rows, one after the other, with the first pair given.
+fn taken_in_turn<L: Ledger>(alloc: Global, blank: Blank) -> Result<[Taken; 3], AllocError>
+    requires name { blank.name ≡ L.name }
+    requires parts { blank.parts ≡ L.parts }
+    requires some { 0 < blank.parts }
+{
+    let rows = example_rows(alloc)?;
+    let book = first_pair(alloc, &rows)?;
+    let (board, mut seat) = Board::new(alloc, &book)?;
+    let mut walk = Walk::new(alloc, &rows)?;
+    let mut steps = Steps::<L>::new(blank);
+    walk.extend(Pair { row: 0, col: 0 }, &mut steps);
+    let first = take_row(&board, &mut seat, &mut walk, 0, 7, &Open, &mut steps);
+    let second = take_row(&board, &mut seat, &mut walk, 1, 7, &Open, &mut steps);
+    let third = take_row(&board, &mut seat, &mut walk, 2, 7, &Open, &mut steps);
+    Ok([first, second, third])
+}
+
+#[test]
+fn rows_are_taken_in_turn(rt: HostRuntime) -> Result<(), Fail> {
+    let taken = taken_in_turn::<Brand>(rt.alloc(), Blank::new(1))?;
+    assert_eq!(rt; taken[0], Taken::Busy);
+    assert_eq!(rt; taken[1], Taken::Published(1));
+    assert_eq!(rt; taken[2], Taken::Dropped);
+    Ok(())
+}
+
+// Holds whoever has row 1 before it publishes, until whoever has row 2 has published.
+#[derive(Drop)]
+struct Hold {
+    owner: AtomicU64,
+    published: AtomicU64,
+}
+
+impl Gate for Hold {
+    fn at(&self, worker: u32, point: Point) {
+        let worker = u64::from(worker) + 1;
+        match point {
+            Point::Claimed(2) => self.owner.store(worker, Ordering::SeqCst),
+            Point::Published(_) => {
+                if self.owner.load(Ordering::SeqCst) == worker {
+                    self.published.store(1, Ordering::SeqCst);
+                }
+            }
+            Point::Before(1, _, _) => {
+                for _ in 0..500_000_000u64 {
+                    if self.published.load(Ordering::SeqCst) == 1 {
+                        return;
+                    }
+                }
+            }
+            _ => {}
+        }
+    }
+}
+
+// Whether row 2 overtakes row 1, which is dead then, where the gate holds it: two workers go at once.
+fn is_overtaken<R: Threads + Sync>(rt: &R, alloc: Global) -> Result<bool, AllocError> {
+    let gate = Hold {
+        owner: AtomicU64::new(0),
+        published: AtomicU64::new(0),
+    };
+    let rows = example_rows(alloc)?;
+    let found = search_traced(rt, alloc, first_pair(alloc, &rows)?, 2, &gate)?;
+    let wanted = [Pair { row: 0, col: 0 }, Pair { row: 2, col: 1 }];
+    Ok(
+        found.book.pairs() == wanted.as_slice()
+            && found.versions.items() == [0u64, 1].as_slice()
+            && gate.published.load(Ordering::SeqCst) == 1,
+    )
+}
+
+#[test]
+fn two_workers_go_at_once(rt: HostRuntime) -> Result<(), Fail> {
+    assert!(rt; is_overtaken(&rt, rt.alloc())?);
+    Ok(())
+}
+
+// The matrix of m x n modulo 7 with a 1 at each of these places that lies inside.
+fn ones(alloc: Global, m: u32, n: u32, places: &[(u32, u32)]) -> Result<Rows, AllocError>
+    requires height { m ≤ LARGEST_SIZE }
+    requires width { n ≤ LARGEST_SIZE }
+{
+    let mut builder = RowsBuilder::new(alloc, m, n, Modulus::new(7))?;
+    for (i, j) in places {
+        if *i < m && *j < n {
+            builder.push(*i, *j, 1)?;
+        }
+    }
+    builder.finish()
+}
+
+// Places in no order, from a linear congruential generator.
+fn scattered(alloc: Global, count: u32, seed: u32) -> Result<Vec<(u32, u32)>, AllocError> {
+    let mut places = Vec::new(alloc);
+    let mut state = seed;
+    for _ in 0..count {
+        let row = state.wrapping_mul(1_664_525).wrapping_add(1_013_904_223);
+        state = row.wrapping_mul(1_664_525).wrapping_add(1_013_904_223);
+        places.push((row >> 27, state >> 27))?;
+    }
+    Ok(places)
+}
+
+// Whether rooks on these squares of a board of 4 x 4 leave each other alone.
+fn are_apart(a: u32, b: u32) -> bool {
+    a / 4 != b / 4 && a % 4 != b % 4
+}
+
+// The faces of three rooks with their pairs: the boundary map of the chessboard complex of 4 x 4, where each pair of squares
+// has a column.
+fn chessboard(alloc: Global) -> Result<Vec<(u32, u32)>, AllocError> {
+    let mut places = Vec::new(alloc);
+    let mut face = 0u32;
+    for a in 0..16u32 {
+        for b in a..16u32 {
+            for c in b..16u32 {
+                if are_apart(a, b) && are_apart(a, c) && are_apart(b, c) {
+                    places.push((face, a * 16 + b))?;
+                    places.push((face, a * 16 + c))?;
+                    places.push((face, b * 16 + c))?;
+                    face = face.wrapping_add(1);
+                }
+            }
+        }
+    }
+    Ok(places)
+}
+
+// What the search by walks finds.
+fn walked<'a, L: Ledger>(
+    alloc: Global,
+    book: Book<'a>,
+    blank: Blank,
+) -> Result<Book<'a>, AllocError>
+    requires name { blank.name ≡ L.name }
+    requires parts { blank.parts ≡ L.parts }
+    requires some { 0 < blank.parts }
+{
+    let mut steps = Steps::<L>::new(blank);
+    search_by_walk(alloc, book, &mut steps)
+}
+
+// Whether one worker finds nothing after several.
+fn leaves_nothing<R: Threads + Sync>(
+    rt: &R,
+    alloc: Global,
+    rows: &Rows,
+    workers: u32,
+) -> Result<bool, AllocError>
+    requires some { 1 ≤ workers }
+    requires few { workers ≤ 64 }
+{
+    let found = search(rt, alloc, Book::empty(alloc, rows)?, workers, &Open)?;
+    let many = found.pairs().len();
+    let again = search(rt, alloc, found, 1, &Open)?;
+    Ok(again.pairs().len() == many)
+}
+
+// How many pairs the search finds, if the search by walks finds the same, a search of what was found finds no more, and several
+// workers leave nothing.
+fn agreed<R: Threads + Sync>(
+    rt: &R,
+    alloc: Global,
+    rows: &Rows,
+) -> Result<Option<usize>, AllocError> {
+    let found = search(rt, alloc, Book::empty(alloc, rows)?, 1, &Open)?;
+    let walked = walked::<Brand>(alloc, Book::empty(alloc, rows)?, Blank::new(1))?;
+    let many = found.pairs().len();
+    if found.pairs() != walked.pairs() {
+        return Ok(None);
+    }
+    let again = search(rt, alloc, found, 64, &Open)?;
+    if again.pairs() != walked.pairs() {
+        return Ok(None);
+    }
+    if !leaves_nothing(rt, alloc, rows, 2)? || !leaves_nothing(rt, alloc, rows, 64)? {
+        return Ok(None);
+    }
+    Ok(Some(many))
+}
+
+#[test]
+fn the_example_has_two_pairs(rt: HostRuntime) -> Result<(), Fail> {
+    let rows = example_rows(rt.alloc())?;
+    let book = search(&rt, rt.alloc(), Book::empty(rt.alloc(), &rows)?, 1, &Open)?;
+    let wanted = [Pair { row: 0, col: 0 }, Pair { row: 1, col: 1 }];
+    assert_eq!(rt; book.pairs(), wanted.as_slice());
+    Ok(())
+}
+
+#[test]
+fn both_searches_agree(rt: HostRuntime) -> Result<(), Fail> {
+    let alloc = rt.alloc();
+    let faces = chessboard(alloc)?;
+    assert!(rt; agreed(&rt, alloc, &ones(alloc, 96, 256, &faces)?)?.is_some());
+    for (m, n, count) in &[
+        (0u32, 0u32, 0u32),
+        (1, 1, 1),
+        (5, 0, 3),
+        (32, 32, 60),
+        (32, 20, 150),
+        (16, 32, 90),
+    ] {
+        let places = scattered(alloc, *count, *m)?;
+        assert!(rt; agreed(&rt, alloc, &ones(alloc, *m, *n, &places)?)?.is_some());
+    }
+    Ok(())
+}
+
+// These places with their columns far apart, so that most columns have no entry.
+fn spread(alloc: Global, places: &[(u32, u32)]) -> Result<Vec<(u32, u32)>, AllocError> {
+    let mut apart = Vec::new(alloc);
+    for (row, col) in places {
+        apart.push((*row, col.wrapping_mul(97).wrapping_add(5)))?;
+    }
+    Ok(apart)
+}
+
+#[test]
+fn both_searches_agree_on_wide_matrices(rt: HostRuntime) -> Result<(), Fail> {
+    let alloc = rt.alloc();
+    for count in &[0u32, 3, 60, 150] {
+        let places = spread(alloc, &scattered(alloc, *count, *count)?)?;
+        assert!(rt; agreed(&rt, alloc, &ones(alloc, 32, 4096, &places)?)?.is_some());
+    }
+    Ok(())
+}
+
+// Ten entries, each in a row and a column of its own, by ascending rows.
+const APART: [(u32, u32); 10] = [
+    (0, 2_147_483_646),
+    (3, 70_000),
+    (65_536, 0),
+    (1_000_000, 12),
+    (1_000_001, 1_999_999_999),
+    (77_777_777, 4),
+    (1_073_741_824, 1_073_741_824),
+    (2_000_000_000, 900),
+    (2_147_483_645, 33),
+    (2_147_483_646, 1),
+];
+
+#[test]
+fn the_largest_matrix_costs_by_its_entries(rt: HostRuntime) -> Result<(), Fail> {
+    let alloc = rt.alloc();
+    let rows = ones(alloc, 2_147_483_647, 2_147_483_647, &APART)?;
+    let book = search(&rt, alloc, Book::empty(alloc, &rows)?, 1, &Open)?;
+    let mut wanted = Vec::new(alloc);
+    for (row, col) in &APART {
+        wanted.push(Pair {
+            row: *row,
+            col: *col,
+        })?;
+    }
+    assert_eq!(rt; book.pairs(), wanted.as_slice());
+    assert!(rt; leaves_nothing(&rt, alloc, &rows, 64)?);
+    Ok(())
+}
