@@ -64,22 +64,55 @@ fn push_widened(book: &mut Book, columns: &[u32], narrow: &Book)
     }
 }
 
+// The book of a matrix of these columns alone, with the pairs of a book of all.
+fn narrowed_book<'a>(
+    alloc: Global,
+    narrow: &'a Rows,
+    columns: &[u32],
+    book: &Book,
+) -> Result<Book<'a>, AllocError>
+    requires few { length columns.now ≤ LARGEST_SIZE }
+    requires enough { AreEnough book.now.rows.matrix columns.now }
+    requires matrix { narrow.now.matrix ≡ narrowed book.now.rows.matrix columns.now }
+    ensures rows { IfOk result (λ b. b.rows ≡ narrow.now) }
+    ensures pairs { IfOk result (λ b. renamed (slice_index columns.now) b.pairs ≡ book.now.pairs) }
+    ensures inside { IfOk result (λ b. AreInside b.rows.matrix.width b.pairs) }
+{
+    let mut start = Book::empty(alloc, narrow)?;
+    start.reserve(book.pairs().len())?;
+    push_narrowed(&mut start, columns, book);
+    Ok(start)
+}
+
+// What `search_greedily` does, over these columns alone, in which all entries stand.
+fn search_columns<'a>(
+    alloc: Global,
+    book: Book<'a>,
+    columns: &[u32],
+    narrow: &Rows,
+) -> Result<Book<'a>, AllocError>
+    requires enough { AreEnough book.rows.matrix columns.now }
+    requires matrix { narrow.now.matrix ≡ narrowed book.rows.matrix columns.now }
+    ensures rows { IfOk result (λ b. b.rows ≡ book.entry.rows) }
+    ensures greedy { IfOk result (λ b. IsGreedy book.entry.rows.matrix book.entry.pairs b.pairs) }
+{
+    let mut book = book;
+    let many = narrow.height().min(narrow.width()) as usize;
+    book.reserve(many.saturating_sub(book.pairs().len()))?;
+    let start = narrowed_book(alloc, narrow, columns, &book)?;
+    let found = search_greedily(alloc, start)?;
+    push_widened(&mut book, columns, &found);
+    Ok(book)
+}
+
 // What `search_greedily` does, over the columns that have an entry.
 fn search_narrowed(alloc: Global, book: Book) -> Result<Book, AllocError>
     ensures rows { IfOk result (λ b. b.rows ≡ book.entry.rows) }
     ensures greedy { IfOk result (λ b. IsGreedy book.entry.rows.matrix book.entry.pairs b.pairs) }
 {
-    let mut book = book;
     let columns = book.rows().occupied(alloc)?;
     let narrow = book.rows().narrowed(alloc, &columns)?;
-    let many = narrow.height().min(narrow.width()) as usize;
-    book.reserve(many.saturating_sub(book.pairs().len()))?;
-    let mut start = Book::empty(alloc, &narrow)?;
-    start.reserve(book.pairs().len())?;
-    push_narrowed(&mut start, &columns, &book);
-    let found = search_greedily(alloc, start)?;
-    push_widened(&mut book, &columns, &found);
-    Ok(book)
+    search_columns(alloc, book, &columns, &narrow)
 }
 
 // Whether there are so many more columns than entries that it pays to number anew those that have an entry.

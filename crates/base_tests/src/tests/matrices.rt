@@ -7,7 +7,7 @@ use sms_text::{
     Kind, MemorySink, Put, Reader, Sink, SteadySource, TextError, read_rows, write_rows,
 };
 use sparse_rows::Rows;
-use std::alloc::Global;
+use std::alloc::{AllocError, Global};
 use std::test::Fail;
 
 const READ: &[u8] =
@@ -37,23 +37,24 @@ impl Sink for Lengths {
     }
 }
 
-#[test]
-fn what_stands_behind_a_text_is_left(rt: HostRuntime) -> Result<(), Fail> {
-    let alloc = rt.alloc();
+// The error where another text is read behind this one.
+fn error_behind(alloc: Global, text: &[u8]) -> Result<Option<TextError>, Fail> {
     let p = Modulus::new(7);
-    let mut source = SteadySource::new(Vec::from_slice(alloc, READ)?, 5);
+    let mut source = SteadySource::new(Vec::from_slice(alloc, text)?, 5);
     let mut reader = Reader::new(alloc, 99)?;
     if read_rows(&mut reader, alloc, &mut source, &p).is_err() {
         return Err(Fail::new("not read"));
     }
+    Ok(read_rows(&mut reader, alloc, &mut source, &p).err())
+}
+
+#[test]
+fn what_stands_behind_a_text_is_left(rt: HostRuntime) -> Result<(), Fail> {
     let bad = TextError::Bad {
         line: 12,
         kind: Kind::Words,
     };
-    assert_eq!(rt;
-        read_rows(&mut reader, alloc, &mut source, &p).err(),
-        Some(bad)
-    );
+    assert_eq!(rt; error_behind(rt.alloc(), READ)?, Some(bad));
     Ok(())
 }
 
@@ -71,6 +72,24 @@ fn rows_of(alloc: Global, text: &[u8], piece: usize) -> Result<Rows, Fail>
     }
 }
 
+// Whether the writing to a sink of memory went well, and whether the sink holds this in the end.
+fn holds(
+    alloc: Global,
+    rows: &Rows,
+    piece: usize,
+    fails: &[u64],
+    wanted: &[u8],
+) -> Result<(bool, bool), AllocError>
+    requires piece { 0 < piece }
+    requires height { rows.now.matrix.height ≤ LARGEST_TEXT_SIZE }
+    requires width { rows.now.matrix.width ≤ LARGEST_TEXT_SIZE }
+{
+    let fails = Vec::from_slice(alloc, fails)?;
+    let mut sink = MemorySink::new(alloc, 64, piece, fails)?;
+    let result = write_rows(&mut sink, rows);
+    Ok((result.is_ok(), sink.content() == wanted))
+}
+
 #[test]
 fn a_text_is_read_and_written(rt: HostRuntime) -> Result<(), Fail> {
     let alloc = rt.alloc();
@@ -78,13 +97,8 @@ fn a_text_is_read_and_written(rt: HostRuntime) -> Result<(), Fail> {
     // The puts that fail, each of at most 16 bytes, and how many bytes the sink holds in the end.
     let cases: [(&[u64], usize); 4] = [(&[], 60), (&[1], 0), (&[3], 32), (&[5], 60)];
     for (fails, held) in cases {
-        let fails = Vec::from_slice(alloc, fails)?;
-        let mut sink = MemorySink::new(alloc, 64, 16, fails)?;
-        let result = write_rows(&mut sink, &rows);
-        assert_eq!(rt;
-            (result.is_ok(), sink.content()),
-            (held == 60, &WRITTEN[..held])
-        );
+        let found = holds(alloc, &rows, 16, fails, &WRITTEN[..held])?;
+        assert_eq!(rt; found, (held == 60, true));
     }
     Ok(())
 }
@@ -94,9 +108,7 @@ fn what_is_written_reads_back(rt: HostRuntime) -> Result<(), Fail> {
     let alloc = rt.alloc();
     for text in [READ, WRITTEN] {
         let rows = rows_of(alloc, text, 9)?;
-        let mut sink = MemorySink::new(alloc, 64, 64, Vec::new(alloc))?;
-        let result = write_rows(&mut sink, &rows);
-        assert_eq!(rt; (result.is_ok(), sink.content()), (true, WRITTEN));
+        assert_eq!(rt; holds(alloc, &rows, 64, &[], WRITTEN)?, (true, true));
     }
     Ok(())
 }

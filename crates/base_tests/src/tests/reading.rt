@@ -33,26 +33,26 @@ impl<'a> Source for Pieces<'a> {
     }
 }
 
-// Each row: a text, the modulus, the limit, and the line and kind of its first fault; line 0 for none.
-const TEXTS: [(&[u8], u64, u64, u64, Kind); 18] = [
-    (b"", 7, 99, 1, Kind::NoHeader),
-    (b"% only", 7, 99, 2, Kind::NoHeader),
-    (b"1 1", 7, 99, 1, Kind::Words),
-    (b"1 1 MM\n", 7, 99, 1, Kind::Words),
-    (b"+1 1 M\n", 7, 99, 1, Kind::Number),
-    (b"2147483648 1 M\n", 7, 99, 1, Kind::Size),
-    (b"2 2 M\n3 1 1\n", 7, 99, 2, Kind::Row),
-    (b"2 2 M\n1 3 1\n", 7, 99, 2, Kind::Column),
-    (b"2 2 M\n99999999999999999999 1 1\n", 7, 99, 2, Kind::Row),
-    (b"1 1 M\n0 0 7\n0 0 0\n", 7, 99, 2, Kind::Row),
-    (b"1 1 M\r\n\t0 0  -00", 7, 99, 0, Kind::Row),
-    (b"1 1 M\n1 1 3/7\n", 7, 99, 2, Kind::Divisor),
-    (b"1 1 M\n0 0 0/1\n", 7, 99, 2, Kind::Row),
-    (b"1 1 M\n1 1 1/\n", 7, 99, 2, Kind::Number),
-    (b"1 1 M\n1 1 1\n0 0 0\n", 7, 10, 2, Kind::Long),
-    (b"1 1 M\n1 1 1\n0 0 0\n", 7, 17, 3, Kind::Long),
-    (b"1 1 M\n1 1 1\n0 0 0\n", 7, 18, 0, Kind::Long),
-    (b"1 1 M\n# a\n\n1 1 1\n", 7, 99, 5, Kind::NoEnd),
+// Each row: a text, the limit, and the line and kind of its first fault; line 0 for none.
+const TEXTS: [(&[u8], u32, u64, Kind); 18] = [
+    (b"", 99, 1, Kind::NoHeader),
+    (b"% only", 99, 2, Kind::NoHeader),
+    (b"1 1", 99, 1, Kind::Words),
+    (b"1 1 MM\n", 99, 1, Kind::Words),
+    (b"+1 1 M\n", 99, 1, Kind::Number),
+    (b"2147483648 1 M\n", 99, 1, Kind::Size),
+    (b"2 2 M\n3 1 1\n", 99, 2, Kind::Row),
+    (b"2 2 M\n1 3 1\n", 99, 2, Kind::Column),
+    (b"2 2 M\n99999999999999999999 1 1\n", 99, 2, Kind::Row),
+    (b"1 1 M\n0 0 7\n0 0 0\n", 99, 2, Kind::Row),
+    (b"1 1 M\r\n\t0 0  -00", 99, 0, Kind::Row),
+    (b"1 1 M\n1 1 3/7\n", 99, 2, Kind::Divisor),
+    (b"1 1 M\n0 0 0/1\n", 99, 2, Kind::Row),
+    (b"1 1 M\n1 1 1/\n", 99, 2, Kind::Number),
+    (b"1 1 M\n1 1 1\n0 0 0\n", 10, 2, Kind::Long),
+    (b"1 1 M\n1 1 1\n0 0 0\n", 17, 3, Kind::Long),
+    (b"1 1 M\n1 1 1\n0 0 0\n", 18, 0, Kind::Long),
+    (b"1 1 M\n# a\n\n1 1 1\n", 99, 5, Kind::NoEnd),
 ];
 
 // The error at which the reading of a text with few entries ends.
@@ -100,7 +100,7 @@ fn beginning(
 }
 
 // Each row: a text, the limit, its height and width, and its first entry or the error in its place.
-const BEGINNINGS: [(&[u8], u64, u32, Result<Option<Entry>, TextError>); 2] = [
+const BEGINNINGS: [(&[u8], u32, u32, Result<Option<Entry>, TextError>); 2] = [
     (
         b"3 3 M\n1 1 2\n1 2 4\n0 0 0\n",
         99,
@@ -118,38 +118,62 @@ const BEGINNINGS: [(&[u8], u64, u32, Result<Option<Entry>, TextError>); 2] = [
     ),
 ];
 
+// The same modulo 7 of a text that comes in pieces.
+fn beginning_of(
+    alloc: Global,
+    text: &[u8],
+    limit: u32,
+) -> Result<Result<Beginning, TextError>, AllocError> {
+    let mut source = Pieces {
+        rest: text,
+        piece: 5,
+        whole: true,
+    };
+    let mut reader = Reader::new(alloc, u64::from(limit))?;
+    Ok(beginning(&mut reader, &mut source, &Modulus::new(7)))
+}
+
 #[test]
 fn sizes_and_entries_are_read_and_an_error_stays(rt: HostRuntime) -> Result<(), Fail> {
-    let p = Modulus::new(7);
     for (text, limit, size, first) in BEGINNINGS {
-        let mut source = Pieces {
-            rest: text,
-            piece: 5,
-            whole: true,
-        };
-        let mut reader = Reader::new(rt.alloc(), limit)?;
         let wanted = (Head { m: size, n: size }, first, first.err());
-        assert_eq!(rt; beginning(&mut reader, &mut source, &p), Ok(wanted));
+        assert_eq!(rt; beginning_of(rt.alloc(), text, limit)?, Ok(wanted));
     }
     Ok(())
+}
+
+// The error modulo 7 at which a text ends that comes in pieces, and whether its source was offered 65,536 bytes each time.
+fn error_in_pieces(
+    alloc: Global,
+    text: &[u8],
+    piece: usize,
+    limit: u32,
+) -> Result<(Option<TextError>, bool), AllocError> {
+    let mut source = Pieces {
+        rest: text,
+        piece,
+        whole: true,
+    };
+    let limit = u64::from(limit);
+    let error = first_error(alloc, &mut source, limit, &Modulus::new(7))?;
+    Ok((error, source.whole))
+}
+
+// The fault of a line, or none for line 0.
+fn fault_at(line: u64, kind: Kind) -> Option<TextError> {
+    if line == 0 {
+        None
+    } else {
+        Some(TextError::Bad { line, kind })
+    }
 }
 
 #[test]
 fn the_first_fault_of_each_text_is_named(rt: HostRuntime) -> Result<(), Fail> {
     for piece in [1, 5, 65_536] {
-        for (text, p, limit, line, kind) in TEXTS {
-            let mut source = Pieces {
-                rest: text,
-                piece,
-                whole: true,
-            };
-            let error = first_error(rt.alloc(), &mut source, limit, &Modulus::new(p))?;
-            let wanted = if line == 0 {
-                None
-            } else {
-                Some(TextError::Bad { line, kind })
-            };
-            assert_eq!(rt; (error, source.whole), (wanted, true));
+        for (text, limit, line, kind) in TEXTS {
+            let found = error_in_pieces(rt.alloc(), text, piece, limit)?;
+            assert_eq!(rt; found, (fault_at(line, kind), true));
         }
     }
     Ok(())
@@ -171,9 +195,22 @@ fn second_entry(
     }
 }
 
+// The same modulo 42013 of a text that comes in pieces.
+fn second_entry_of(
+    alloc: Global,
+    text: &[u8],
+) -> Result<Result<Option<Entry>, TextError>, AllocError> {
+    let mut source = Pieces {
+        rest: text,
+        piece: 9,
+        whole: true,
+    };
+    let mut reader = Reader::new(alloc, 99)?;
+    Ok(second_entry(&mut reader, &mut source, &Modulus::new(42013)))
+}
+
 #[test]
 fn values_of_any_length_fold(rt: HostRuntime) -> Result<(), Fail> {
-    let p = Modulus::new(42013);
     for (text, v) in [
         (b"2 3 M\n1 1 5\n2 3 -3/4\n0 0 0\n".as_slice(), 31509),
         (
@@ -181,24 +218,40 @@ fn values_of_any_length_fold(rt: HostRuntime) -> Result<(), Fail> {
             20866,
         ),
     ] {
-        let mut source = Pieces {
-            rest: text,
-            piece: 9,
-            whole: true,
-        };
-        let mut reader = Reader::new(rt.alloc(), 99)?;
-        let entry = second_entry(&mut reader, &mut source, &p);
+        let entry = second_entry_of(rt.alloc(), text)?;
         assert_eq!(rt; entry, Ok(Some(Entry { i: 1, j: 2, v })));
     }
     Ok(())
 }
 
-// The second word of a line of four, and the values of its second and its third word.
-fn second_of_four<'a>(line: &'a Line, p: &Modulus) -> Option<(&'a [u8], Option<u64>, Option<u64>)> {
+// Whether a line is one of four words, of which the second is `rank`, and the values of its second and its third word.
+fn second_of_four(line: &Line, p: &Modulus) -> Option<(bool, Option<u64>, Option<u64>)> {
     if line.count() != 4 {
         return None;
     }
-    Some((line.word(1), line.value(1, p), line.value(2, p)))
+    Some((
+        line.word(1) == b"rank".as_slice(),
+        line.value(1, p),
+        line.value(2, p),
+    ))
+}
+
+// A refusal, and the error of the call behind it.
+type Refusal = (TextError, Option<TextError>);
+
+// The number of the first line of words and what it says, and how it is refused.
+fn line_refused(
+    reader: &mut Reader,
+    source: &mut Pieces<'_>,
+    p: &Modulus,
+) -> Result<(u64, Option<(bool, Option<u64>, Option<u64>)>, Refusal), TextError>
+    requires { reader.old.open_text ≡ None }
+{
+    let line = reader.words(source)?;
+    let said = second_of_four(&line, p);
+    let refused = reader.refuse(line.number(), Kind::Script);
+    let again = reader.words(source).err();
+    Ok((line.number(), said, (refused, again)))
 }
 
 #[test]
@@ -209,14 +262,13 @@ fn words_and_refusals_are_kept(rt: HostRuntime) -> Result<(), Fail> {
         whole: true,
     };
     let mut reader = Reader::new(rt.alloc(), 99)?;
-    let Ok(line) = reader.words(&mut source) else {
-        return Err(Fail::new("no line of words"));
+    let refused = TextError::Bad {
+        line: 2,
+        kind: Kind::Script,
     };
     assert_eq!(rt;
-        (line.number(), second_of_four(&line, &Modulus::new(5))),
-        (2, Some((b"rank".as_slice(), None, Some(2))))
+        line_refused(&mut reader, &mut source, &Modulus::new(5)),
+        Ok((2, Some((true, None, Some(2))), (refused, Some(refused))))
     );
-    let refused = reader.refuse(line.number(), Kind::Script);
-    assert_eq!(rt; reader.words(&mut source).err(), Some(refused));
     Ok(())
 }

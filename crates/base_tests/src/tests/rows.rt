@@ -1,6 +1,7 @@
 // Each call once, on small matrices modulo 7 and on huge ones with few entries.
 ghost use Rattle.sparse_rows.specs.declared.rows.TheConstants.{LARGEST_SIZE};
-ghost use Rattle.std.specs.Prelude.{◌≡◌, ◌<◌, ◌≤◌, ◌+◌, All, IfOk};
+ghost use Rattle.std.specs.Prelude.{◌≡◌, ◌<◌, ◌≤◌, ◌+◌, length, All, IfOk};
+ghost use Rattle.sparse_rows.specs.Rows.{AreBelow, AreRising};
 
 use residue_words::Modulus;
 use sparse_rows::{LARGEST_SIZE, List, Rows, RowsBuilder, Sparse};
@@ -68,6 +69,16 @@ fn scattered(alloc: Global, count: u32, seed: u32) -> Result<Vec<(u32, u32, u64)
 fn lists(alloc: Global, rows: &Rows, entries: &[(u32, u32, u64)]) -> Result<bool, AllocError> {
     let triples = rows.triples(alloc)?;
     Ok(triples.as_slice() == entries)
+}
+
+// Whether a copy has these entries.
+fn copies_into(
+    alloc: Global,
+    rows: &Rows,
+    entries: &[(u32, u32, u64)],
+) -> Result<bool, AllocError> {
+    let copy = rows.copy(alloc)?;
+    lists(alloc, &copy, entries)
 }
 
 // Whether the transpose has these entries.
@@ -204,8 +215,7 @@ const FAR_SELECTED: &[(u32, u32, u64)] = &[(1, 7, 2), (1, 2_147_483_647, 3)];
 fn huge_matrices(rt: HostRuntime) -> Result<(), Fail> {
     let alloc = rt.alloc();
     let x = built(alloc, LARGEST_SIZE, LARGEST_SIZE, FAR)?;
-    let copy = x.copy(alloc)?;
-    let copied = lists(alloc, &copy, FAR_ENTRIES)?;
+    let copied = copies_into(alloc, &x, FAR_ENTRIES)?;
     let turned = turns_into(alloc, &x, FAR_TURNED)?;
     let selected = selects(alloc, &x, [6, 5], FAR_SELECTED)?;
     assert_eq!(rt; (copied, turned, selected), (true, true, true));
@@ -216,28 +226,71 @@ const FAR_FILLED: &[u32] = &[5, 1_000_000_000, 2_147_483_647];
 
 const FAR_OCCUPIED: &[u32] = &[0, 7, 2_147_483_647];
 
+// Whether these are the rows that have an entry.
+fn fills(alloc: Global, rows: &Rows, wanted: &[u32]) -> Result<bool, AllocError> {
+    let filled = rows.filled(alloc)?;
+    Ok(filled.as_slice() == wanted)
+}
+
+// Whether these are the columns that have an entry.
+fn occupies(alloc: Global, rows: &Rows, wanted: &[u32]) -> Result<bool, AllocError> {
+    let occupied = rows.occupied(alloc)?;
+    Ok(occupied.as_slice() == wanted)
+}
+
 #[test]
 fn filled_rows_and_occupied_columns(rt: HostRuntime) -> Result<(), Fail> {
     let alloc = rt.alloc();
     let x = built(alloc, LARGEST_SIZE, LARGEST_SIZE, FAR)?;
-    let filled = x.filled(alloc)?;
-    let occupied = x.occupied(alloc)?;
+    let filled = fills(alloc, &x, FAR_FILLED)?;
+    let occupied = occupies(alloc, &x, FAR_OCCUPIED)?;
     assert_eq!(rt;
-        (filled.as_slice(), occupied.as_slice(), x.next_filled(6)),
-        (FAR_FILLED, FAR_OCCUPIED, Some(1_000_000_000))
+        (filled, occupied, x.next_filled(6)),
+        (true, true, Some(1_000_000_000))
     );
     Ok(())
+}
+
+const WIDE: &[(u32, u32, u64)] = &[(0, 8, 1), (2, 3, 2), (2, 8, 5)];
+
+const NARROW: &[(u32, u32, u64)] = &[(0, 1, 1), (2, 0, 2), (2, 1, 5)];
+
+// Whether a matrix with its columns put at these has such entries.
+fn widens_into(
+    alloc: Global,
+    rows: &Rows,
+    width: u32,
+    columns: &[u32],
+    entries: &[(u32, u32, u64)],
+) -> Result<bool, AllocError>
+    requires width { width ≤ LARGEST_SIZE }
+    requires many { length columns.now ≡ rows.now.matrix.width }
+    requires rising { AreRising columns.now }
+    requires below { AreBelow width columns.now }
+{
+    let widened = rows.widened(alloc, width, columns)?;
+    lists(alloc, &widened, entries)
+}
+
+// Whether a matrix without its empty columns has these entries, and its own where they are put back.
+fn narrows_into(
+    alloc: Global,
+    rows: &Rows,
+    without: &[(u32, u32, u64)],
+    with: &[(u32, u32, u64)],
+) -> Result<(bool, bool), AllocError> {
+    let columns = rows.occupied(alloc)?;
+    let narrowed = rows.narrowed(alloc, &columns)?;
+    let left_out = lists(alloc, &narrowed, without)?;
+    let put_back = widens_into(alloc, &narrowed, rows.width(), &columns, with)?;
+    Ok((left_out, put_back))
 }
 
 #[test]
 fn columns_are_left_out_and_put_back(rt: HostRuntime) -> Result<(), Fail> {
     let alloc = rt.alloc();
-    let x = built(alloc, 3, 9, &[(0, 8, 1), (2, 3, 2), (2, 8, 5)])?;
-    let columns = x.occupied(alloc)?;
-    let narrowed = x.narrowed(alloc, &columns)?;
-    assert!(rt; lists(alloc, &narrowed, &[(0, 1, 1), (2, 0, 2), (2, 1, 5)])?);
-    let widened = narrowed.widened(alloc, 9, &columns)?;
-    assert!(rt; lists(alloc, &widened, &[(0, 8, 1), (2, 3, 2), (2, 8, 5)])?);
+    let x = built(alloc, 3, 9, WIDE)?;
+    assert_eq!(rt; narrows_into(alloc, &x, NARROW, WIDE)?, (true, true));
     Ok(())
 }
 
@@ -279,16 +332,41 @@ fn append_lower(
     Ok(())
 }
 
+// The entries of both matrices, those of the second as many rows lower.
+fn sums_of_both(
+    alloc: Global,
+    by: u32,
+    first: &[(u32, u32, u64)],
+    second: &[(u32, u32, u64)],
+) -> Result<Vec<(u32, u32, u64)>, AllocError> {
+    let mut entries = sums(alloc, 9, 6, first)?;
+    let below = sums(alloc, 9, 6, second)?;
+    append_lower(&mut entries, by, &below)?;
+    Ok(entries)
+}
+
 // Whether a matrix with another below it has the entries of both.
+fn stacks(
+    alloc: Global,
+    high: u32,
+    low: u32,
+    first: &[(u32, u32, u64)],
+    second: &[(u32, u32, u64)],
+) -> Result<bool, Fail>
+    requires { high + low ≤ LARGEST_SIZE }
+{
+    let rows = stacked(alloc, high, low, first, second)?;
+    let wanted = sums_of_both(alloc, high, first, second)?;
+    Ok(lists(alloc, &rows, &wanted)?)
+}
+
+// Whether it has them where both are scattered.
 fn is_stacked(alloc: Global, high: u32, low: u32) -> Result<bool, Fail>
     requires { high + low ≤ LARGEST_SIZE }
 {
     let first = scattered(alloc, 20, high)?;
     let second = scattered(alloc, 20, low)?;
-    let rows = stacked(alloc, high, low, &first, &second)?;
-    let mut wanted = sums(alloc, 9, 6, &first)?;
-    append_lower(&mut wanted, high, &sums(alloc, 9, 6, &second)?)?;
-    Ok(lists(alloc, &rows, &wanted)?)
+    stacks(alloc, high, low, &first, &second)
 }
 
 // A row, a column and a value that don't fit a matrix of 2 x 3 modulo 7.

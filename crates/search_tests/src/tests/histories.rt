@@ -1,5 +1,5 @@
 // A book and a board of a small matrix.
-ghost use Rattle.std.specs.Prelude.{◌≡◌, [], ◌∷◌, length, IfOk, IsTrue};
+ghost use Rattle.std.specs.Prelude.{◌≡◌, ◌≤◌, [], ◌∷◌, length, IfOk, IsTrue};
 ghost use Rattle.pivot_table.specs.Board.{IsSeatOf};
 ghost use Rattle.pivot_table.specs.Calls.{MayFinish};
 ghost use Rattle.pivot_table.specs.Core.{claiming, opened, splitting};
@@ -30,21 +30,38 @@ fn rows(alloc: Global) -> Result<Rows, AllocError>
     Rows::from_triples(alloc, 3, 3, &Modulus::new(7), &entries)
 }
 
+// Whether a book has these pairs, in this order.
+fn has(book: &Book<'_>, pairs: &[Pair]) -> bool {
+    book.pairs() == pairs
+}
+
+// Whether each of two pairs stands behind those that came before it.
+fn keeps_order(book: &mut Book<'_>) -> bool
+    requires matrix { book.old.rows.matrix ≡ pivot_example }
+    requires none { book.old.pairs ≡ [] }
+    requires room { 2 ≤ book.old.spare }
+{
+    book.push(Pair { row: 0, col: 0 });
+    let first = has(book, &[Pair { row: 0, col: 0 }]);
+    book.push(Pair { row: 1, col: 1 });
+    first && has(book, &[Pair { row: 0, col: 0 }, Pair { row: 1, col: 1 }])
+}
+
+// How many pairs a new book has, how high its matrix is, whether it gets room for two pairs, and whether it keeps their order.
+fn book_of_two(alloc: Global, rows: &Rows) -> Result<(usize, u32, bool, bool), AllocError>
+    requires { rows.now.matrix ≡ pivot_example }
+{
+    let mut book = Book::empty(alloc, rows)?;
+    let (many, height) = (book.pairs().len(), book.rows().height());
+    book.reserve(2)?;
+    let has_room = book.spare() >= 2;
+    Ok((many, height, has_room, keeps_order(&mut book)))
+}
+
 #[test]
 fn a_book_keeps_its_pairs_in_order(rt: HostRuntime) -> Result<(), Fail> {
     let rows = rows(rt.alloc())?;
-    let mut book = Book::empty(rt.alloc(), &rows)?;
-    assert_eq!(rt; book.pairs().len(), 0);
-    assert_eq!(rt; book.rows().height(), 3);
-    book.reserve(2)?;
-    assert!(rt; book.spare() >= 2);
-    book.push(Pair { row: 0, col: 0 });
-    assert_eq!(rt; book.pairs(), [Pair { row: 0, col: 0 }].as_slice());
-    book.push(Pair { row: 1, col: 1 });
-    assert_eq!(rt;
-        book.pairs(),
-        [Pair { row: 0, col: 0 }, Pair { row: 1, col: 1 }].as_slice()
-    );
+    assert_eq!(rt; book_of_two(rt.alloc(), &rows)?, (0, 3, true, true));
     Ok(())
 }
 
@@ -244,27 +261,51 @@ fn ended<'a>(board: Board<'a>, first: Seat, second: Seat) -> Closed<'a>
     board.close(first)
 }
 
-// Whether the calls of two seats, in one thread or in two, leave what they should.
+// Whether all rows are done, and the pair (2, 1) was published behind the first, by a seat that had seen that one.
+fn is_overtaken(closed: &Closed<'_>) -> bool
+    requires { length closed.now.done ≡ 3 }
+{
+    let done = [
+        closed.done.is_done(0),
+        closed.done.is_done(1),
+        closed.done.is_done(2),
+    ];
+    let starts = [
+        closed.starts.at(0),
+        closed.starts.at(1),
+        closed.starts.at(2),
+    ];
+    let pairs = [Pair { row: 0, col: 0 }, Pair { row: 2, col: 1 }];
+    has(&closed.book, &pairs) && done == [true, true, true] && starts == [None, Some(1), None]
+}
+
+// Whether the calls of these seats, in one thread or in two, leave what they should.
+fn leave_what_they_should<R: Threads + Sync>(
+    rt: &R,
+    board: Board<'_>,
+    first: Seat,
+    second: Seat,
+    threads: bool,
+) -> bool
+    requires matrix { board.rows.matrix ≡ pivot_example }
+    requires first { IsSeatOf board first × (first.chair ≡ opened (pair 0 0 ∷ [])) }
+    requires second { IsSeatOf board second × (second.chair ≡ splitting (opened (pair 0 0 ∷ []))) }
+{
+    let mut first = first;
+    let mut second = second;
+    if !both_go(rt, &board, &mut first, &mut second, threads) {
+        return false;
+    }
+    is_overtaken(&ended(board, first, second))
+}
+
+// The same of two seats at a board that begins with the first pair.
 fn two_seats<R: Threads + Sync>(rt: &R, alloc: Global, threads: bool) -> Result<bool, AllocError> {
     let rows = rows(alloc)?;
     let book = first_pair(alloc, &rows)?;
     let (board, mut first) = Board::new(alloc, &book)?;
-    let mut second = board.split(&mut first);
-    let went = both_go(rt, &board, &mut first, &mut second, threads);
-    if !went {
-        return Ok(false);
-    }
-    let Closed { book, done, starts } = ended(board, first, second);
-    let wanted = [Pair { row: 0, col: 0 }, Pair { row: 2, col: 1 }];
-    Ok(
-        book.pairs() == wanted.as_slice()
-            && done.is_done(0)
-            && done.is_done(1)
-            && done.is_done(2)
-            && starts.at(0).is_none()
-            && starts.at(1) == Some(1)
-            && starts.at(2).is_none(),
-    )
+    let second = board.split(&mut first);
+    Ok(leave_what_they_should(rt, board, first, second, threads))
 }
 
 #[test]

@@ -6,9 +6,9 @@ ghost use Rattle.pivot_table.specs.History.{pair};
 ghost use Rattle.optimistic_search.specs.Taking.{IsIdle};
 
 use optimistic_search::{
-    Gate, Open, Point, Steps, Taken, Walk, search, search_by_walk, search_traced, take_row,
+    Gate, Open, Point, Steps, Taken, Traced, Walk, search, search_by_walk, search_traced, take_row,
 };
-use pivot_table::{Board, Book};
+use pivot_table::{Board, Book, Seat};
 use residue_words::Modulus;
 use residue_words::plain::Pair;
 use sparse_rows::{Rows, RowsBuilder};
@@ -64,8 +64,7 @@ fn answers<L: Ledger>(alloc: Global, blank: Blank) -> Result<[Option<u32>; 2], A
 #[test]
 fn a_walk_is_carried_on(rt: HostRuntime) -> Result<(), Fail> {
     let found = answers::<Brand>(rt.alloc(), Blank::new(1))?;
-    assert_eq!(rt; found[0], Some(1));
-    assert_eq!(rt; found[1], None);
+    assert_eq!(rt; found, [Some(1), None]);
     Ok(())
 }
 
@@ -82,7 +81,37 @@ fn first_pair<'a>(alloc: Global, rows: &'a Rows) -> Result<Book<'a>, AllocError>
     Ok(book)
 }
 
-// What becomes of the three rows, one after the other, with the first pair given.
+// A walk over the first pair.
+fn first_walk<'a, L: Ledger>(
+    alloc: Global,
+    rows: &'a Rows,
+    steps: &mut Steps<L>,
+) -> Result<Walk<'a>, AllocError>
+    requires { rows.now.matrix ≡ pivot_example }
+    ensures { IfOk result (λ w. w ≡ record { rows = rows.now; pairs = pair 0 0 ∷ []; current = None }) }
+{
+    let mut walk = Walk::new(alloc, rows)?;
+    walk.extend(Pair { row: 0, col: 0 }, steps);
+    Ok(walk)
+}
+
+// What becomes of the three rows, one after the other.
+fn take_three<L: Ledger>(
+    board: &Board<'_>,
+    seat: &mut Seat,
+    walk: &mut Walk<'_>,
+    steps: &mut Steps<L>,
+) -> [Taken; 3]
+    requires idle { IsIdle board.now seat.old walk.old }
+    requires high { board.now.rows.matrix.height ≡ 3 }
+{
+    let first = take_row(board, seat, walk, 0, 7, &Open, steps);
+    let second = take_row(board, seat, walk, 1, 7, &Open, steps);
+    let third = take_row(board, seat, walk, 2, 7, &Open, steps);
+    [first, second, third]
+}
+
+// The same with the first pair given, and a count of its own.
 fn taken_in_turn<L: Ledger>(alloc: Global, blank: Blank) -> Result<[Taken; 3], AllocError>
     requires name { blank.name ≡ L.name }
     requires parts { blank.parts ≡ L.parts }
@@ -91,21 +120,15 @@ fn taken_in_turn<L: Ledger>(alloc: Global, blank: Blank) -> Result<[Taken; 3], A
     let rows = example_rows(alloc)?;
     let book = first_pair(alloc, &rows)?;
     let (board, mut seat) = Board::new(alloc, &book)?;
-    let mut walk = Walk::new(alloc, &rows)?;
     let mut steps = Steps::<L>::new(blank);
-    walk.extend(Pair { row: 0, col: 0 }, &mut steps);
-    let first = take_row(&board, &mut seat, &mut walk, 0, 7, &Open, &mut steps);
-    let second = take_row(&board, &mut seat, &mut walk, 1, 7, &Open, &mut steps);
-    let third = take_row(&board, &mut seat, &mut walk, 2, 7, &Open, &mut steps);
-    Ok([first, second, third])
+    let mut walk = first_walk(alloc, &rows, &mut steps)?;
+    Ok(take_three(&board, &mut seat, &mut walk, &mut steps))
 }
 
 #[test]
 fn rows_are_taken_in_turn(rt: HostRuntime) -> Result<(), Fail> {
     let taken = taken_in_turn::<Brand>(rt.alloc(), Blank::new(1))?;
-    assert_eq!(rt; taken[0], Taken::Busy);
-    assert_eq!(rt; taken[1], Taken::Published(1));
-    assert_eq!(rt; taken[2], Taken::Dropped);
+    assert_eq!(rt; taken, [Taken::Busy, Taken::Published(1), Taken::Dropped]);
     Ok(())
 }
 
@@ -138,6 +161,26 @@ impl Gate for Hold {
     }
 }
 
+// Whether the pair of row 2 stands behind the first, published by a worker that had seen that one.
+fn has_row_2(found: &Traced<'_>) -> bool {
+    let wanted = [Pair { row: 0, col: 0 }, Pair { row: 2, col: 1 }];
+    found.book.pairs() == wanted.as_slice() && found.versions.items() == [0u64, 1].as_slice()
+}
+
+// Whether two workers at this gate find that.
+fn find_row_2<R: Threads + Sync>(
+    rt: &R,
+    alloc: Global,
+    rows: &Rows,
+    gate: &Hold,
+) -> Result<bool, AllocError>
+    requires { rows.now.matrix ≡ pivot_example }
+{
+    let book = first_pair(alloc, rows)?;
+    let found = search_traced(rt, alloc, book, 2, gate)?;
+    Ok(has_row_2(&found))
+}
+
 // Whether row 2 overtakes row 1, which is dead then, where the gate holds it: two workers go at once.
 fn is_overtaken<R: Threads + Sync>(rt: &R, alloc: Global) -> Result<bool, AllocError> {
     let gate = Hold {
@@ -145,13 +188,7 @@ fn is_overtaken<R: Threads + Sync>(rt: &R, alloc: Global) -> Result<bool, AllocE
         published: AtomicU64::new(0),
     };
     let rows = example_rows(alloc)?;
-    let found = search_traced(rt, alloc, first_pair(alloc, &rows)?, 2, &gate)?;
-    let wanted = [Pair { row: 0, col: 0 }, Pair { row: 2, col: 1 }];
-    Ok(
-        found.book.pairs() == wanted.as_slice()
-            && found.versions.items() == [0u64, 1].as_slice()
-            && gate.published.load(Ordering::SeqCst) == 1,
-    )
+    Ok(find_row_2(rt, alloc, &rows, &gate)? && gate.published.load(Ordering::SeqCst) == 1)
 }
 
 #[test]
@@ -214,7 +251,7 @@ fn chessboard(alloc: Global) -> Result<Vec<(u32, u32)>, AllocError> {
 // What the search by walks finds.
 fn walked<'a, L: Ledger>(
     alloc: Global,
-    book: Book<'a>,
+    rows: &'a Rows,
     blank: Blank,
 ) -> Result<Book<'a>, AllocError>
     requires name { blank.name ≡ L.name }
@@ -222,7 +259,35 @@ fn walked<'a, L: Ledger>(
     requires some { 0 < blank.parts }
 {
     let mut steps = Steps::<L>::new(blank);
-    search_by_walk(alloc, book, &mut steps)
+    search_by_walk(alloc, Book::empty(alloc, rows)?, &mut steps)
+}
+
+// What so many workers find.
+fn found<'a, R: Threads + Sync>(
+    rt: &R,
+    alloc: Global,
+    rows: &'a Rows,
+    workers: u32,
+) -> Result<Book<'a>, AllocError>
+    requires some { 1 ≤ workers }
+    requires few { workers ≤ 64 }
+{
+    search(rt, alloc, Book::empty(alloc, rows)?, workers, &Open)
+}
+
+// Whether so many workers that begin with this book have these pairs in the end.
+fn finds<R: Threads + Sync>(
+    rt: &R,
+    alloc: Global,
+    book: Book<'_>,
+    workers: u32,
+    pairs: &[Pair],
+) -> Result<bool, AllocError>
+    requires some { 1 ≤ workers }
+    requires few { workers ≤ 64 }
+{
+    let again = search(rt, alloc, book, workers, &Open)?;
+    Ok(again.pairs() == pairs)
 }
 
 // Whether one worker finds nothing after several.
@@ -235,49 +300,63 @@ fn leaves_nothing<R: Threads + Sync>(
     requires some { 1 ≤ workers }
     requires few { workers ≤ 64 }
 {
-    let found = search(rt, alloc, Book::empty(alloc, rows)?, workers, &Open)?;
-    let many = found.pairs().len();
-    let again = search(rt, alloc, found, 1, &Open)?;
+    let several = found(rt, alloc, rows, workers)?;
+    let many = several.pairs().len();
+    let again = search(rt, alloc, several, 1, &Open)?;
     Ok(again.pairs().len() == many)
 }
 
-// How many pairs the search finds, if the search by walks finds the same, a search of what was found finds no more, and several
-// workers leave nothing.
-fn agreed<R: Threads + Sync>(
+// Whether the search by walks finds the same as one worker, and many find no more behind that.
+fn walks_agree<R: Threads + Sync>(rt: &R, alloc: Global, rows: &Rows) -> Result<bool, AllocError> {
+    let walked = walked::<Brand>(alloc, rows, Blank::new(1))?;
+    let alone = found(rt, alloc, rows, 1)?;
+    if alone.pairs() != walked.pairs() {
+        return Ok(false);
+    }
+    finds(rt, alloc, alone, 64, walked.pairs())
+}
+
+// Whether all searches of a matrix agree, and several workers leave nothing.
+fn all_agree<R: Threads + Sync>(rt: &R, alloc: Global, rows: &Rows) -> Result<bool, AllocError> {
+    let agree = walks_agree(rt, alloc, rows)?;
+    let two = leaves_nothing(rt, alloc, rows, 2)?;
+    let many = leaves_nothing(rt, alloc, rows, 64)?;
+    Ok(agree && two && many)
+}
+
+// The same for the matrix with ones at these places.
+fn agree_on<R: Threads + Sync>(
     rt: &R,
     alloc: Global,
-    rows: &Rows,
-) -> Result<Option<usize>, AllocError> {
-    let found = search(rt, alloc, Book::empty(alloc, rows)?, 1, &Open)?;
-    let walked = walked::<Brand>(alloc, Book::empty(alloc, rows)?, Blank::new(1))?;
-    let many = found.pairs().len();
-    if found.pairs() != walked.pairs() {
-        return Ok(None);
-    }
-    let again = search(rt, alloc, found, 64, &Open)?;
-    if again.pairs() != walked.pairs() {
-        return Ok(None);
-    }
-    if !leaves_nothing(rt, alloc, rows, 2)? || !leaves_nothing(rt, alloc, rows, 64)? {
-        return Ok(None);
-    }
-    Ok(Some(many))
+    m: u32,
+    n: u32,
+    places: &[(u32, u32)],
+) -> Result<bool, AllocError>
+    requires height { m ≤ LARGEST_SIZE }
+    requires width { n ≤ LARGEST_SIZE }
+{
+    let rows = ones(alloc, m, n, places)?;
+    all_agree(rt, alloc, &rows)
 }
 
 #[test]
 fn the_example_has_two_pairs(rt: HostRuntime) -> Result<(), Fail> {
     let rows = example_rows(rt.alloc())?;
-    let book = search(&rt, rt.alloc(), Book::empty(rt.alloc(), &rows)?, 1, &Open)?;
+    let empty = Book::empty(rt.alloc(), &rows)?;
     let wanted = [Pair { row: 0, col: 0 }, Pair { row: 1, col: 1 }];
-    assert_eq!(rt; book.pairs(), wanted.as_slice());
+    assert!(rt; finds(&rt, rt.alloc(), empty, 1, &wanted)?);
+    Ok(())
+}
+
+#[test]
+fn both_searches_agree_on_a_boundary_map(rt: HostRuntime) -> Result<(), Fail> {
+    let faces = chessboard(rt.alloc())?;
+    assert!(rt; agree_on(&rt, rt.alloc(), 96, 256, &faces)?);
     Ok(())
 }
 
 #[test]
 fn both_searches_agree(rt: HostRuntime) -> Result<(), Fail> {
-    let alloc = rt.alloc();
-    let faces = chessboard(alloc)?;
-    assert!(rt; agreed(&rt, alloc, &ones(alloc, 96, 256, &faces)?)?.is_some());
     for (m, n, count) in &[
         (0u32, 0u32, 0u32),
         (1, 1, 1),
@@ -286,8 +365,8 @@ fn both_searches_agree(rt: HostRuntime) -> Result<(), Fail> {
         (32, 20, 150),
         (16, 32, 90),
     ] {
-        let places = scattered(alloc, *count, *m)?;
-        assert!(rt; agreed(&rt, alloc, &ones(alloc, *m, *n, &places)?)?.is_some());
+        let places = scattered(rt.alloc(), *count, *m)?;
+        assert!(rt; agree_on(&rt, rt.alloc(), *m, *n, &places)?);
     }
     Ok(())
 }
@@ -301,12 +380,17 @@ fn spread(alloc: Global, places: &[(u32, u32)]) -> Result<Vec<(u32, u32)>, Alloc
     Ok(apart)
 }
 
+// Whether both searches agree on a wide matrix with so many ones.
+fn agree_on_wide<R: Threads + Sync>(rt: &R, alloc: Global, count: u32) -> Result<bool, AllocError> {
+    let near = scattered(alloc, count, count)?;
+    let places = spread(alloc, &near)?;
+    agree_on(rt, alloc, 32, 4096, &places)
+}
+
 #[test]
 fn both_searches_agree_on_wide_matrices(rt: HostRuntime) -> Result<(), Fail> {
-    let alloc = rt.alloc();
     for count in &[0u32, 3, 60, 150] {
-        let places = spread(alloc, &scattered(alloc, *count, *count)?)?;
-        assert!(rt; agreed(&rt, alloc, &ones(alloc, 32, 4096, &places)?)?.is_some());
+        assert!(rt; agree_on_wide(&rt, rt.alloc(), *count)?);
     }
     Ok(())
 }
@@ -325,19 +409,25 @@ const APART: [(u32, u32); 10] = [
     (2_147_483_646, 1),
 ];
 
-#[test]
-fn the_largest_matrix_costs_by_its_entries(rt: HostRuntime) -> Result<(), Fail> {
-    let alloc = rt.alloc();
-    let rows = ones(alloc, 2_147_483_647, 2_147_483_647, &APART)?;
-    let book = search(&rt, alloc, Book::empty(alloc, &rows)?, 1, &Open)?;
-    let mut wanted = Vec::new(alloc);
-    for (row, col) in &APART {
-        wanted.push(Pair {
+// These places as pairs.
+fn pairs_of(alloc: Global, places: &[(u32, u32)]) -> Result<Vec<Pair>, AllocError> {
+    let mut pairs = Vec::new(alloc);
+    for (row, col) in places {
+        pairs.push(Pair {
             row: *row,
             col: *col,
         })?;
     }
-    assert_eq!(rt; book.pairs(), wanted.as_slice());
-    assert!(rt; leaves_nothing(&rt, alloc, &rows, 64)?);
+    Ok(pairs)
+}
+
+#[test]
+fn the_largest_matrix_costs_by_its_entries(rt: HostRuntime) -> Result<(), Fail> {
+    let alloc = rt.alloc();
+    let rows = ones(alloc, 2_147_483_647, 2_147_483_647, &APART)?;
+    let pairs = pairs_of(alloc, &APART)?;
+    let has_all = finds(&rt, alloc, Book::empty(alloc, &rows)?, 1, &pairs)?;
+    let leaves_nothing = leaves_nothing(&rt, alloc, &rows, 64)?;
+    assert_eq!(rt; (has_all, leaves_nothing), (true, true));
     Ok(())
 }
