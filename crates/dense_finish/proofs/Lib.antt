@@ -14,6 +14,7 @@ pub mod Parts
 pub mod ProductSums
 pub mod Progress
 pub mod Putting
+pub mod ReducedPieces
 pub mod Splitting
 pub mod Stages
 pub mod TakingOut

@@ -3,6 +3,7 @@ pub mod Dense
 pub mod Factors
 pub mod Multiples
 pub mod Panel
+pub mod Pieces
 pub mod Pivots
 pub mod Products
 pub mod Splitting

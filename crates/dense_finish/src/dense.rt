@@ -77,6 +77,14 @@ impl<W: Residue> Dense<W> {
         Ok(row)
     }
 
+    // The same row, in memory of its own.
+    pub(crate) fn copy(&self, alloc: Global) -> Result<Dense<W>, AllocError>
+        ensures { IfOk result (λ row. row ≡ self.now) }
+    {
+        let places = Vec::from_slice(alloc, &self.places)?;
+        Ok(Dense { places })
+    }
+
     // How many residues.
     pub(crate) fn len(&self) -> usize
         ensures { result ≡ length self.now }

@@ -5,8 +5,8 @@ ghost use Rattle.residue_words.specs.Residues.{IsPrime};
 ghost use Rattle.sparse_rows.specs.Rows.{AreRising};
 ghost use Rattle.sparse_rows.specs.declared.rows.TheConstants.{LARGEST_SIZE};
 ghost use Rattle.dense_finish.specs.Block.{AreRowsOf, AreVectors, IsDense};
-ghost use Rattle.dense_finish.specs.Panel.{ArePivots, PanelReducesEach};
-ghost use Rattle.dense_finish.specs.Units.{HasUnits};
+ghost use Rattle.dense_finish.specs.Panel.{PanelReducesEach};
+ghost use Rattle.dense_finish.specs.Pieces.{AreReducible, IsShare};
 ghost use Rattle.dense_finish.specs.Dense.{IsFirstFree, IsPivotOf, KeepsCoefficients};
 ghost use Rattle.dense_finish.specs.Factors.{IsFactored};
 ghost use Rattle.sparse_rows.specs.Rows.{AreBelow};
@@ -16,6 +16,7 @@ use crate::block::Block;
 use crate::dense::Dense;
 use crate::factors::{Factors, left_factor};
 use crate::panel::{PANEL, Panel};
+use crate::pieces::Piece;
 use crate::pivots::Pivots;
 use crate::reducing::Reducing;
 use crate::residue::Residue;
@@ -24,35 +25,33 @@ use residue_words::{LANE_BOUND, Modulus};
 use sparse_rows::Rows;
 use std::alloc::{AllocError, Global};
 use std::marker::Model;
+use std::sync::atomic::AtomicU64;
 use std::thread::{Threads, join_mut};
-
-// About so many rows could be reduced by a panel's pivots while these and their units are found.
-const FINDING: usize = 144;
 
 // What stays the same during an elimination: the columns of the matrix that the block's stand for, the modulus, and the number of
 // workers.
 #[derive(Clone, Copy)]
-struct Elimination<'a> {
-    alloc: Global,
+pub(crate) struct Elimination<'a> {
+    pub(crate) alloc: Global,
     columns: &'a [u32],
-    p: Modulus,
+    pub(crate) p: Modulus,
     workers: usize,
 }
 
 // The rows of a block from `start` on and before `end`.
 #[derive(Clone, Copy)]
-struct RowRange {
-    start: usize,
-    end: usize,
+pub(crate) struct RowRange {
+    pub(crate) start: usize,
+    pub(crate) end: usize,
 }
 
 // A panel's pivots, and what they leave of the unit rows at their columns, which is 0 before column `first`. Contracts see these
 // as `FoundPanel`.
 #[derive(Drop)]
-struct Found<W: Residue> {
-    panel: Panel<W>,
-    units: Vec<Dense<W>>,
-    first: usize,
+pub(crate) struct Found<W: Residue> {
+    pub(crate) panel: Panel<W>,
+    pub(crate) units: Vec<Dense<W>>,
+    pub(crate) first: usize,
 }
 
 impl<W: Residue> Model for Found<W> {
@@ -126,21 +125,6 @@ impl<W: Reducing> Block<W> {
     }
 }
 
-// How many of the rows up to `height` are the finder's, one of so many workers: it finds the pivots of these rows, and so reduces
-// fewer of the rows from the first of these on than the others.
-fn rows_of_finder(rows: RowRange, height: usize, workers: usize) -> usize
-    requires some { 1 ≤ workers }
-    requires start { rows.start ≤ height }
-    requires end { rows.end ≤ height }
-    requires low { height ≤ LARGEST_SIZE }
-    ensures found { rows.end ≤ result }
-    ensures inside { result ≤ height }
-{
-    let share = (height - rows.start + FINDING) / workers;
-    let own = rows.start + share.saturating_sub(FINDING).min(height - rows.start);
-    rows.end.max(own)
-}
-
 impl<'a> Elimination<'a> {
     // Eliminates a block of a matrix of this width, panel by panel.
     fn eliminate<R: Threads + Sync, W: Reducing>(
@@ -202,13 +186,12 @@ impl<'a> Elimination<'a> {
         if self.workers == 1 || found.panel.is_empty() {
             return self.reduce_and_find(found, rows, pivots, block);
         }
-        let cut = rows_of_finder(rows, block.len(), self.workers);
-        let (own, others) = block.split_at_mut(cut);
+        let (own, others) = block.split_at_mut(rows.end);
         self.find_beside(rt, found, rows, pivots, own, others)
     }
 
-    // Takes a panel's pivots out of the finder's rows from the first on, and finds those of these rows, while the other workers
-    // take them out of the other rows.
+    // Takes a panel's pivots out of its own rows from the first on, and finds those of these rows, while the other workers take the
+    // panel's out of the other rows, piece by piece, as this one does then too.
     fn find_beside<R: Threads + Sync, W: Reducing>(
         &self,
         rt: &R,
@@ -229,31 +212,30 @@ impl<'a> Elimination<'a> {
             (panel_stage pivots.new next own.new rows.end)) }
         ensures others { PanelReducesEach self.now.p found.now.panel others.old others.new }
     {
-        let mut help = ||
-            requires { W.serves self.now.p × (2 ≤ self.now.workers)
-                × AreVectors self.now.p found.now.panel.width others.now
-                × ArePivots self.now.p found.now.panel × HasUnits self.now.p found.now }
-            ensures { PanelReducesEach self.entry.now.p found.entry.now.panel
-                others.entry.now others.exit.now }
-        {
-            found.panel.share(
-                rt,
-                &found.units,
-                found.first,
-                others,
-                &self.p,
-                self.workers - 1,
-            )
-        };
-        let mut find = || -> Result<Found<W>, AllocError>
-            requires { W.serves self.now.p × AreRowsOf own.now rows × CanGoOn self.now.p self.now.columns.now
+        let next = AtomicU64::new(0);
+        let behind: &[Dense<W>] = others;
+        let helpers = self.workers - 1;
+        let mut help = || -> Vec<Piece<W>>
+            requires { W.serves self.now.p × AreReducible self.now.p found.now behind.now }
+            ensures { IsShare self.entry.now.p found.entry.now.panel behind.entry.now result }
+        { self.pieces_by(rt, found, behind, &next, helpers) };
+        let mut find = || -> (Result<Found<W>, AllocError>, Vec<Piece<W>>)
+            requires { W.serves self.now.p × AreReducible self.now.p found.now behind.now
+                × AreRowsOf own.now rows × CanGoOn self.now.p self.now.columns.now
                 (panel_stage pivots.now found.now own.now rows.start) }
-            ensures { IfOk result (λ next. FindsPanel self.entry.now.p self.entry.now.columns.now
+            ensures { IsShare self.entry.now.p found.entry.now.panel behind.entry.now result.1
+                × IfOk result.0 (λ next. FindsPanel self.entry.now.p self.entry.now.columns.now
                 (panel_stage pivots.entry.now found.entry.now own.entry.now rows.start)
                 (panel_stage pivots.exit.now next own.exit.now rows.end)) }
-        { self.reduce_and_find(found, rows, pivots, own) };
-        let (next, ()) = join_mut(rt, &mut find, &mut help);
-        next
+        {
+            let next_panel = self.reduce_and_find(found, rows, pivots, own);
+            (next_panel, self.pieces_of_worker(found, behind, &next))
+        };
+        let ((next_panel, mut pieces), mut more) = join_mut(rt, &mut find, &mut help);
+        // Pieces that there is no room for are made in place.
+        let _ = pieces.append(&mut more);
+        self.put_pieces(found, pieces, others);
+        next_panel
     }
 
     // Takes a panel's pivots out of the rows from the first on, and finds those of these rows.

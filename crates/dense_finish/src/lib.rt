@@ -8,6 +8,7 @@ mod factors;
 mod lane_addition;
 mod multiplier;
 mod panel;
+mod pieces;
 mod pivots;
 mod products;
 mod reducing;

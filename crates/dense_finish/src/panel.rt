@@ -10,11 +10,9 @@ use crate::dense::Dense;
 use crate::products::{BLOCK_ROWS, Columns, Folding, TILE_COLUMNS, add_products};
 use crate::reducing::Reducing;
 use crate::residue::Residue;
-use rayon::prelude::*;
 use residue_words::Modulus;
 use std::alloc::{AllocError, Global};
 use std::marker::Model;
-use std::thread::Threads;
 
 /// How many rows are searched for pivots before these are taken out of all rows behind.
 pub(crate) const PANEL: usize = 64;
@@ -147,40 +145,6 @@ impl<W: Reducing> Panel<W> {
             return;
         }
         W::take_out(self, units, first, &mut rows[from..], p);
-    }
-
-    // Takes the pivots out of each row by the units, by so many workers.
-    pub(crate) fn share<R: Threads + Sync>(
-        &self,
-        rt: &R,
-        units: &[Dense<W>],
-        first: usize,
-        rows: &mut [Dense<W>],
-        p: &Modulus,
-        workers: usize,
-    )
-        requires modulus { W.serves p.now }
-        requires some { 1 ≤ workers }
-        requires residues { AreVectors p.now self.now.width rows.old }
-        requires pivots { ArePivots p.now self.now }
-        requires units { AreUnits p.now self.now first units.now }
-        ensures { PanelReducesEach p.now self.now rows.old rows.new }
-    {
-        if workers == 1 || rows.is_empty() {
-            W::take_out(self, units, first, rows, p);
-            return;
-        }
-        let size = rows.len().div_ceil(workers);
-        par_chunks_mut_for_each(
-            rt,
-            rows,
-            size,
-            |_at: usize, piece: &mut [Dense<W>]|
-                requires { W.serves p.now × AreVectors p.now self.now.width piece.old
-                    × ArePivots p.now self.now × AreUnits p.now self.now first units.now }
-                ensures { PanelReducesEach p.entry.now self.entry.now piece.old piece.new }
-            { W::take_out(self, units, first, piece, p) },
-        );
     }
 }
 

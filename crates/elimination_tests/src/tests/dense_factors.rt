@@ -128,6 +128,7 @@ fn assert_factors<R: Threads + Sync + Abort>(
     assert_eq!(rt; f.pivots.items().len(), rank);
     assert_product(rt, a, &f);
     assert_same(rt, alloc, a, &f, 2)?;
+    assert_same(rt, alloc, a, &f, 4)?;
     assert_same(rt, alloc, a, &f, 8)
 }
 
@@ -284,8 +285,8 @@ fn assert_plain_rank<R: Threads + Sync + Abort>(
     assert_factors(rt, alloc, a, rank)
 }
 
-// Heights, widths, and how many rows the others come from.
-const SIZES: [(u32, u32, u32); 9] = [
+// Heights, widths, and how many rows the others come from. Of the last, each of four workers can take several pieces.
+const SIZES: [(u32, u32, u32); 10] = [
     (1, 1, 1),
     (3, 5, 3),
     (7, 9, 7),
@@ -295,6 +296,7 @@ const SIZES: [(u32, u32, u32); 9] = [
     (40, 130, 40),
     (200, 20, 3),
     (20, 200, 3),
+    (400, 12, 5),
 ];
 
 #[test]

@@ -7,7 +7,7 @@ use Rattle.dense_finish.proofs.elimination.Elimination.next_panel.Goals as goal
 
 pub find_beside-requires-clause-ready : goal.find_beside-requires-clause-ready
 find_beside-requires-clause-ready g c κs within =
-    rw c.split_at_mut-own.ensures.front (front_ready c.rows_of_finder-cut.result (omega (arith, c.rows_of_finder-cut.ensures.found, c.requires.rows.order)) c.rows_of_finder-cut.ensures.inside c.requires.ready)
+    rw c.split_at_mut-own.ensures.front (front_ready c.args.rows.end c.requires.rows.order c.requires.rows.inside c.requires.ready)
 
 pub returns : goal.returns
 returns g c =
@@ -17,10 +17,9 @@ returns g c =
     let f = c.args.pivots.now in
     let own = c.find_beside.new.own in
     let others = c.find_beside.new.others in
-    let cut = c.rows_of_finder-cut.ensures in
     let front = c.split_at_mut-own.ensures.front in
     let back = c.split_at_mut-own.ensures.back in
     IfOk-weaker c.find_beside.result _ _ (λ next h.
-    finds_joined others (omega (arith, cut.found, c.requires.rows.order)) cut.inside c.requires.ready cut.found (c.find_beside.auto.own ∙ ap length front) (c.find_beside.auto.others ∙ ap length back)
+    finds_joined others c.requires.rows.order c.requires.rows.inside c.requires.ready (omega arith) (c.find_beside.auto.own ∙ ap length front) (c.find_beside.auto.others ∙ ap length back)
     (subst (λ rows. FindsPanel p names (panel_stage f found rows c.args.rows.start) (panel_stage c.find_beside.new.pivots next own c.args.rows.end)) front h)
     (subst (λ rows. PanelReducesEach p found.panel rows others) back c.find_beside.ensures.others)) c.find_beside.ensures.own
