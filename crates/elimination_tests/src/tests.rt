@@ -6,5 +6,6 @@ mod factors_by_rounds;
 mod forms;
 mod growth;
 mod leads;
+mod row_additions;
 mod solutions;
 mod triangles;
