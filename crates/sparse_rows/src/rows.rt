@@ -1,7 +1,7 @@
 // A matrix as compressed rows.
 ghost use Rattle.residue_words.specs.declared.modulus.TheConstants.{MODULUS_BOUND};
 ghost use Rattle.sparse_rows.specs.declared.rows.TheConstants.{LARGEST_SIZE};
-ghost use Rattle.std.specs.Prelude.{◌≡◌, ◌<◌, ◌≤◌, ◌+◌, ◌*◌, ◌%◌, ◌^◌, ℕ, [], ◌∷◌, ◌++◌, length, false, if◌then◌else◌, map, slice_index, All, IfNone, IfOk, IfSome, OnErr, OnOk};
+ghost use Rattle.std.specs.Prelude.{◌≡◌, ◌<◌, ◌≤◌, ◌+◌, ◌-◌, ◌*◌, ◌%◌, ◌^◌, ℕ, [], ◌∷◌, ◌++◌, length, false, if◌then◌else◌, map, slice_index, All, IfNone, IfOk, IfSome, OnErr, OnOk};
 ghost use Rattle.std.specs.Option.{MatchOption};
 ghost use Rattle.residue_words.specs.Matrix.{IsMatrix, IsVector, apply, entry, row};
 ghost use Rattle.residue_words.specs.Residues.{sum_below};
@@ -463,16 +463,13 @@ impl Rows {
         ensures modulus { IfOk result (λ rows. rows.modulus ≡ self.now.modulus) }
         ensures matrix { IfOk result (λ rows. rows.matrix ≡ beside self.now.matrix right.now.matrix) }
     {
-        // The proof wants that `right` is a matrix of residues.
-        let _ = right.modulus();
-        let width = self.width() + right.width();
-        let entries = self.entries().saturating_add(right.entries()) as usize;
-        let mut rows = Rows::with_room(alloc, self.modulus(), width, self.height(), entries)?;
-        let mut row = Sparse::new(alloc, width, self.modulus());
+        // The call tells that `right` is a matrix of residues, and how high a matrix is.
+        let _ = right.height();
+        let mut rows = self.room_beside(alloc, right)?;
+        let mut row = Sparse::new(alloc, rows.width(), self.modulus());
         while let Some(i) = self.next_in_either(right, rows.height()) {
-            rows.append_zeros(i - rows.height())?;
             self.row_beside(i, right, &mut row)?;
-            rows.append(&row)?;
+            rows.append_at(i, &row)?;
         }
         rows.append_zeros(self.height() - rows.height())?;
         Ok(rows)
@@ -561,6 +558,35 @@ impl Rows {
             return Some(i);
         };
         Some(i.min(j))
+    }
+
+    // The matrix with no row that is as wide as both, and room for the rows and entries of both side by side.
+    fn room_beside(&self, alloc: Global, right: &Rows) -> Result<Rows, AllocError>
+        requires { self.now.matrix.width + right.now.matrix.width ≤ LARGEST_SIZE }
+        ensures modulus { IfOk result (λ rows. rows.modulus ≡ self.now.modulus) }
+        ensures matrix { IfOk result (λ rows. rows.matrix ≡ record {
+          height = 0;
+          width = self.now.matrix.width + right.now.matrix.width;
+          rows = [];
+        }) }
+    {
+        let width = self.width() + right.width();
+        let entries = self.entries().saturating_add(right.entries()) as usize;
+        Rows::with_room(alloc, self.modulus(), width, self.height(), entries)
+    }
+
+    // Appends rows of zeros up to row i, and this row there.
+    fn append_at(&mut self, i: u32, row: &Sparse) -> Result<(), AllocError>
+        requires low { self.old.matrix.height ≤ i }
+        requires small { i < LARGEST_SIZE }
+        requires modulus { row.now.modulus ≡ self.old.modulus }
+        requires width { length row.now.row ≡ self.old.matrix.width }
+        ensures modulus { self.new.modulus ≡ self.old.modulus }
+        ensures matrix { OnOk result (self.new.matrix ≡
+            with_row (with_zeros self.old.matrix (i - self.old.matrix.height)) row.now.row) }
+    {
+        self.append_zeros(i - self.height())?;
+        self.append(row)
     }
 
     // Makes `to` the row i of this matrix, continued by that of `right`.

@@ -1,24 +1,27 @@
-use Rattle.std.proofs.Common.{ℕ, ◌≡◌, ◌+◌, ◌-◌, ◌∙◌, [], ap, ap₂, arith, length, sym}
+use Rattle.std.proofs.Common.{ℕ, ◌≡◌, ◌+◌, ◌-◌, ◌∙◌, ap, ap₂, arith, length, sym}
 use Rattle.residue_words.specs.Matrix.{Matrix}
 use Rattle.sparse_rows.specs.Rows.{with_zeros}
 use Rattle.sparse_rows.specs.Stored.{with_row}
 use Rattle.sparse_rows.proofs.FilledRows.{beside_zeros, first_beside}
-use Rattle.sparse_rows.proofs.Loops.{beside_more, length_zeros, sized}
+use Rattle.sparse_rows.proofs.Loops.{beside_more, length_zeros}
 use Rattle.sparse_rows.proofs.rows.Rows.beside.Goals as goal
 
 pub loop-i-init : goal.loop-i-init
 loop-i-init c =
     let A : Matrix = c.args.self.now.matrix in
     let B : Matrix = c.args.right.now.matrix in
-    let made : c.in_ok-rows.rows.matrix ≡ first_beside A B 0 = c.in_ok-rows.ensures.matrix ∙ ap₂ (λ a b. sized 0 (a + b) []) c.width.ensures.value c.width-2.ensures.value in (
+    let made : c.in_ok-rows.rows.matrix ≡ first_beside A B 0 = c.in_ok-rows.ensures.matrix in (
       omega (arith, ap (λ m. m.height) made),
       record {
-        modulus = c.in_ok-rows.ensures.modulus ∙ c.modulus-2.ensures.value;
+        modulus = c.in_ok-rows.ensures.modulus;
         matrix = made ∙ ap (first_beside A B) (sym (ap (λ m. m.height) made));
-        row_modulus = c.new-row.ensures.modulus ∙ c.modulus-3.ensures.value;
-        row_length = ap length c.new-row.ensures.row ∙ length_zeros _ ∙ ap₂ ◌+◌ c.width.ensures.value c.width-2.ensures.value;
+        row_modulus = c.new-row.ensures.modulus ∙ c.modulus.ensures.value;
+        row_length = ap length c.new-row.ensures.row ∙ length_zeros _ ∙ c.width.ensures.value ∙ ap (λ m. m.width) made;
       },
     )
+
+pub append_at-requires-clause-small : goal.append_at-requires-clause-small
+append_at-requires-clause-small c = omega (arith, c.in-Some.ensures.below, c.requires.heights, c.height.ensures.value, c.height.ensures.bound)
 
 pub loop-i-preserved : goal.loop-i-preserved
 loop-i-preserved c =
@@ -29,15 +32,15 @@ loop-i-preserved c =
     let n = c.in-Some.ensures in
     let here : c.height-in-loop-i.result ≡ h = c.height-in-loop-i.ensures.value in
     let behind : h + (i - h) ≡ i = omega (arith, n.low) in
-    let zeros : c.append_zeros.new.self.matrix ≡ first_beside A B i =
-    c.in_ok-append_zeros.ensures.matrix ∙ ap₂ (λ m d. with_zeros m (i - d)) c.loop-i.invariant.1.matrix c.height-in-Some.ensures.value
-    ∙ beside_zeros c.height.ensures.sound c.modulus.ensures.sound c.requires.heights h (i - h) (omega (arith, n.below)) (λ k a b. n.left k (omega arith) (omega arith)) (λ k a b. n.right k (omega arith) (omega arith))
+    let zeros : with_zeros c.loop-i.rows.matrix (i - h) ≡ first_beside A B i =
+    ap (λ m. with_zeros m (i - h)) c.loop-i.invariant.1.matrix
+    ∙ beside_zeros c.modulus.ensures.sound c.height.ensures.sound c.requires.heights h (i - h) (omega (arith, n.below)) (λ k a b. n.left k (omega arith) (omega arith)) (λ k a b. n.right k (omega arith) (omega arith))
     ∙ ap (first_beside A B) behind in
-    let made : c.append.new.self.matrix ≡ first_beside A B (i + 1) =
-    c.in_ok-append.ensures.matrix ∙ ap (λ m. with_row m c.row_beside.new.to.row) zeros ∙ beside_more A B i _ _ c.in_ok-row_beside.ensures.row in (
+    let made : c.append_at.new.self.matrix ≡ first_beside A B (i + 1) =
+    c.in_ok-append_at.ensures.matrix ∙ ap (λ m. with_row m c.row_beside.new.to.row) zeros ∙ beside_more A B i _ _ c.in_ok-row_beside.ensures.row in (
       omega (arith, ap (λ m. m.height) made, n.below),
       record {
-        modulus = c.append.ensures.modulus ∙ c.append_zeros.ensures.modulus ∙ c.loop-i.invariant.1.modulus;
+        modulus = c.append_at.ensures.modulus ∙ c.loop-i.invariant.1.modulus;
         matrix = made ∙ ap (first_beside A B) (sym (ap (λ m. m.height) made));
         row_modulus = c.row_beside.ensures.modulus ∙ c.loop-i.invariant.1.row_modulus;
         row_length = c.row_beside.ensures.length ∙ c.loop-i.invariant.1.row_length;
@@ -52,6 +55,6 @@ returns-clause-matrix c =
     let here : c.height-in-loop-i.result ≡ h = c.height-in-loop-i.ensures.value in
     let behind : h + (A.height - h) ≡ A.height = omega (arith, c.loop-i.invariant.0) in
     let z = c.in_default.ensures in
-    c.in_ok-append_zeros-2.ensures.matrix ∙ ap₂ with_zeros c.loop-i.invariant.1.matrix (ap₂ ◌-◌ c.height-2.ensures.value c.height-3.ensures.value)
-    ∙ beside_zeros c.height.ensures.sound c.modulus.ensures.sound c.requires.heights h (A.height - h) (omega arith) (λ k a b. z.0 k (omega arith) (omega arith)) (λ k a b. z.1 k (omega arith) (omega (arith, c.requires.heights)))
+    c.in_ok-append_zeros.ensures.matrix ∙ ap₂ with_zeros c.loop-i.invariant.1.matrix (ap₂ ◌-◌ c.height-2.ensures.value c.height-3.ensures.value)
+    ∙ beside_zeros c.modulus.ensures.sound c.height.ensures.sound c.requires.heights h (A.height - h) (omega arith) (λ k a b. z.0 k (omega arith) (omega arith)) (λ k a b. z.1 k (omega arith) (omega (arith, c.requires.heights)))
     ∙ ap (first_beside A B) behind
