@@ -16,8 +16,10 @@ mod led;
 mod pivot_rows;
 mod queue;
 mod reduced;
+mod scattered_rows;
 #[cfg(test)]
 mod tests;
+mod touched_sums;
 mod triangle;
 mod work;
 
