@@ -3,6 +3,7 @@ ghost use Rattle.std.specs.Prelude.{◌≡◌, ◌≢◌, ◌<◌, ◌≤◌, �
 ghost use Rattle.std.specs.List.{Contains};
 ghost use Rattle.std.specs.Option.{MatchOption};
 ghost use Rattle.row_space.specs.Factors.{row_at};
+ghost use Rattle.sparse_rows.specs.Columns.{IsAbsent, IsAt};
 ghost use Rattle.sparse_rows.specs.Rows.{AreRising};
 ghost use Rattle.sparse_rows.specs.declared.rows.TheConstants.{LARGEST_SIZE};
 ghost use Rattle.triangular_solve.specs.Reduced.{IsPivotRow};
@@ -40,14 +41,14 @@ impl PivotNumbers {
         self.rows.len()
     }
 
-    // The number of the pair to which the row belongs, if there is one, in time logarithmic in the rows.
+    // The number of the pair to which the row belongs, if there is one, in time at most logarithmic in the rows.
     pub(crate) fn find(&self, i: u32, pairs: &[Pair]) -> Option<u32>
         requires { HasNumbers pairs.now self.now }
         ensures { MatchOption result (¬ IsPivotRow pairs.now i) (IsRowOfPair pairs.now i) }
     {
         // The contract alone needs the pairs.
         let _ = pairs;
-        let Ok(t) = self.rows.binary_search(&i) else {
+        let Some(t) = place_of(&self.rows, i) else {
             return None;
         };
         let number = self.numbers[t];
@@ -65,9 +66,24 @@ fn numbers_of(alloc: Global, rows: &[u32], pairs: &[Pair]) -> Result<Vec<u32>, A
 {
     let mut numbers = vec![in alloc; NONE; rows.len()]?;
     for k in 0..pairs.len() {
-        if let Ok(t) = rows.binary_search(&pairs[k].row) {
+        if let Some(t) = place_of(rows, pairs[k].row) {
             numbers[t] = k as u32;
         }
     }
     Ok(numbers)
+}
+
+// The place of a row among these ascending ones, if it is one of them. Where no row before it is missing it stands at its own number.
+fn place_of(rows: &[u32], i: u32) -> Option<usize>
+    requires { AreRising rows.now }
+    ensures { MatchOption result (IsAbsent rows.now i) (IsAt rows.now i) }
+{
+    let own = i as usize;
+    if own < rows.len() && rows[own] == i {
+        return Some(own);
+    }
+    match rows.binary_search(&i) {
+        Ok(place) => Some(place),
+        Err(_) => None,
+    }
 }

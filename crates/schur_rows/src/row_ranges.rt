@@ -55,18 +55,45 @@ pub(crate) fn part_of(
     ensures part { IfOk result (IsPartTo pass.entry.reducer.now pass.entry.kept from to) }
 {
     let rows = pass.reducer.rows();
-    // The calls' contracts tell how high a matrix of residues is, and that the pivots are triangular.
-    let _ = (rows.modulus(), rows.height(), pass.reducer.pairs().len());
+    // The call's contract tells how high a matrix is.
+    let _ = rows.height();
     let mut part = no_rows(alloc, pass, to - from)?;
     let mut rest = Sparse::new(alloc, rows.width(), rows.modulus());
+    append_rows(alloc, pass, from, to, work, &mut rest, &mut part)?;
+    Ok(part)
+}
+
+// Appends what is left of the rows from `from` up to `to`. The row `rest` is room for it.
+fn append_rows(
+    alloc: Global,
+    pass: Pass,
+    from: u32,
+    to: u32,
+    work: &mut Work,
+    rest: &mut Sparse,
+    part: &mut SchurRows,
+) -> Result<(), AllocError>
+    requires work { work.old ≡ workspace_of pass.reducer.now }
+    requires order { from ≤ to }
+    requires inside { to ≤ pass.reducer.now.rows.matrix.height }
+    requires numbers { HasNumbers pass.reducer.now.pairs pass.pivot_rows.now }
+    requires rest_modulus { rest.old.modulus ≡ pass.reducer.now.rows.modulus }
+    requires rest_width { length rest.old.row ≡ pass.reducer.now.rows.matrix.width }
+    requires part { IsPartTo pass.reducer.now pass.kept from from part.old }
+    ensures work { work.new ≡ work.old }
+    ensures part { OnOk result (IsPartTo pass.entry.reducer.now pass.entry.kept from to part.new) }
+{
+    let rows = pass.reducer.rows();
+    // The calls' contracts tell how high a matrix of residues is, and that the pivots are triangular.
+    let _ = (rows.modulus(), rows.height(), pass.reducer.pairs().len());
     let mut next = from;
     while let Some(i) = next_below(rows, next, to) {
-        append_zeros(&mut part, i - next)?;
-        append_left(alloc, pass, i, work, &mut rest, &mut part)?;
+        append_zeros(part, i - next)?;
+        append_left(alloc, pass, i, work, rest, part)?;
         next = i + 1;
     }
-    append_zeros(&mut part, to - next)?;
-    Ok(part)
+    append_zeros(part, to - next)?;
+    Ok(())
 }
 
 // The first row from `from` on and below `to` that has an entry, if there is one.

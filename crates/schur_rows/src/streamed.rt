@@ -80,27 +80,50 @@ pub(crate) fn basis_by<R: Threads + Sync>(
     requires few { workers ≤ 64 }
     ensures { IfOk result (IsBasisLeft reducer.now) }
 {
-    let rows = reducer.rows();
-    let height = rows.height();
-    let pivots = reducer.pairs().len();
     let pivot_rows = PivotNumbers::of(alloc, reducer)?;
-    let total = total_left(alloc, reducer, &pivot_rows)?;
     let pass = Pass {
         reducer,
         pivot_rows: &pivot_rows,
         kept: false,
-        total,
+        total: total_left(alloc, reducer, &pivot_rows)?,
     };
-    let columns = rows.occupied(alloc)?.len().saturating_sub(pivots);
+    basis_of(rt, alloc, pass, workers, size)
+}
+
+// The same by a pass.
+fn basis_of<R: Threads + Sync>(
+    rt: &R,
+    alloc: Global,
+    pass: Pass,
+    workers: u32,
+    size: ChunkSize,
+) -> Result<Rows, AllocError>
+    requires some { 1 ≤ workers }
+    requires few { workers ≤ 64 }
+    requires numbers { HasNumbers pass.reducer.now.pairs pass.pivot_rows.now }
+    ensures { IfOk result (IsBasisLeft pass.entry.reducer.now) }
+{
+    let rows = pass.reducer.rows();
+    let height = rows.height();
+    // The call's contract tells that the pivots are triangular.
+    let _ = pass.reducer.pairs().len();
+    let columns = columns_left(alloc, pass.reducer)?;
     let mut basis = Rows::with_room(alloc, rows.modulus(), rows.width(), 0, 0)?;
     let mut from = 0;
     while from < height {
         let count = size.rows_below(basis.height(), columns);
-        let to = end_of(reducer, &pivot_rows, from, count);
+        let to = end_of(pass.reducer, pass.pivot_rows, from, count);
         basis = basis_with(rt, alloc, pass, workers, basis, from, to)?;
         from = to;
     }
     Ok(basis)
+}
+
+// How many columns may have an entry in what is left.
+fn columns_left(alloc: Global, reducer: &RowReducer) -> Result<usize, AllocError> {
+    let pivots = reducer.pairs().len();
+    let occupied = reducer.rows().occupied(alloc)?.len();
+    Ok(occupied.saturating_sub(pivots))
 }
 
 // The rows below those of a basis, which are the rows alone where the basis has none.

@@ -352,10 +352,42 @@ fn join_number(
         join_below(made, part)?;
         return Ok(());
     }
-    let mut work = deal.pass.reducer.work(alloc)?;
-    let part = part_by_number(alloc, deal, number, &mut work)?;
+    join_missing(alloc, deal, number, made)
+}
+
+// Makes the part of this number, and puts it below what there is.
+fn join_missing(
+    alloc: Global,
+    deal: Deal,
+    number: usize,
+    made: &mut SchurRows,
+) -> Result<(), AllocError>
+    requires deal { IsDeal deal }
+    requires inside { deal.to ≤ deal.pass.reducer.now.rows.matrix.height }
+    requires numbers { HasNumbers deal.pass.reducer.now.pairs deal.pass.pivot_rows.now }
+    requires number { number < deal.count }
+    requires made { IsPartTo deal.pass.reducer.now deal.pass.kept
+        deal.from (cut_at deal number) made.old }
+    ensures { OnOk result (IsPartTo deal.entry.pass.reducer.now deal.entry.pass.kept
+        deal.entry.from (cut_at deal.entry (number + 1)) made.new) }
+{
+    // The call's contract tells how high a matrix is.
+    let _ = deal.pass.reducer.rows().height();
+    let part = part_alone(alloc, deal, number)?;
     join_below(made, &part)?;
     Ok(())
+}
+
+// The part of this number, made in room of its own.
+fn part_alone(alloc: Global, deal: Deal, number: usize) -> Result<SchurRows, AllocError>
+    requires deal { IsDeal deal }
+    requires inside { deal.to ≤ deal.pass.reducer.now.rows.matrix.height }
+    requires numbers { HasNumbers deal.pass.reducer.now.pairs deal.pass.pivot_rows.now }
+    requires number { number < deal.count }
+    ensures { IfOk result (IsPartOf deal.entry.pass.reducer.now deal.entry number) }
+{
+    let mut work = deal.pass.reducer.work(alloc)?;
+    part_by_number(alloc, deal, number, &mut work)
 }
 
 // Puts a part below what there is.

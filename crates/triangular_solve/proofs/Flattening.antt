@@ -104,7 +104,7 @@ module _ (placed : PlacedRows) (flat : FlatRows) {x : List ℕ} {old new : Resid
 
     now : (j : ℕ) → j < length placed.columns → slice_index new.row j ≡ (slice_index old.row j + (placed.rows.modulus - v) % placed.rows.modulus * entry flat.tails.matrix (flat.count - (place + 1)) j) % placed.rows.modulus
     now j l = (t.pivotal low).sums j (omega (arith, i.residues.len))
-        ∙ ap₂ (λ m y. (slice_index old.row j + (m - v) % m * y) % m) e (entry_support (row flat.tails.matrix (flat.count - (place + 1))) j)
+        ∙ ap (λ m. (slice_index old.row j + (m - v) % m * entry flat.tails.matrix (flat.count - (place + 1)) j) % m) e
 
     zero_now : (k : ℕ) → k < placed.rows.matrix.height → k < length placed.columns → slice_index new.row k ≡ 0
     zero_now k l lk =

@@ -9,6 +9,7 @@ pub mod Eliminating
 pub mod Examples
 pub mod Extent
 pub mod Flattening
+pub mod Gathering
 pub mod JoinedRows
 pub mod LedRows
 pub mod Listed
@@ -19,6 +20,7 @@ pub mod Placing
 pub mod PlacingRows
 pub mod Queueing
 pub mod Reducing
+pub mod Scattered
 pub mod SchurRows
 pub mod SplitRows
 pub mod TakenRows

@@ -1,9 +1,9 @@
 -- Flat rows: pivot rows less multiples of those behind them, each 1 at its own pivot and 0 at all others.
-use Rattle.std.specs.Prelude.{◌≡◌, ◌<◌, ◌≤◌, ◌+◌, ◌-◌, ◌%◌, ℕ, List, length, slice_index, slice_set}
+use Rattle.std.specs.Prelude.{◌≡◌, ◌<◌, ◌≤◌, ◌+◌, ◌-◌, ◌*◌, ◌%◌, ℕ, List, length, slice_index, slice_set}
 use Rattle.residue_words.specs.Residues.{IsPrime}
 use Rattle.residue_words.specs.Matrix.{IsCombination, IsVector, entry, row}
 use Rattle.row_space.specs.Rows.{DiffersBy}
-use Rattle.sparse_rows.specs.Rows.{AddsAt, AddsMultiple, ResidueRow, nonzeros, support}
+use Rattle.sparse_rows.specs.Rows.{AddsAt, ResidueRow}
 use Rattle.triangular_solve.specs.PivotRows.{ArePivotsReduced, IsSplitRow, PlacedRows}
 use Rattle.triangular_solve.specs.declared.flat_rows.FlatRows.{FlatRows}
 
@@ -25,12 +25,18 @@ pub record AreFlat (placed : PlacedRows) (flat : FlatRows) : Type 0 where
 abbrev pub AreAllFlat : PlacedRows → FlatRows → Type 0
 AreAllFlat placed flat = AreFlat placed flat × (flat.tails.matrix.height ≡ flat.count)
 
+-- a multiple of the row r was added
+pub record AddsTimes (by : ℕ) (r : List ℕ) (old new : ResidueRow) : Type 0 where
+  pub modulus : new.modulus ≡ old.modulus
+  pub vector : IsVector old.modulus (length old.row) new.row
+  pub sums : (j : ℕ) → j < length old.row → slice_index new.row j
+      ≡ (slice_index old.row j + by * slice_index r j) % old.modulus
+
 -- a value at a place came to the sums; at a pivot it is taken away by its flat row, of which the rest came
 pub record TakesIn (flat : FlatRows) (place value : ℕ) (old new : ResidueRow) : Type 0 where
   pub other : flat.count ≤ place → AddsAt place value old new
-  pub pivotal : place < flat.count → AddsMultiple ((old.modulus - value) % old.modulus)
-      (support (row flat.tails.matrix (flat.count - (place + 1))))
-      (nonzeros (row flat.tails.matrix (flat.count - (place + 1)))) old new
+  pub pivotal : place < flat.count → AddsTimes ((old.modulus - value) % old.modulus)
+      (row flat.tails.matrix (flat.count - (place + 1))) old new
 
 -- the flat row of the pivot at a place but for its 1
 pub record IsFlatTail (placed : PlacedRows) (place : ℕ) (tail : List ℕ) : Type 0 where

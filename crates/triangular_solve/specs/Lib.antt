@@ -7,4 +7,5 @@ pub mod Listing
 pub mod PivotRows
 pub mod Queue
 pub mod Reduced
+pub mod Scattered
 pub mod Triangle

@@ -8,6 +8,7 @@ ghost use Rattle.sparse_rows.specs.Rows.{AddsAt, AddsMultiple};
 ghost use Rattle.sparse_rows.specs.declared.rows.TheConstants.{LARGEST_SIZE};
 ghost use Rattle.triangular_solve.specs.Accumulator.{limit_of};
 ghost use Rattle.triangular_solve.specs.PivotRows.{IsAlike};
+ghost use Rattle.triangular_solve.specs.Scattered.{IsScattered};
 
 use residue_words::{LANE_BOUND, Modulus};
 use sparse_rows::{ColumnSet, Sparse};
@@ -90,7 +91,7 @@ impl Accumulator {
     fn add_products(&mut self, by: u64, cols: &[u32], vals: &[u64])
         requires small { self.old.modulus < LANE_BOUND }
         requires residues { IsVector self.old.modulus (length self.old.row) self.old.row }
-        requires sparse { IsSparse self.old.modulus (length self.old.row) cols.now vals.now }
+        requires row { IsScattered self.old.modulus (length self.old.row) cols.now vals.now }
         requires factor { by < self.old.modulus }
         ensures { AddsMultiple by cols.now vals.now self.old self.new }
     {
@@ -102,7 +103,7 @@ impl Accumulator {
     // Adds a multiple of a row by the residues of its products.
     fn add_residues(&mut self, by: u64, cols: &[u32], vals: &[u64])
         requires residues { IsVector self.old.modulus (length self.old.row) self.old.row }
-        requires sparse { IsSparse self.old.modulus (length self.old.row) cols.now vals.now }
+        requires row { IsScattered self.old.modulus (length self.old.row) cols.now vals.now }
         requires factor { by < self.old.modulus }
         ensures { AddsMultiple by cols.now vals.now self.old self.new }
     {
@@ -115,6 +116,15 @@ impl Accumulator {
     /// Adds a multiple of the row that stands in these columns and values, in time proportional to its entries.
     pub fn add_multiple(&mut self, by: u64, cols: &[u32], vals: &[u64])
         requires sparse { IsSparse self.old.modulus (length self.old.row) cols.now vals.now }
+        requires factor { by < self.old.modulus }
+        ensures { AddsMultiple by cols.now vals.now self.old self.new }
+    {
+        self.add_scattered(by, cols, vals);
+    }
+
+    // The same where the columns and values stand in any order.
+    pub(crate) fn add_scattered(&mut self, by: u64, cols: &[u32], vals: &[u64])
+        requires row { IsScattered self.old.modulus (length self.old.row) cols.now vals.now }
         requires factor { by < self.old.modulus }
         ensures { AddsMultiple by cols.now vals.now self.old self.new }
     {

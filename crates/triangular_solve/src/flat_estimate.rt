@@ -6,7 +6,7 @@ use crate::work::Work;
 use std::alloc::{AllocError, Global};
 
 // How many rows are reduced to see what it costs.
-const SAMPLES: u64 = 64;
+const SAMPLES: u64 = 32;
 
 // Making an entry of a flat row takes the time in which a walk meets so many entries.
 const MET_AN_ENTRY: u64 = 6;

@@ -1,15 +1,18 @@
 // Pivot rows from which all other pivots were taken away.
-ghost use Rattle.std.specs.Prelude.{◌≡◌, ◌<◌, ◌≤◌, ◌+◌, ◌-◌, ◌%◌, ℕ, length, slice_index, IfOk, IfSome, OnOk};
-ghost use Rattle.residue_words.specs.Matrix.{IsVector, zeros};
+ghost use Rattle.std.specs.Prelude.{◌≡◌, ◌<◌, ◌≤◌, ◌+◌, ◌-◌, ◌%◌, ℕ, true, length, slice_index, IfOk, IfSome, OnOk};
+ghost use Rattle.residue_words.specs.Matrix.{row, zeros};
 ghost use Rattle.sparse_rows.specs.Rows.{AreBelow};
 ghost use Rattle.sparse_rows.specs.Stored.{IsSparse, spread};
 ghost use Rattle.triangular_solve.specs.Accumulator.{IsClear};
 ghost use Rattle.triangular_solve.specs.FlatRows.{AreAllFlat, AreFlat, IsFlatTail, IsLeft, IsTakenRow, TakesIn};
 ghost use Rattle.triangular_solve.specs.PivotRows.{IsAlike, IsRoomFor};
+ghost use Rattle.triangular_solve.specs.Scattered.{IsScattered};
 
 use crate::accumulator::Accumulator;
 use crate::pivot_rows::PivotRows;
-use sparse_rows::{Rows, Sparse};
+use crate::scattered_rows::ScatteredRows;
+use crate::touched_sums::TouchedSums;
+use sparse_rows::Sparse;
 use std::alloc::{AllocError, Global};
 
 // Pivot rows less multiples of those behind them and divided by their pivots, so that each is 1 at its own pivot and 0 at all others.
@@ -19,7 +22,7 @@ pub(crate) struct FlatRows {
     // How many pivots there are.
     count: u32,
     // The rows from the last pivot back, each without its 1, on the columns of the pivot rows.
-    tails: Rows,
+    tails: ScatteredRows,
 }
 
 impl FlatRows {
@@ -32,64 +35,89 @@ impl FlatRows {
     ) -> Result<Option<FlatRows>, AllocError>
         ensures { IfOk result (λ r. IfSome r (AreAllFlat pivots.now)) }
     {
-        let rows = pivots.rows();
-        let modulus = rows.modulus();
-        let width = rows.width();
-        let count = rows.height();
-        let mut flat = FlatRows {
-            count,
-            tails: Rows::with_room(alloc, modulus, width, count, count as usize)?,
-        };
-        let mut sums = Accumulator::new(alloc, width, &modulus)?;
-        let mut tail = Sparse::new(alloc, width, modulus);
-        for k in 0..count {
-            if flat.tails.entries() > most {
-                return Ok(None);
-            }
-            flat.append_row(pivots, count - 1 - k, &mut sums, &mut tail)?;
+        let mut flat = FlatRows::none(alloc, pivots)?;
+        if flat.append_all(alloc, pivots, most)? {
+            Ok(Some(flat))
+        } else {
+            Ok(None)
         }
-        Ok(Some(flat))
     }
 
-    // Appends the flat row of the pivot at a place, whose followers are there.
+    // No flat row, and room for those of all pivots.
+    fn none(alloc: Global, pivots: &PivotRows) -> Result<FlatRows, AllocError>
+        ensures flat { IfOk result (AreFlat pivots.now) }
+        ensures height { IfOk result (λ flat. flat.tails.matrix.height ≡ 0) }
+    {
+        let rows = pivots.rows();
+        let count = rows.height();
+        let tails = ScatteredRows::with_room(alloc, rows.modulus(), rows.width(), count)?;
+        Ok(FlatRows { count, tails })
+    }
+
+    // Appends the flat rows of all pivots, unless they have more than so many entries. The answer is whether all are there.
+    fn append_all(
+        &mut self,
+        alloc: Global,
+        pivots: &PivotRows,
+        most: u64,
+    ) -> Result<bool, AllocError>
+        requires flat { AreFlat pivots.now self.old }
+        requires none { self.old.tails.matrix.height ≡ 0 }
+        ensures { IfOk result (λ all. all ≡ true → AreAllFlat pivots.now self.new) }
+    {
+        let rows = pivots.rows();
+        let mut sums = TouchedSums::new(alloc, rows.width(), rows.modulus())?;
+        let mut cols = Vec::new(alloc);
+        let mut vals = Vec::new(alloc);
+        for k in 0..self.count {
+            if self.tails.entries() > most {
+                return Ok(false);
+            }
+            self.append_row(pivots, self.count - 1 - k, &mut sums, &mut cols, &mut vals)?;
+        }
+        Ok(true)
+    }
+
+    // Appends the flat row of the pivot at a place, whose followers are there. The lists are room for it.
     fn append_row(
         &mut self,
         pivots: &PivotRows,
         place: u32,
-        sums: &mut Accumulator,
-        tail: &mut Sparse,
+        sums: &mut TouchedSums,
+        cols: &mut Vec<u32>,
+        vals: &mut Vec<u64>,
     ) -> Result<(), AllocError>
         requires flat { AreFlat pivots.now self.old }
         requires next { self.old.tails.matrix.height + (place + 1) ≡ self.old.count }
         requires clear { IsClear pivots.now.rows.modulus (length pivots.now.columns) sums.old }
-        requires tail_modulus { tail.old.modulus ≡ pivots.now.rows.modulus }
-        requires tail_length { length tail.old.row ≡ length pivots.now.columns }
         ensures flat { OnOk result (AreFlat pivots.now self.new) }
         ensures height { OnOk result (self.new.tails.matrix.height ≡ self.old.tails.matrix.height + 1) }
         ensures count { self.new.count ≡ self.old.count }
         ensures clear { OnOk result (IsClear pivots.now.rows.modulus (length pivots.now.columns) sums.new) }
-        ensures tail { IsAlike tail.old tail.new }
     {
-        // The calls' contracts tell how high a matrix is, and that the flat rows are residues.
-        let _ = (pivots.rows().height(), self.tails.height());
-        tail.clear();
-        self.flatten(pivots, place, sums);
-        sums.drain(tail)?;
-        sums.clear();
-        self.tails.append(tail)?;
+        // The call's contract tells that the flat rows are residues.
+        let _ = self.tails.entries();
+        self.flatten(pivots, place, sums)?;
+        sums.drain(cols, vals)?;
+        self.tails.append(cols, vals)?;
         Ok(())
     }
 
     // Makes sums that are 0 the flat row of the pivot at a place but for its 1.
-    fn flatten(&self, pivots: &PivotRows, place: u32, sums: &mut Accumulator)
+    fn flatten(
+        &self,
+        pivots: &PivotRows,
+        place: u32,
+        sums: &mut TouchedSums,
+    ) -> Result<(), AllocError>
         requires flat { AreFlat pivots.now self.now }
         requires next { self.now.tails.matrix.height + (place + 1) ≡ self.now.count }
         requires clear { IsClear pivots.now.rows.modulus (length pivots.now.columns) sums.old }
-        ensures sums { IsAlike sums.old sums.new }
-        ensures tail { IsFlatTail pivots.now place sums.new.row }
+        ensures sums { OnOk result (IsAlike sums.old sums.new) }
+        ensures tail { OnOk result (IsFlatTail pivots.now place sums.new.row) }
     {
         // The call's contract tells that the flat rows are residues.
-        let _ = self.tails.height();
+        let _ = self.tails.entries();
         let rows = pivots.rows();
         let modulus = rows.modulus();
         let inverse = pivots.inverse(place);
@@ -97,15 +125,33 @@ impl FlatRows {
         let cols = &rows.cols(place)[1..];
         let vals = &rows.vals(place)[1..];
         for k in 0..cols.len() {
-            self.take_in(cols[k], modulus.mul(inverse, vals[k]), sums);
+            self.come_in(cols[k], modulus.mul(inverse, vals[k]), sums)?;
         }
+        Ok(())
+    }
+
+    // Adds a value at a place to the sums of which a flat row is made, as `take_in` does.
+    fn come_in(&self, place: u32, value: u64, sums: &mut TouchedSums) -> Result<(), AllocError>
+        requires place { place < length sums.old.row }
+        requires value { value < sums.old.modulus }
+        requires modulus { self.now.tails.modulus ≡ sums.old.modulus }
+        requires width { self.now.tails.matrix.width ≡ length sums.old.row }
+        requires flat { self.now.count ≤ self.now.tails.matrix.height + place }
+        ensures { OnOk result (TakesIn self.now place value sums.old sums.new) }
+    {
+        if place >= self.count {
+            sums.add(place, value)?;
+            return Ok(());
+        }
+        let (by, cols, vals) = self.taking_away(place, value);
+        sums.add_multiple(by, cols, vals)?;
+        Ok(())
     }
 
     // Adds a value at a place to the sums; where a pivot stands there, what its flat row leaves of it.
     fn take_in(&self, place: u32, value: u64, sums: &mut Accumulator)
         requires place { place < length sums.old.row }
         requires value { value < sums.old.modulus }
-        requires vector { IsVector sums.old.modulus (length sums.old.row) sums.old.row }
         requires modulus { self.now.tails.modulus ≡ sums.old.modulus }
         requires width { self.now.tails.matrix.width ≡ length sums.old.row }
         requires flat { self.now.count ≤ self.now.tails.matrix.height + place }
@@ -115,13 +161,24 @@ impl FlatRows {
             sums.add(place, value);
             return;
         }
-        let modulus = self.tails.modulus();
-        let row = self.count - (place + 1);
-        sums.add_multiple(
-            modulus.neg(value),
-            self.tails.cols(row),
-            self.tails.vals(row),
-        );
+        let (by, cols, vals) = self.taking_away(place, value);
+        sums.add_scattered(by, cols, vals);
+    }
+
+    // What takes a value at a pivot away: the factor of its flat row, and the columns and values of this row but for its 1.
+    fn taking_away(&self, place: u32, value: u64) -> (u64, &[u32], &[u64])
+        requires place { place < self.now.count }
+        requires flat { self.now.count ≤ self.now.tails.matrix.height + place }
+        requires value { value < self.now.tails.modulus }
+        ensures factor { result.0 ≡ (self.now.tails.modulus - value) % self.now.tails.modulus }
+        ensures residue { result.0 < self.now.tails.modulus }
+        ensures scattered { IsScattered self.now.tails.modulus self.now.tails.matrix.width
+            result.1.now result.2.now }
+        ensures row { row self.now.tails.matrix (self.now.count - (place + 1))
+            ≡ spread self.now.tails.matrix.width result.1.now result.2.now }
+    {
+        let (cols, vals) = self.tails.row(self.count - (place + 1));
+        (self.tails.modulus().neg(value), cols, vals)
     }
 
     // Makes a zero row what the pivots leave of the row that stands in these columns and values. What is left behind in the room is
@@ -174,7 +231,7 @@ impl FlatRows {
             sums.new.row passed.new.row) }
     {
         // The calls' contracts tell the range of the modulus, and that the flat rows are residues.
-        let _ = (passed.modulus(), self.tails.height());
+        let _ = (passed.modulus(), self.tails.entries());
         let order = pivots.order();
         for k in 0..cols.len() {
             match order.find(cols[k]) {

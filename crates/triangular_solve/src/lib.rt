@@ -16,6 +16,8 @@ mod led;
 mod pivot_rows;
 mod queue;
 mod reduced;
+mod scattered_rows;
+mod touched_sums;
 mod triangle;
 mod work;
 

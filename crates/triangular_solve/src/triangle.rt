@@ -12,7 +12,6 @@ ghost use Rattle.triangular_solve.specs.PivotRows.{ArePivotRows, IsAlike};
 ghost use Rattle.triangular_solve.specs.Reduced.{FitsReduced, FitsRest, IsReduced, IsSchurRow, reduction_of, workspace_of};
 ghost use Rattle.triangular_solve.specs.Triangle.{TriangularOrderIsOne};
 
-
 use crate::ascending_columns::AscendingColumns;
 use crate::pivot_rows::PivotRows;
 use crate::queue::Queue;

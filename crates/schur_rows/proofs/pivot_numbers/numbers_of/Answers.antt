@@ -1,15 +1,12 @@
-use Rattle.std.proofs.Common.{Ok, Err, ℕ, ◌≡◌, ◌+◌, inl, inr, arith, get_or, length, replicate, sym, ap, subst, Vec, Global}
-use Rattle.std.proofs.lemmas.Bool.{cases_lt}
+use Rattle.std.proofs.Common.{ℕ, ◌≡◌, ◌+◌, ◌∙◌, get_or, length, replicate, sym, ap, subst, Vec, Global}
 use Rattle.std.proofs.lemmas.List.{get_or-map}
-use Rattle.std.proofs.lemmas.List.Sorted.{searched}
 use Rattle.residue_words.specs.declared.plain.Pair.{Pair}
 use Rattle.residue_words.proofs.Lists.{place_in}
 use Rattle.row_space.specs.Factors.{row_at}
-use Rattle.sparse_rows.proofs.Occurring.{rising_weakly}
 use Rattle.schur_rows.specs.PivotNumbers.{AreNumbersOf}
 use Rattle.schur_rows.proofs.Numbers.{numbers_more, numbers_none}
 use Rattle.schur_rows.proofs.pivot_numbers.numbers_of.Goals as goal
-use Rattle.schur_rows.proofs.pivot_numbers.numbers_of.Goals.{in-Ok, in_default}
+use Rattle.schur_rows.proofs.pivot_numbers.numbers_of.Goals.{in-Some, in_default}
 
 pub loop-k-init : goal.loop-k-init
 loop-k-init c =
@@ -24,16 +21,11 @@ loop-k-preserved c =
     let l = c.loop-k-test.true in
     let x : ℕ = (get_or pairs k (record { row = 0; col = 0 })).row in
     let is : x ≡ row_at pairs k = sym (get_or-map (λ (q : Pair). q.row) pairs k (record { row = 0; col = 0 }) 0 l) in
-    elim c.match-binary_search.branch [
-      | in-Ok w ↦
-          let s = searched rows x (Ok w.in-Ok.t) w.in-Ok.ensures.position (rising_weakly rows c.requires.rising) in
+    elim c.match-place_of.branch [
+      | in-Some w ↦
           subst (AreNumbersOf pairs rows (k + 1)) (sym (ap (λ (v : Vec ℕ Global). v.items) w.numbers-is))
-          (numbers_more c.requires.rising c.loop-k.invariant x w.in-Ok.t is s.0 s.1 (λ t lt. c.requires.apart t k lt l))
+          (numbers_more c.requires.rising c.loop-k.invariant x w.in-Some.t is w.in-Some.ensures.0 w.in-Some.ensures.1 (λ t lt. c.requires.apart t k lt l))
       | in_default w ↦
-          let s = searched rows x (Err w.in_default.field-0) w.in_default.ensures.position (rising_weakly rows c.requires.rising) in
           let t = place_in rows (row_at pairs k) (c.requires.known k l) in
-          absurd (elim (cases_lt t.0 w.in_default.field-0) [
-            | inl less ↦ omega (arith, s.1 t.0 less, t.2, is)
-            | inr more ↦ omega (arith, s.2 t.0 more t.1, t.2, is)
-          ])
+          absurd (w.in_default.ensures t.0 t.1 (t.2 ∙ sym is))
     ]

@@ -1,29 +1,13 @@
-use Rattle.std.proofs.Common.{◌∙◌, length, ap, arith}
+use Rattle.std.proofs.Common.{◌∙◌, length, ap}
 use Rattle.sparse_rows.specs.Rows.{ResidueMatrix}
 use Rattle.sparse_rows.proofs.Loops.{length_zeros}
-use Rattle.schur_rows.proofs.Parting.{part_end, part_step, part_takes}
 use Rattle.schur_rows.proofs.row_ranges.part_of.Goals as goal
 
-pub loop-i-init : goal.loop-i-init
-loop-i-init c = record {
-  low = c.requires.order;
-  work = c.requires.work;
-  rest_modulus = c.new-rest.ensures.modulus ∙ c.modulus-2.ensures.value ∙ ap (λ (r : ResidueMatrix). r.modulus) c.rows-rows.ensures;
-  rest_width = ap length c.new-rest.ensures.row ∙ length_zeros c.width.result ∙ c.width.ensures.value ∙ ap (λ (r : ResidueMatrix). r.matrix.width) c.rows-rows.ensures;
-  part = c.in_ok-part.ensures c.args.from;
-}
+pub append_rows-requires-clause-rest_modulus : goal.append_rows-requires-clause-rest_modulus
+append_rows-requires-clause-rest_modulus c = c.new-rest.ensures.modulus ∙ c.modulus.ensures.value ∙ ap (λ (r : ResidueMatrix). r.modulus) c.rows-rows.ensures
 
-pub append_left-requires-clause-part : goal.append_left-requires-clause-part
-append_left-requires-clause-part c = part_takes c.rows-rows.ensures c.height.ensures.value c.height.ensures.bound (omega (arith, c.requires.inside, c.in-Some.ensures.1)) c.loop-i.invariant.part c.in-Some.ensures.0.low c.in_ok-append_zeros.ensures
+pub append_rows-requires-clause-rest_width : goal.append_rows-requires-clause-rest_width
+append_rows-requires-clause-rest_width c = ap length c.new-rest.ensures.row ∙ length_zeros c.width.result ∙ c.width.ensures.value ∙ ap (λ (r : ResidueMatrix). r.matrix.width) c.rows-rows.ensures
 
-pub loop-i-preserved : goal.loop-i-preserved
-loop-i-preserved c = record {
-  low = omega (arith, c.in-Some.ensures.1);
-  work = c.append_left.ensures.work ∙ c.loop-i.invariant.work;
-  rest_modulus = c.append_left.ensures.rest.0 ∙ c.loop-i.invariant.rest_modulus;
-  rest_width = c.append_left.ensures.rest.1 ∙ c.loop-i.invariant.rest_width;
-  part = part_step c.rows-rows.ensures c.modulus.ensures.value c.modulus.ensures.two_or_more c.modulus.ensures.sound c.pairs.ensures.triangular (omega (arith, c.requires.inside, c.in-Some.ensures.1)) c.loop-i.invariant.part c.in-Some.ensures.0 c.in_ok-append_zeros.ensures c.in_ok-append_left.ensures.added;
-}
-
-pub returns-clause-part : goal.returns-clause-part
-returns-clause-part c = part_end c.rows-rows.ensures c.modulus.ensures.value c.modulus.ensures.two_or_more c.modulus.ensures.sound c.pairs.ensures.triangular c.requires.inside c.loop-i.invariant.low c.loop-i.invariant.part c.in_default.ensures c.in_ok-append_zeros-2.ensures
+pub append_rows-requires-clause-part : goal.append_rows-requires-clause-part
+append_rows-requires-clause-part c = c.in_ok-part.ensures c.args.from

@@ -1,9 +1,6 @@
 use Rattle.schur_rows.proofs.Dealing.{joined_part, part_of_number}
 use Rattle.schur_rows.proofs.workers.join_number.Goals as goal
 
-pub returns : goal.returns
-returns c = joined_part c.args.deal.pass.reducer.now c.args.deal c.args.number c.requires.made c.in_ok-part.ensures.part c.in_ok-join_below-2.ensures
-
 pub returns-in-Some : goal.returns-in-Some
 returns-in-Some c = joined_part c.args.deal.pass.reducer.now c.args.deal c.args.number c.requires.made
     (part_of_number c.args.deal.pass.reducer.now c.args.deal c.args.parts.now c.requires.parts c.args.number c.in-Some.part.now c.in-Some.ensures)

@@ -29,20 +29,20 @@ mul-requires-clause-right c =
     let s = pivot_behind (pivot_at c.rows-rows.ensures.rows c.rows-rows.ensures.placed (omega (arith, c.requires.next, c.requires.flat.count)) (omega (arith, c.modulus-modulus.ensures.value, c.modulus-modulus.ensures.two_or_more)) c.modulus-modulus.ensures.sound c.cols.ensures.support c.vals.ensures.values) in
     omega (arith, s.residues c.loop-k.k (omega (arith, s.long, c.loop-k-test.true)), (c.modulus-modulus.ensures.value ∙ ap (λ (r : ResidueMatrix). r.modulus) c.rows-rows.ensures.rows))
 
-pub take_in-requires-clause-place : goal.take_in-requires-clause-place
-take_in-requires-clause-place c = omega (arith, (pivot_behind (pivot_at c.rows-rows.ensures.rows c.rows-rows.ensures.placed (omega (arith, c.requires.next, c.requires.flat.count)) (omega (arith, c.modulus-modulus.ensures.value, c.modulus-modulus.ensures.two_or_more)) c.modulus-modulus.ensures.sound c.cols.ensures.support c.vals.ensures.values)).below c.loop-k.k c.loop-k-test.true, (c.loop-k.invariant.sums.1 ∙ ap (λ (r : ResidueRow). length r.row) c.requires.clear ∙ length_zeros (length c.args.pivots.now.columns)))
+pub come_in-requires-clause-place : goal.come_in-requires-clause-place
+come_in-requires-clause-place c = omega (arith, (pivot_behind (pivot_at c.rows-rows.ensures.rows c.rows-rows.ensures.placed (omega (arith, c.requires.next, c.requires.flat.count)) (omega (arith, c.modulus-modulus.ensures.value, c.modulus-modulus.ensures.two_or_more)) c.modulus-modulus.ensures.sound c.cols.ensures.support c.vals.ensures.values)).below c.loop-k.k c.loop-k-test.true, (c.loop-k.invariant.sums.1 ∙ ap (λ (r : ResidueRow). length r.row) c.requires.clear ∙ length_zeros (length c.args.pivots.now.columns)))
 
-pub take_in-requires-clause-flat : goal.take_in-requires-clause-flat
-take_in-requires-clause-flat c = omega (arith, pivot_before (pivot_at c.rows-rows.ensures.rows c.rows-rows.ensures.placed (omega (arith, c.requires.next, c.requires.flat.count)) (omega (arith, c.modulus-modulus.ensures.value, c.modulus-modulus.ensures.two_or_more)) c.modulus-modulus.ensures.sound c.cols.ensures.support c.vals.ensures.values) c.loop-k.k c.loop-k-test.true, c.requires.next)
+pub come_in-requires-clause-flat : goal.come_in-requires-clause-flat
+come_in-requires-clause-flat c = omega (arith, pivot_before (pivot_at c.rows-rows.ensures.rows c.rows-rows.ensures.placed (omega (arith, c.requires.next, c.requires.flat.count)) (omega (arith, c.modulus-modulus.ensures.value, c.modulus-modulus.ensures.two_or_more)) c.modulus-modulus.ensures.sound c.cols.ensures.support c.vals.ensures.values) c.loop-k.k c.loop-k-test.true, c.requires.next)
 
 pub loop-k-preserved : goal.loop-k-preserved
 loop-k-preserved c =
-    let alike = takes_alike c.take_in.ensures in
+    let alike = takes_alike c.in_ok-come_in.ensures in
     record {
       sums = (alike.0 ∙ c.loop-k.invariant.sums.0, alike.1 ∙ c.loop-k.invariant.sums.1);
-      flattening = flattening_more (omega (arith, (c.modulus-modulus.ensures.value ∙ ap (λ (r : ResidueMatrix). r.modulus) c.rows-rows.ensures.rows), c.modulus-modulus.ensures.two_or_more)) c.rows-rows.ensures.placed c.requires.flat c.height.ensures.sound (pivot_behind (pivot_at c.rows-rows.ensures.rows c.rows-rows.ensures.placed (omega (arith, c.requires.next, c.requires.flat.count)) (omega (arith, c.modulus-modulus.ensures.value, c.modulus-modulus.ensures.two_or_more)) c.modulus-modulus.ensures.sound c.cols.ensures.support c.vals.ensures.values))
+      flattening = flattening_more (omega (arith, (c.modulus-modulus.ensures.value ∙ ap (λ (r : ResidueMatrix). r.modulus) c.rows-rows.ensures.rows), c.modulus-modulus.ensures.two_or_more)) c.rows-rows.ensures.placed c.requires.flat c.entries.ensures (pivot_behind (pivot_at c.rows-rows.ensures.rows c.rows-rows.ensures.placed (omega (arith, c.requires.next, c.requires.flat.count)) (omega (arith, c.modulus-modulus.ensures.value, c.modulus-modulus.ensures.two_or_more)) c.modulus-modulus.ensures.sound c.cols.ensures.support c.vals.ensures.values))
           c.loop-k.invariant.flattening c.loop-k-test.true (c.loop-k.invariant.sums.0 ∙ ap (λ (r : ResidueRow). r.modulus) c.requires.clear) (omega (arith, pivot_before (pivot_at c.rows-rows.ensures.rows c.rows-rows.ensures.placed (omega (arith, c.requires.next, c.requires.flat.count)) (omega (arith, c.modulus-modulus.ensures.value, c.modulus-modulus.ensures.two_or_more)) c.modulus-modulus.ensures.sound c.cols.ensures.support c.vals.ensures.values) c.loop-k.k c.loop-k-test.true, c.requires.next))
-          (c.mul.ensures.value ∙ ap (λ m. (c.inverse-inverse.result * slice_index (behind_first c.vals.result.now) c.loop-k.k) % m) (c.modulus-modulus.ensures.value ∙ ap (λ (r : ResidueMatrix). r.modulus) c.rows-rows.ensures.rows)) c.take_in.ensures;
+          (c.mul.ensures.value ∙ ap (λ m. (c.inverse-inverse.result * slice_index (behind_first c.vals.result.now) c.loop-k.k) % m) (c.modulus-modulus.ensures.value ∙ ap (λ (r : ResidueMatrix). r.modulus) c.rows-rows.ensures.rows)) c.in_ok-come_in.ensures;
     }
 
 pub returns-clause-tail : goal.returns-clause-tail

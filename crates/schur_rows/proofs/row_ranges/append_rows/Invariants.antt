@@ -1,12 +1,11 @@
 use Rattle.std.proofs.Common.{◌≡◌, ◌≤◌, ◌-◌, length}
-use Rattle.triangular_solve.specs.Reduced.{workspace_of}
 use Rattle.schur_rows.specs.Parts.{IsPartTo}
-use Rattle.schur_rows.proofs.row_ranges.part_of.Given as goal
+use Rattle.schur_rows.proofs.row_ranges.append_rows.Given as goal
 
 abbrev pub invariant-loop-i : goal.invariant-loop-i
 invariant-loop-i l = record {
   low : l.next ≤ l.to;
-  work : l.work ≡ workspace_of l.pass.reducer.now;
+  work : l.work ≡ l.fn.work;
   rest_modulus : l.rest.modulus ≡ l.pass.reducer.now.rows.modulus;
   rest_width : length l.rest.row ≡ l.pass.reducer.now.rows.matrix.width;
   part : IsPartTo l.pass.reducer.now l.pass.kept l.from l.next l.part;

@@ -1,7 +1,7 @@
 use Rattle.std.proofs.Common.{◌∙◌, ap, arith}
 use Rattle.sparse_rows.specs.Rows.{ResidueMatrix}
 use Rattle.schur_rows.proofs.Streaming.{basis_all, basis_none}
-use Rattle.schur_rows.proofs.streamed.basis_by.Goals as goal
+use Rattle.schur_rows.proofs.streamed.basis_of.Goals as goal
 
 pub loop-from-init : goal.loop-from-init
 loop-from-init g c = record {
@@ -11,4 +11,4 @@ loop-from-init g c = record {
 }
 
 pub returns : goal.returns
-returns g c = basis_all c.pairs-pivots.ensures.triangular c.loop-from.invariant.basis (omega (arith, c.loop-from.invariant.inside, c.loop-from-test.false, c.height-height.ensures.value, ap (λ (R : ResidueMatrix). R.matrix.height) c.rows-rows.ensures))
+returns g c = basis_all c.pairs.ensures.triangular c.loop-from.invariant.basis (omega (arith, c.loop-from.invariant.inside, c.loop-from-test.false, c.height-height.ensures.value, ap (λ (R : ResidueMatrix). R.matrix.height) c.rows-rows.ensures))

@@ -1,0 +1,27 @@
+use Rattle.std.proofs.Common.{◌∙◌, refl, arith}
+use Rattle.schur_rows.proofs.Parting.{part_end, part_step, part_takes}
+use Rattle.schur_rows.proofs.row_ranges.append_rows.Goals as goal
+
+pub loop-i-init : goal.loop-i-init
+loop-i-init c = record {
+  low = c.requires.order;
+  work = refl;
+  rest_modulus = c.requires.rest_modulus;
+  rest_width = c.requires.rest_width;
+  part = c.requires.part;
+}
+
+pub append_left-requires-clause-part : goal.append_left-requires-clause-part
+append_left-requires-clause-part c = part_takes c.rows-rows.ensures c.height.ensures.value c.height.ensures.bound (omega (arith, c.requires.inside, c.in-Some.ensures.1)) c.loop-i.invariant.part c.in-Some.ensures.0.low c.in_ok-append_zeros.ensures
+
+pub loop-i-preserved : goal.loop-i-preserved
+loop-i-preserved c = record {
+  low = omega (arith, c.in-Some.ensures.1);
+  work = c.append_left.ensures.work ∙ c.loop-i.invariant.work;
+  rest_modulus = c.append_left.ensures.rest.0 ∙ c.loop-i.invariant.rest_modulus;
+  rest_width = c.append_left.ensures.rest.1 ∙ c.loop-i.invariant.rest_width;
+  part = part_step c.rows-rows.ensures c.modulus.ensures.value c.modulus.ensures.two_or_more c.modulus.ensures.sound c.pairs.ensures.triangular (omega (arith, c.requires.inside, c.in-Some.ensures.1)) c.loop-i.invariant.part c.in-Some.ensures.0 c.in_ok-append_zeros.ensures c.in_ok-append_left.ensures.added;
+}
+
+pub returns-clause-part : goal.returns-clause-part
+returns-clause-part c = part_end c.rows-rows.ensures c.modulus.ensures.value c.modulus.ensures.two_or_more c.modulus.ensures.sound c.pairs.ensures.triangular c.requires.inside c.loop-i.invariant.low c.loop-i.invariant.part c.in_default.ensures c.in_ok-append_zeros-2.ensures

@@ -1,0 +1,221 @@
+-- Rows whose entries stand in any order: what is at a column, a multiple that is added, and rows one after another.
+use Rattle.std.proofs.Common.{ℕ, zero, suc, ◌≡◌, ◌+◌, ◌-◌, ◌*◌, ◌%◌, ◌<◌, ◌≤◌, List, [], ◌∷◌, ◌++◌, length, map, slice_index, slice_range, slice_set, inl, inr, sym, refl, ap, ap₂, subst, ◌∙◌, arith, mod-eq_of_lt, mul-zero, add-zero}
+use Rattle.std.specs.List.{range_with_len}
+use Rattle.std.proofs.lemmas.Bool.{cases_eq, cases_lt}
+use Rattle.std.proofs.lemmas.List.{get_or_append_left, get_or_push, get_or-set_other, get_or-set_same, length-append, length-set, length_push}
+use Rattle.std.proofs.lemmas.List.FromFn.{length-map-range_with_len, map-range_with_len_more}
+use Rattle.residue_words.specs.Matrix.{IsMatrix, IsVector, Matrix, row}
+use Rattle.residue_words.proofs.Residues.{add_same}
+use Rattle.sparse_rows.specs.Rows.{AddsAt, AddsMultiple, ResidueRow}
+use Rattle.sparse_rows.specs.Stored.{IsSparse, entry_at, part, spread, stored_matrix, stored_row, with_row}
+use Rattle.sparse_rows.proofs.Adding.{IsAdding, IsAddingTo}
+use Rattle.sparse_rows.proofs.Spread.{at_spread, entry_cover, entry_head, entry_tail, length_spread, map_range_equal}
+use Rattle.sparse_rows.proofs.Stored.{part_before, part_end, row_stored}
+use Rattle.triangular_solve.specs.FlatRows.{AddsTimes}
+use Rattle.triangular_solve.specs.PivotRows.{HaveDistinctColumns}
+use Rattle.triangular_solve.specs.Scattered.{AreScattered, IsScattered}
+
+-- at a listed column stands its value
+pub entry_listed : (cs vs : List ℕ) → length cs ≡ length vs → HaveDistinctColumns cs → (k : ℕ) → k < length cs → entry_at cs vs (slice_index cs k) ≡ slice_index vs k
+entry_listed [] vs e d k l = absurd (omega arith)
+entry_listed (c ∷ cs) [] e d k l = absurd (omega arith)
+entry_listed (c ∷ cs) (v ∷ vs) e d zero l = entry_head c cs v vs
+entry_listed (c ∷ cs) (v ∷ vs) e d (suc k) l =
+    entry_tail c cs v vs (slice_index cs k) (d 0 (suc k) (omega arith) (omega arith))
+    ∙ entry_listed cs vs (omega arith) (λ s t a b. d (suc s) (suc t) (omega arith) (omega arith)) k (omega arith)
+
+-- ascending columns are distinct
+pub sparse_scattered : {p n : ℕ} {cs vs : List ℕ} → IsSparse p n cs vs → IsScattered p n cs vs
+sparse_scattered {p} {n} {cs} {vs} s = record {
+  long = s.long;
+  distinct = λ k t a l e. let r : slice_index cs k < slice_index cs t = s.rising k t a l in absurd (omega arith);
+  below = s.below;
+  positive = s.positive;
+  residues = s.residues;
+}
+
+-- the row is one of residues
+pub scattered_vector : {p n : ℕ} {cs vs : List ℕ} → 0 < p → IsScattered p n cs vs → IsVector p n (spread n cs vs)
+scattered_vector {p} {n} {cs} {vs} pos s = record {
+  len = length_spread n cs vs;
+  residues = λ j l. elim (entry_cover cs vs j) [
+    | inl none ↦ omega (arith, at_spread n cs vs j l)
+    | inr (t, lt, e) ↦ omega (arith, at_spread n cs vs j l, ap (entry_at cs vs) e, entry_listed cs vs s.long s.distinct t lt, s.residues t (omega (arith, s.long)))
+  ];
+}
+
+-- one entry more is added
+scattered_more : {p n by : ℕ} {cols vals before sums : List ℕ} {k : ℕ} → 0 < p → IsScattered p n cols vals → length before ≡ n → IsAdding p by cols vals before k sums → k < length cols →
+    (v : ℕ) → v % p ≡ (by * slice_index vals k) % p → IsAdding p by cols vals before (k + 1) (slice_set sums (slice_index cols k) ((slice_index sums (slice_index cols k) + v) % p))
+scattered_more {p} {n} {by} {cols} {vals} {before} {sums} {k} pos s long a l v e = record {
+  len = length-set sums c _ ∙ a.len;
+  done = λ t lt. elim (cases_eq t k) [
+    | inl same ↦ ap (λ t. slice_index new (slice_index cols t)) same ∙ here ∙ ap (λ t. (slice_index before (slice_index cols t) + by * slice_index vals t) % p) (sym same)
+    | inr d ↦ get_or-set_other sums c (slice_index cols t) _ 0 (s.distinct t k (omega arith) l) ∙ a.done t (omega arith)
+  ];
+  residues = λ j lj. elim (cases_eq j c) [
+    | inl same ↦
+        let small : ((slice_index sums c + v) % p) < p = omega arith in
+        let is : slice_index new j ≡ (slice_index sums c + v) % p = ap (slice_index new) same ∙ get_or-set_same sums c _ 0 inside in
+        omega arith
+    | inr d ↦ let is : slice_index new j ≡ slice_index sums j = get_or-set_other sums c j _ 0 d in let small : slice_index sums j < p = a.residues j lj in omega arith
+  ];
+  left = λ j none. get_or-set_other sums c j _ 0 (λ z. none k (omega arith) (sym z)) ∙ a.left j (λ t lt. none t (omega arith));
+}
+  where
+    c : ℕ
+    c = slice_index cols k
+
+    new : List ℕ
+    new = slice_set sums c ((slice_index sums c + v) % p)
+
+    inside : c < length sums
+    inside = omega (arith, a.len, long, s.below k l)
+
+    old : slice_index sums c ≡ slice_index before c
+    old = a.left c (λ t lt. s.distinct t k lt l)
+
+    here : slice_index new c ≡ (slice_index before c + by * slice_index vals k) % p
+    here = get_or-set_same sums c _ 0 inside ∙ ap (λ t. (t + v) % p) old
+        ∙ add_same p (slice_index before c) (slice_index before c) v (by * slice_index vals k) refl e
+
+-- all of them are
+scattered_all : {p n by : ℕ} {cols vals before sums : List ℕ} → IsScattered p n cols vals → IsVector p n before → IsAdding p by cols vals before (length cols) sums →
+    (j : ℕ) → j < n → slice_index sums j ≡ (slice_index before j + by * entry_at cols vals j) % p
+scattered_all {p} {n} {by} {cols} {vals} {before} {sums} s vector a j l =
+    elim (entry_cover cols vals j) [
+      | inl none ↦
+          a.left j (λ t lt z. let v : entry_at cols vals (slice_index cols t) ≡ slice_index vals t = entry_listed cols vals s.long s.distinct t lt in
+          let pos : 0 < slice_index vals t = s.positive t (omega (arith, s.long)) in
+          absurd (omega (arith, sym v ∙ ap (entry_at cols vals) z ∙ none)))
+          ∙ sym (ap (λ t. (slice_index before j + by * t) % p) none ∙ ap (λ t. (slice_index before j + t) % p) (mul-zero by) ∙ ap (λ t. t % p) (add-zero (slice_index before j)) ∙ mod-eq_of_lt (vector.residues j l))
+      | inr (t, lt, e) ↦
+          ap (slice_index sums) (sym e) ∙ a.done t lt ∙ ap (λ u. (slice_index before (slice_index cols t) + by * u) % p) (sym (entry_listed cols vals s.long s.distinct t lt))
+          ∙ ap (λ j. (slice_index before j + by * entry_at cols vals j) % p) e
+    ]
+
+pub scattered_step : {by : ℕ} {cols vals : List ℕ} {k : ℕ} {old now new : ResidueRow} → IsScattered old.modulus (length old.row) cols vals → IsAddingTo by cols vals k old now → k < length cols →
+    (v : ℕ) → v % old.modulus ≡ (by * slice_index vals k) % old.modulus → AddsAt (slice_index cols k) v now new → IsAddingTo by cols vals (k + 1) old new
+scattered_step {by} {cols} {vals} {k} {old} {now} {new} s a l v e added = record {
+  modulus = added.modulus ∙ a.modulus;
+  positive = a.positive;
+  vector = a.vector;
+  adding = subst (IsAdding old.modulus by cols vals old.row (k + 1)) (sym (added.row ∙ ap (λ m. slice_set now.row (slice_index cols k) ((slice_index now.row (slice_index cols k) + v) % m)) a.modulus))
+      (scattered_more a.positive s refl a.adding l v e);
+}
+
+pub scattered_done : {by : ℕ} {cols vals : List ℕ} {old new : ResidueRow} → IsScattered old.modulus (length old.row) cols vals → IsAddingTo by cols vals (length cols) old new → AddsMultiple by cols vals old new
+scattered_done {by} {cols} {vals} {old} {new} s a = record {
+  modulus = a.modulus;
+  vector = record { len = a.adding.len; residues = a.adding.residues };
+  sums = scattered_all s a.vector a.adding;
+}
+
+-- the row that these columns and values stand for was added
+pub adds_times : {by f n : ℕ} {cols vals r : List ℕ} {old new : ResidueRow} → AddsMultiple by cols vals old new → by ≡ f → r ≡ spread n cols vals → n ≡ length old.row → AddsTimes f r old new
+adds_times {by} {f} {n} {cols} {vals} {r} {old} {new} a e is wide = record {
+  modulus = a.modulus;
+  vector = a.vector;
+  sums = λ j l. a.sums j l ∙ ap₂ (λ b x. (slice_index old.row j + b * x) % old.modulus) e (sym (ap (λ w. slice_index w j) is ∙ at_spread n cols vals j (omega arith)));
+}
+
+abbrev sized : ℕ → ℕ → List (List ℕ) → Matrix
+sized h w r = record { height = h; width = w; rows = r }
+
+module _ (p n : ℕ) (starts cs vs : List ℕ) (stored : AreScattered p n starts cs vs) (cs' vs' : List ℕ) (more : IsScattered p n cs' vs') where
+  ends : List ℕ
+  ends = starts ++ length (cs ++ cs') ∷ []
+
+  ends_values : starts ++ length (vs ++ vs') ∷ [] ≡ ends
+  unfolding ends
+  ends_values = ap (λ e. starts ++ e ∷ []) (omega (arith, length-append vs vs', length-append cs cs', stored.long, more.long))
+
+  long_ends : length ends ≡ length starts + 1
+  unfolding ends
+  long_ends = length_push starts (length (cs ++ cs'))
+
+  old : (i : ℕ) → i < length starts → slice_index ends i ≡ slice_index starts i
+  unfolding ends
+  old i l = get_or_append_left starts (length (cs ++ cs') ∷ []) 0 i l
+
+  new : (i : ℕ) → length starts ≡ i → slice_index ends i ≡ length (cs ++ cs')
+  unfolding ends
+  new i e = get_or_push starts (length (cs ++ cs')) 0 i e
+
+  earlier_columns : (i : ℕ) → i + 1 < length starts → part ends (cs ++ cs') i ≡ part starts cs i
+  unfolding ends
+  earlier_columns i l = part_before starts cs cs' (length (cs ++ cs')) i l (stored.rising i l) (stored.within (i + 1) l)
+
+  earlier_values : (i : ℕ) → i + 1 < length starts → part ends (vs ++ vs') i ≡ part starts vs i
+  unfolding ends
+  earlier_values i l = part_before starts vs vs' (length (cs ++ cs')) i l (stored.rising i l) (omega (arith, stored.within (i + 1) l, stored.long))
+
+  end_columns : part ends (cs ++ cs') (length starts - 1) ≡ cs'
+  unfolding ends
+  end_columns = part_end starts cs cs' (length starts - 1) (omega (arith, stored.some)) stored.last
+
+  end_values : part ends (vs ++ vs') (length starts - 1) ≡ vs'
+  end_values =
+      ap (λ e. part e (vs ++ vs') (length starts - 1)) (sym ends_values)
+      ∙ part_end starts vs vs' (length starts - 1) (omega (arith, stored.some)) (stored.last ∙ stored.long)
+
+  -- one row more is stored
+  pub scattered_push : AreScattered p n (starts ++ length (cs ++ cs') ∷ []) (cs ++ cs') (vs ++ vs')
+  unfolding ends
+  scattered_push = record {
+    two_or_more = stored.two_or_more;
+    some = omega (arith, long_ends);
+    last = new (length ends - 1) (omega (arith, long_ends));
+    rising = λ i l. elim (cases_lt (i + 1) (length starts)) [
+      | inl b ↦ omega (arith, old i (omega arith), old (i + 1) b, stored.rising i b)
+      | inr b ↦ omega (arith, old i (omega (arith, long_ends)), new (i + 1) (omega (arith, long_ends)), stored.within i (omega (arith, long_ends)), length-append cs cs')
+    ];
+    within = λ i l. elim (cases_lt i (length starts)) [
+      | inl b ↦ omega (arith, old i b, stored.within i b, length-append cs cs')
+      | inr b ↦ omega (arith, new i (omega (arith, long_ends)))
+    ];
+    long = omega (arith, length-append vs vs', length-append cs cs', stored.long, more.long);
+    each = λ i l. elim (cases_lt (i + 1) (length starts)) [
+      | inl b ↦ rw (earlier_columns i b, earlier_values i b) (stored.each i b)
+      | inr b ↦
+          let last : i ≡ length starts - 1 = omega (arith, long_ends) in
+          subst (λ k. IsScattered p n (part ends (cs ++ cs') k) (part ends (vs ++ vs') k)) (sym last) (rw (end_columns, end_values) more)
+    ];
+  }
+
+  rows_push : (stored_matrix n (starts ++ length (cs ++ cs') ∷ []) (cs ++ cs') (vs ++ vs')).rows ≡ (stored_matrix n starts cs vs).rows ++ spread n cs' vs' ∷ []
+  unfolding ends stored_row
+  rows_push =
+      let h : ℕ = length starts - 1 in
+      ap (λ k. map (stored_row n ends (cs ++ cs') (vs ++ vs')) (range_with_len 0 k)) (omega (arith, long_ends, stored.some))
+      ∙ map-range_with_len_more (stored_row n ends (cs ++ cs') (vs ++ vs')) 0 h h (omega arith)
+      ∙ ap₂ (λ r s. r ++ s ∷ [])
+      (map_range_equal (stored_row n ends (cs ++ cs') (vs ++ vs')) (stored_row n starts cs vs) 0 h (λ j a b. ap₂ (spread n) (earlier_columns j (omega arith)) (earlier_values j (omega arith))))
+      (ap₂ (spread n) end_columns end_values)
+
+  -- and the matrix has this row more
+  pub scattered_matrix : stored_matrix n (starts ++ length (cs ++ cs') ∷ []) (cs ++ cs') (vs ++ vs') ≡ with_row (stored_matrix n starts cs vs) (spread n cs' vs')
+  unfolding ends
+  scattered_matrix = ap₂ (λ h r. sized h n r) (omega (arith, long_ends, stored.some)) rows_push
+
+-- row i
+pub scattered_row : (n : ℕ) (starts cs vs : List ℕ) (i : ℕ) → i + 1 < length starts → row (stored_matrix n starts cs vs) i ≡ spread n (part starts cs i) (part starts vs i)
+unfolding stored_row
+scattered_row n starts cs vs i l = row_stored n starts cs vs i (omega arith)
+
+-- the parts of row i
+abbrev pub IsRowAt : (p : ℕ) → Matrix → ℕ → List ℕ → List ℕ → Type 0
+IsRowAt p A i us ws = IsScattered p A.width us ws × (row A i ≡ spread A.width us ws)
+
+pub scattered_at : {p n : ℕ} {starts cs vs us ws : List ℕ} {a b : ℕ} (i : ℕ) → AreScattered p n starts cs vs → i + 1 < length starts → a ≡ slice_index starts i → b ≡ slice_index starts (i + 1) → us ≡ cs → ws ≡ vs →
+    IsRowAt p (stored_matrix n starts cs vs) i (slice_range us a b) (slice_range ws a b)
+unfolding part
+scattered_at {p} {n} {starts} {cs} {vs} {us} {ws} {a} {b} i s l from to e f =
+    rw (from, to, e, f) (s.each i l, scattered_row n starts cs vs i l)
+
+-- it is a matrix of residues
+pub scattered_sound : {p n : ℕ} {starts cs vs : List ℕ} → AreScattered p n starts cs vs → IsMatrix p (stored_matrix n starts cs vs)
+scattered_sound {p} {n} {starts} {cs} {vs} s = record {
+  len = length-map-range_with_len (stored_row n starts cs vs) 0 (length starts - 1);
+  each = λ i l. rw (scattered_row n starts cs vs i (omega arith)) (scattered_vector (omega (arith, s.two_or_more)) (s.each i (omega arith)));
+}

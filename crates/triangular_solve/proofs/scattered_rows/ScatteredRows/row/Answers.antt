@@ -1,0 +1,17 @@
+use Rattle.std.proofs.Common.{◌+◌, ◌<◌, ◌∙◌, ap, arith, length, slice_range, subst}
+use Rattle.std.proofs.lemmas.List.{get_or_default}
+use Rattle.sparse_rows.specs.Rows.{ResidueMatrix}
+use Rattle.triangular_solve.proofs.Scattered.{IsRowAt, scattered_at}
+use Rattle.triangular_solve.proofs.scattered_rows.ScatteredRows.row.Goals as goal
+
+pub returns-clause-scattered : goal.returns-clause-scattered
+returns-clause-scattered c =
+    let inside : c.args.i + 1 < length c.self.inside.starts.items = omega (arith, c.requires, ap (λ m. m.matrix.height) c.self.view_is) in
+    (subst (λ (m : ResidueMatrix). IsRowAt m.modulus m.matrix c.args.i (slice_range c.deref.result.now c.index-from.result.now c.index-to.result.now) (slice_range c.deref-2.result.now c.index-from.result.now c.index-to.result.now)) c.self.view_is
+    (scattered_at c.args.i c.self.invariant inside (c.index-from.ensures ∙ get_or_default c.self.inside.starts.items c.args.i _ 0 (omega arith)) (c.index-to.ensures ∙ get_or_default c.self.inside.starts.items (c.args.i + 1) _ 0 inside) c.deref.ensures.value c.deref-2.ensures.value)).0
+
+pub returns-clause-row : goal.returns-clause-row
+returns-clause-row c =
+    let inside : c.args.i + 1 < length c.self.inside.starts.items = omega (arith, c.requires, ap (λ m. m.matrix.height) c.self.view_is) in
+    (subst (λ (m : ResidueMatrix). IsRowAt m.modulus m.matrix c.args.i (slice_range c.deref.result.now c.index-from.result.now c.index-to.result.now) (slice_range c.deref-2.result.now c.index-from.result.now c.index-to.result.now)) c.self.view_is
+    (scattered_at c.args.i c.self.invariant inside (c.index-from.ensures ∙ get_or_default c.self.inside.starts.items c.args.i _ 0 (omega arith)) (c.index-to.ensures ∙ get_or_default c.self.inside.starts.items (c.args.i + 1) _ 0 inside) c.deref.ensures.value c.deref-2.ensures.value)).1
