@@ -1,5 +1,5 @@
 -- Rows whose entries stand in any order: what is at a column, a multiple that is added, and rows one after another.
-use Rattle.std.proofs.Common.{ℕ, zero, suc, ◌≡◌, ◌+◌, ◌-◌, ◌*◌, ◌%◌, ◌<◌, ◌≤◌, List, [], ◌∷◌, ◌++◌, length, map, slice_index, slice_range, slice_set, inl, inr, sym, refl, ap, ap₂, subst, ◌∙◌, arith, mod-eq_of_lt, mul-zero, add-zero}
+use Rattle.std.proofs.Common.{ℕ, zero, suc, ◌≡◌, ◌+◌, ◌-◌, ◌*◌, ◌%◌, ◌<◌, List, [], ◌∷◌, ◌++◌, length, map, slice_index, slice_range, slice_set, inl, inr, sym, refl, ap, ap₂, subst, ◌∙◌, arith, mod-eq_of_lt, mul-zero, add-zero}
 use Rattle.std.specs.List.{range_with_len}
 use Rattle.std.proofs.lemmas.Bool.{cases_eq, cases_lt}
 use Rattle.std.proofs.lemmas.List.{get_or_append_left, get_or_push, get_or-set_other, get_or-set_same, length-append, length-set, length_push}

@@ -12,7 +12,7 @@ use std::marker::Model;
 
 // A row of residues by column, which gives out its entries in any order: so none is looked for, as an `Accumulator` does. It takes 8
 // bytes a column, and 4 bytes for each that is touched.
-#[derive(Debug, Drop)]
+#[derive(Drop)]
 pub(crate) struct TouchedSums {
     modulus: Modulus,
     sums: Vec<u64>,
@@ -80,7 +80,8 @@ impl TouchedSums {
     // Takes an entry that is not 0, with its column.
     fn pop(&mut self) -> Option<(u32, u64)>
         ensures modulus { self.new.modulus ≡ self.old.modulus }
-        ensures some { IfSome result (λ taken. TakesSome self.old.modulus self.old.row self.new.row taken.0 taken.1) }
+        ensures some { IfSome result (λ taken.
+            TakesSome self.old.modulus self.old.row self.new.row taken.0 taken.1) }
         ensures none { IfNone result ((self.new ≡ self.old) × AllZero self.old.row) }
     {
         while let Some(column) = self.touched.pop() {
@@ -102,7 +103,8 @@ impl TouchedSums {
         ensures clear { OnOk result (IsClear self.old.modulus (length self.old.row) self.new) }
         ensures scattered { OnOk result
             (IsScattered self.old.modulus (length self.old.row) cols.new.items vals.new.items) }
-        ensures row { OnOk result (spread (length self.old.row) cols.new.items vals.new.items ≡ self.old.row) }
+        ensures row { OnOk result
+            (spread (length self.old.row) cols.new.items vals.new.items ≡ self.old.row) }
     {
         cols.clear();
         vals.clear();

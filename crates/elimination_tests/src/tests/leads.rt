@@ -43,10 +43,17 @@ fn settles_the_first(alloc: Global, kept: &Leads) -> Result<bool, AllocError> {
     Ok(has_entries(&settled, &[0, 1], &[1, 2]))
 }
 
+// Whether all of it is as worked.
+fn is_as_worked(alloc: Global) -> Result<bool, AllocError> {
+    let mut kept = Leads::new(alloc, 3, &Modulus::new(7))?;
+    let answers = insert_three(&mut kept)?;
+    let left = leaves_the_rest(alloc, &kept)?;
+    let settled = settles_the_first(alloc, &kept)?;
+    Ok(answers == [Some(0), Some(2), None] && left && settled)
+}
+
 #[test]
 fn rows_are_kept_reduced_and_settled(rt: HostRuntime) -> Result<(), Fail> {
-    let mut kept = Leads::new(rt.alloc(), 3, &Modulus::new(7))?;
-    assert_eq!(rt; insert_three(&mut kept)?, [Some(0), Some(2), None]);
-    assert!(rt; leaves_the_rest(rt.alloc(), &kept)? && settles_the_first(rt.alloc(), &kept)?);
+    assert!(rt; is_as_worked(rt.alloc())?);
     Ok(())
 }
