@@ -152,13 +152,19 @@ const LAST_AND_FIRST: &[(u32, u32, u64)] = &[
     (1, 2, 1),
 ];
 
+// Whether the transpose and two rows of this matrix have their entries.
+fn small_ones_agree(alloc: Global, rows: &Rows) -> Result<(bool, bool), AllocError>
+    requires { rows.now.matrix.height ≡ 3 }
+{
+    let turned = turns_into(alloc, rows, SMALL_TURNED)?;
+    let selected = selects(alloc, rows, [2, 0], LAST_AND_FIRST)?;
+    Ok((turned, selected))
+}
+
 #[test]
 fn small_matrices(rt: HostRuntime) -> Result<(), Fail> {
-    let alloc = rt.alloc();
-    let x = built(alloc, 3, 3, SMALL)?;
-    let turned = turns_into(alloc, &x, SMALL_TURNED)?;
-    let selected = selects(alloc, &x, [2, 0], LAST_AND_FIRST)?;
-    assert_eq!(rt; (turned, selected), (true, true));
+    let x = built(rt.alloc(), 3, 3, SMALL)?;
+    assert_eq!(rt; small_ones_agree(rt.alloc(), &x)?, (true, true));
     Ok(())
 }
 
@@ -211,14 +217,20 @@ const FAR_TURNED: &[(u32, u32, u64)] = &[
 
 const FAR_SELECTED: &[(u32, u32, u64)] = &[(1, 7, 2), (1, 2_147_483_647, 3)];
 
+// Whether the copy, the transpose and two rows of this matrix have their entries.
+fn far_ones_agree(alloc: Global, rows: &Rows) -> Result<(bool, bool, bool), AllocError>
+    requires { rows.now.matrix.height ≡ LARGEST_SIZE }
+{
+    let copied = copies_into(alloc, rows, FAR_ENTRIES)?;
+    let turned = turns_into(alloc, rows, FAR_TURNED)?;
+    let selected = selects(alloc, rows, [6, 5], FAR_SELECTED)?;
+    Ok((copied, turned, selected))
+}
+
 #[test]
 fn huge_matrices(rt: HostRuntime) -> Result<(), Fail> {
-    let alloc = rt.alloc();
-    let x = built(alloc, LARGEST_SIZE, LARGEST_SIZE, FAR)?;
-    let copied = copies_into(alloc, &x, FAR_ENTRIES)?;
-    let turned = turns_into(alloc, &x, FAR_TURNED)?;
-    let selected = selects(alloc, &x, [6, 5], FAR_SELECTED)?;
-    assert_eq!(rt; (copied, turned, selected), (true, true, true));
+    let x = built(rt.alloc(), LARGEST_SIZE, LARGEST_SIZE, FAR)?;
+    assert_eq!(rt; far_ones_agree(rt.alloc(), &x)?, (true, true, true));
     Ok(())
 }
 
@@ -238,14 +250,23 @@ fn occupies(alloc: Global, rows: &Rows, wanted: &[u32]) -> Result<bool, AllocErr
     Ok(occupied.as_slice() == wanted)
 }
 
+// Whether these are the rows and the columns that have an entry, and the first such row from 6 on.
+fn places(
+    alloc: Global,
+    rows: &Rows,
+    filled: &[u32],
+    occupied: &[u32],
+) -> Result<(bool, bool, Option<u32>), AllocError> {
+    let fills = fills(alloc, rows, filled)?;
+    let occupies = occupies(alloc, rows, occupied)?;
+    Ok((fills, occupies, rows.next_filled(6)))
+}
+
 #[test]
 fn filled_rows_and_occupied_columns(rt: HostRuntime) -> Result<(), Fail> {
-    let alloc = rt.alloc();
-    let x = built(alloc, LARGEST_SIZE, LARGEST_SIZE, FAR)?;
-    let filled = fills(alloc, &x, FAR_FILLED)?;
-    let occupied = occupies(alloc, &x, FAR_OCCUPIED)?;
+    let x = built(rt.alloc(), LARGEST_SIZE, LARGEST_SIZE, FAR)?;
     assert_eq!(rt;
-        (filled, occupied, x.next_filled(6)),
+        places(rt.alloc(), &x, FAR_FILLED, FAR_OCCUPIED)?,
         (true, true, Some(1_000_000_000))
     );
     Ok(())
@@ -294,13 +315,20 @@ fn columns_are_left_out_and_put_back(rt: HostRuntime) -> Result<(), Fail> {
     Ok(())
 }
 
+// Whether a matrix beside itself has these entries.
+fn doubles_into(alloc: Global, rows: &Rows, entries: &[(u32, u32, u64)]) -> Result<bool, AllocError>
+    requires { rows.now.matrix.width + rows.now.matrix.width ≤ LARGEST_SIZE }
+{
+    let wide = rows.beside(alloc, rows)?;
+    lists(alloc, &wide, entries)
+}
+
 #[test]
 fn matrices_side_by_side(rt: HostRuntime) -> Result<(), Fail> {
-    let alloc = rt.alloc();
-    let mut x = built(alloc, LARGEST_SIZE - 1, 2, &[(5, 0, 1), (8, 1, 2)])?;
+    let mut x = built(rt.alloc(), LARGEST_SIZE - 1, 2, &[(5, 0, 1), (8, 1, 2)])?;
     x.append_zeros(1)?;
-    let wide = x.beside(alloc, &x)?;
-    assert!(rt; lists(alloc, &wide, &[(5, 0, 1), (5, 2, 1), (8, 1, 2), (8, 3, 2)])?);
+    let entries = [(5, 0, 1), (5, 2, 1), (8, 1, 2), (8, 3, 2)];
+    assert!(rt; doubles_into(rt.alloc(), &x, &entries)?);
     Ok(())
 }
 
