@@ -24,5 +24,5 @@ pub record IsReducedPiece (p : ℕ) (panel : PanelRows) (block : List (List ℕ)
       PanelReduces p panel (block_row block (piece.number * PIECE_ROWS + t)) (block_row piece.rows t)
 
 -- pieces that a worker made
-abbrev pub IsShare : ℕ → PanelRows → List (List ℕ) → Vec NumberedRows Global → Type 0
-IsShare p panel block share = All (IsReducedPiece p panel block) share.items
+abbrev pub AreReducedPieces : ℕ → PanelRows → List (List ℕ) → Vec NumberedRows Global → Type 0
+AreReducedPieces p panel block share = All (IsReducedPiece p panel block) share.items

@@ -6,7 +6,7 @@ ghost use Rattle.sparse_rows.specs.Rows.{AreRising};
 ghost use Rattle.sparse_rows.specs.declared.rows.TheConstants.{LARGEST_SIZE};
 ghost use Rattle.dense_finish.specs.Block.{AreRowsOf, AreVectors, IsDense};
 ghost use Rattle.dense_finish.specs.Panel.{PanelReducesEach};
-ghost use Rattle.dense_finish.specs.Pieces.{AreReducible, IsShare};
+ghost use Rattle.dense_finish.specs.Pieces.{AreReducible, AreReducedPieces};
 ghost use Rattle.dense_finish.specs.Dense.{IsFirstFree, IsPivotOf, KeepsCoefficients};
 ghost use Rattle.dense_finish.specs.Factors.{IsFactored};
 ghost use Rattle.sparse_rows.specs.Rows.{AreBelow};
@@ -217,13 +217,13 @@ impl<'a> Elimination<'a> {
         let helpers = self.workers - 1;
         let mut help = || -> Vec<Piece<W>>
             requires { W.serves self.now.p × AreReducible self.now.p found.now behind.now }
-            ensures { IsShare self.entry.now.p found.entry.now.panel behind.entry.now result }
+            ensures { AreReducedPieces self.entry.now.p found.entry.now.panel behind.entry.now result }
         { self.pieces_by(rt, found, behind, &next, helpers) };
         let mut find = || -> (Result<Found<W>, AllocError>, Vec<Piece<W>>)
             requires { W.serves self.now.p × AreReducible self.now.p found.now behind.now
                 × AreRowsOf own.now rows × CanGoOn self.now.p self.now.columns.now
                 (panel_stage pivots.now found.now own.now rows.start) }
-            ensures { IsShare self.entry.now.p found.entry.now.panel behind.entry.now result.1
+            ensures { AreReducedPieces self.entry.now.p found.entry.now.panel behind.entry.now result.1
                 × IfOk result.0 (λ next. FindsPanel self.entry.now.p self.entry.now.columns.now
                 (panel_stage pivots.entry.now found.entry.now own.entry.now rows.start)
                 (panel_stage pivots.exit.now next own.exit.now rows.end)) }

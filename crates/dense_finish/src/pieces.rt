@@ -1,7 +1,7 @@
 // The rows behind a panel, reduced by several workers: piece by piece, as they become free.
 ghost use Rattle.std.specs.Prelude.{◌≡◌, ◌<◌, ◌≤◌, ◌+◌, ◌*◌, ◌-◌, ℕ, All, Contains, length, min, IfOk, IfSome};
 ghost use Rattle.dense_finish.specs.Panel.{PanelReducesEach};
-ghost use Rattle.dense_finish.specs.Pieces.{AreReducible, IsReducedPiece, IsShare};
+ghost use Rattle.dense_finish.specs.Pieces.{AreReducible, IsReducedPiece, AreReducedPieces};
 
 use crate::dense::Dense;
 use crate::elimination::{Elimination, Found, RowRange};
@@ -91,7 +91,7 @@ impl<'a> Elimination<'a> {
     ) -> Vec<Piece<W>>
         requires modulus { W.serves self.now.p }
         requires ready { AreReducible self.now.p found.now rows.now }
-        ensures { IsShare self.now.p found.now.panel rows.now result }
+        ensures { AreReducedPieces self.now.p found.now.panel rows.now result }
     {
         let mut pieces = Vec::new(self.alloc);
         let Ok(mut shares) = self.shares(rt, found, rows, next, workers) else {
@@ -115,7 +115,8 @@ impl<'a> Elimination<'a> {
     ) -> Result<Vec<Vec<Piece<W>>>, AllocError>
         requires modulus { W.serves self.now.p }
         requires ready { AreReducible self.now.p found.now rows.now }
-        ensures { IfOk result (λ shares. All (IsShare self.now.p found.now.panel rows.now) shares.items) }
+        ensures { IfOk result (λ shares.
+            All (AreReducedPieces self.now.p found.now.panel rows.now) shares.items) }
     {
         thread::map_indices(
             rt,
@@ -123,7 +124,7 @@ impl<'a> Elimination<'a> {
             workers.min(count_of_pieces(rows.len())),
             &|_worker: usize| -> Vec<Piece<W>>
                 requires { W.serves self.now.p × AreReducible self.now.p found.now rows.now }
-                ensures { IsShare self.entry.now.p found.entry.now.panel rows.entry.now result }
+                ensures { AreReducedPieces self.entry.now.p found.entry.now.panel rows.entry.now result }
             { self.pieces_of_worker(found, rows, next) },
         )
     }
@@ -137,7 +138,7 @@ impl<'a> Elimination<'a> {
     ) -> Vec<Piece<W>>
         requires modulus { W.serves self.now.p }
         requires ready { AreReducible self.now.p found.now rows.now }
-        ensures { IsShare self.now.p found.now.panel rows.now result }
+        ensures { AreReducedPieces self.now.p found.now.panel rows.now result }
     {
         let mut pieces = Vec::new(self.alloc);
         // No worker can take more.
@@ -206,7 +207,7 @@ impl<'a> Elimination<'a> {
     )
         requires modulus { W.serves self.now.p }
         requires ready { AreReducible self.now.p found.now rows.old }
-        requires pieces { IsShare self.now.p found.now.panel rows.old pieces }
+        requires pieces { AreReducedPieces self.now.p found.now.panel rows.old pieces }
         ensures { PanelReducesEach self.now.p found.now.panel rows.old rows.new }
     {
         for number in 0..count_of_pieces(rows.len()) {

@@ -11,7 +11,7 @@ use Rattle.sparse_rows.specs.Stored.{IsSparse, entry_at, part, spread, stored_ma
 use Rattle.sparse_rows.proofs.Adding.{IsAdding, IsAddingTo}
 use Rattle.sparse_rows.proofs.Spread.{at_spread, entry_cover, entry_head, entry_tail, length_spread, map_range_equal}
 use Rattle.sparse_rows.proofs.Stored.{part_before, part_end, row_stored}
-use Rattle.triangular_solve.specs.FlatRows.{AddsTimes}
+use Rattle.triangular_solve.specs.FlatRows.{AddsRowTimes}
 use Rattle.triangular_solve.specs.PivotRows.{HaveDistinctColumns}
 use Rattle.triangular_solve.specs.Scattered.{AreScattered, IsScattered}
 
@@ -112,7 +112,7 @@ scattered_done {by} {cols} {vals} {old} {new} s a = record {
 }
 
 -- the row that these columns and values stand for was added
-pub adds_times : {by f n : ℕ} {cols vals r : List ℕ} {old new : ResidueRow} → AddsMultiple by cols vals old new → by ≡ f → r ≡ spread n cols vals → n ≡ length old.row → AddsTimes f r old new
+pub adds_times : {by f n : ℕ} {cols vals r : List ℕ} {old new : ResidueRow} → AddsMultiple by cols vals old new → by ≡ f → r ≡ spread n cols vals → n ≡ length old.row → AddsRowTimes f r old new
 adds_times {by} {f} {n} {cols} {vals} {r} {old} {new} a e is wide = record {
   modulus = a.modulus;
   vector = a.vector;

@@ -26,7 +26,7 @@ abbrev pub AreAllFlat : PlacedRows → FlatRows → Type 0
 AreAllFlat placed flat = AreFlat placed flat × (flat.tails.matrix.height ≡ flat.count)
 
 -- a multiple of the row r was added
-pub record AddsTimes (by : ℕ) (r : List ℕ) (old new : ResidueRow) : Type 0 where
+pub record AddsRowTimes (by : ℕ) (r : List ℕ) (old new : ResidueRow) : Type 0 where
   pub modulus : new.modulus ≡ old.modulus
   pub vector : IsVector old.modulus (length old.row) new.row
   pub sums : (j : ℕ) → j < length old.row → slice_index new.row j
@@ -35,7 +35,7 @@ pub record AddsTimes (by : ℕ) (r : List ℕ) (old new : ResidueRow) : Type 0 w
 -- a value at a place came to the sums; at a pivot it is taken away by its flat row, of which the rest came
 pub record TakesIn (flat : FlatRows) (place value : ℕ) (old new : ResidueRow) : Type 0 where
   pub other : flat.count ≤ place → AddsAt place value old new
-  pub pivotal : place < flat.count → AddsTimes ((old.modulus - value) % old.modulus)
+  pub pivotal : place < flat.count → AddsRowTimes ((old.modulus - value) % old.modulus)
       (row flat.tails.matrix (flat.count - (place + 1))) old new
 
 -- the flat row of the pivot at a place but for its 1
