@@ -5,7 +5,6 @@ ghost use Rattle.sms_text.specs.declared.reader.TheConstants.{LARGEST_TEXT_SIZE}
 ghost use Rattle.sms_text.specs.Writing.{Writes, Adds, output};
 ghost use Rattle.sms_text.specs.Written.{row_text, text_of};
 
-
 use crate::block_writer::BlockWriter;
 use crate::stream::Sink;
 use crate::write::WriteFault;

@@ -17,7 +17,6 @@ ghost use Rattle.spasm_run.specs.Generator.{HasSizesInRange};
 ghost use Rattle.spasm_run.specs.declared.words.Command.{Command};
 ghost use Rattle.spasm_run.specs.declared.words.Task.TheVariants as task;
 
-
 use crate::answer::Answer;
 use crate::generator::Generator;
 use crate::status::Status;

@@ -6,7 +6,6 @@ ghost use Rattle.row_space.specs.Echelon.{HasRank};
 ghost use Rattle.row_space.specs.Rows.{DiffersBy, HasSteps};
 ghost use Rattle.spasm_run.specs.Plain.{AreKept, PassesRow, StartsAt, lists, plain_matrix, steps};
 
-
 use residue_words::Modulus;
 use sparse_rows::Rows;
 use std::alloc::{AllocError, Global};

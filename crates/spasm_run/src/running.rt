@@ -9,7 +9,6 @@ ghost use Rattle.spasm_run.specs.Ran.{Ran, WantNothing};
 ghost use Rattle.spasm_run.specs.Status.{SaysWhy, is_answered, is_written};
 ghost use Rattle.spasm_run.specs.Words.{Accepted};
 
-
 use crate::answer::Answer;
 use crate::commands::{find_lawfulness, find_of_matrix, find_solution, find_summary, find_verdict};
 use crate::read_matrices::{read_and_answer, read_one, read_to_check, read_to_replay, read_two};
