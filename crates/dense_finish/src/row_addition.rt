@@ -5,6 +5,9 @@ ghost use Rattle.dense_finish.specs.Multiples.{plus_multiple};
 use crate::lane_addition::add_multiple_64;
 use residue_words::{LANE_BOUND, Modulus};
 
+#[cfg(test)]
+mod tests;
+
 /// Makes each `out[k]` the residue of `out[k] + a y[k]`. It takes no memory.
 ///
 /// Modulo a number below `LANE_BOUND` it works on eight entries at a time by vectors, and the last few one by one, with the products of `Shoup` (V. Shoup's

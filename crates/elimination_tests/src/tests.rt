@@ -6,6 +6,5 @@ mod factors_by_rounds;
 mod forms;
 mod growth;
 mod leads;
-mod row_additions;
 mod solutions;
 mod triangles;

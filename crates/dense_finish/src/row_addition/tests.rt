@@ -1,9 +1,11 @@
 // The ways to add a multiple of a row, against values from outside and one another.
 ghost use Rattle.residue_words.specs.declared.modulus.TheConstants.{MODULUS_BOUND};
+ghost use Rattle.residue_words.specs.declared.shoup.TheConstants.{LANE_BOUND};
 ghost use Rattle.std.specs.Prelude.{◌≡◌, ◌<◌, ◌≤◌, ℕ, length, slice_index};
 
-use dense_finish::{axpy, axpy_plainly};
-use residue_words::{MODULUS_BOUND, Modulus};
+use crate::residue::Residue;
+use crate::row_addition::{axpy, axpy_plainly};
+use residue_words::{LANE_BOUND, MODULUS_BOUND, Modulus};
 use std::process::Abort;
 use std::test::Fail;
 
@@ -77,6 +79,18 @@ fn zeros_become_multiples(rt: HostRuntime) -> Result<(), Fail> {
     Ok(())
 }
 
+// The residues of one row, in 32 bits.
+fn narrow(out: &mut [u32], row: &[u64], p: u64)
+    requires lengths { length row.now ≡ length out.old }
+    requires in_range { p < LANE_BOUND }
+    requires residues { (k : ℕ) → k < length row.now → slice_index row.now k < p }
+    ensures { (k : ℕ) → k < length out.old → slice_index out.new k < p }
+{
+    for k in 0..out.len() {
+        out[k] = row[k] as u32;
+    }
+}
+
 // A multiple of one row of a simple generator added to another, plainly.
 fn plainly(p: &Modulus, a: u64, length: usize) -> [u64; LONGEST]
     requires factor { a < p.now }
@@ -107,28 +121,93 @@ fn by_lanes(p: &Modulus, a: u64, length: usize) -> [u64; LONGEST]
     out
 }
 
-// Both ways agree on rows of one length.
-fn assert_both_ways_agree(rt: &impl Abort, p: u64, a: u64, length: usize)
+// The same with residues kept in 64 bits.
+fn in_64_bits(p: &Modulus, a: u64, length: usize) -> [u64; LONGEST]
+    requires factor { a < p.now }
+    requires short { length ≤ 40 }
+{
+    let mut out = [0u64; LONGEST];
+    let mut y = [0u64; LONGEST];
+    let row = &mut out[..length];
+    let y = &mut y[..length];
+    fill(row, 1, p.p());
+    fill(y, 2, p.p());
+    <u64 as Residue>::add_multiple(row, a, y, p);
+    out
+}
+
+// Residues of the generator, in 32 bits.
+fn fill_narrow(out: &mut [u32], seed: u64, p: u64)
+    requires two_or_more { 2 ≤ p }
+    requires in_range { p < LANE_BOUND }
+    requires short { length out.old ≤ 40 }
+    ensures { (k : ℕ) → k < length out.old → slice_index out.new k < p }
+{
+    let mut row = [0u64; LONGEST];
+    let row = &mut row[..out.len()];
+    fill(row, seed, p);
+    narrow(out, row, p);
+}
+
+// The same with residues kept in 32 bits.
+fn in_32_bits(p: &Modulus, a: u64, length: usize) -> [u64; LONGEST]
+    requires factor { a < p.now }
+    requires narrow { p.now < LANE_BOUND }
+    requires short { length ≤ 40 }
+{
+    let mut out = [0u32; LONGEST];
+    let mut y = [0u32; LONGEST];
+    let row = &mut out[..length];
+    let y = &mut y[..length];
+    fill_narrow(row, 1, p.p());
+    fill_narrow(y, 2, p.p());
+    <u32 as Residue>::add_multiple(row, a, y, p);
+    widened(&out)
+}
+
+fn widened(row: &[u32; LONGEST]) -> [u64; LONGEST] {
+    let mut wide = [0u64; LONGEST];
+    for k in 0..LONGEST {
+        wide[k] = u64::from(row[k]);
+    }
+    wide
+}
+
+// All ways agree on rows of one length.
+fn assert_all_ways_agree(rt: &impl Abort, p: u64, a: u64, length: usize)
     requires two_or_more { 2 ≤ p }
     requires factor { a < p }
     requires in_range { p < MODULUS_BOUND }
     requires short { length ≤ 40 }
 {
     let modulus = Modulus::new(p);
+    let sums = plainly(&modulus, a, length);
     assert_eq!(rt;
         by_lanes(&modulus, a, length),
-        plainly(&modulus, a, length),
+        sums,
         "{length} entries modulo {p}"
     );
+    assert_eq!(rt;
+        in_64_bits(&modulus, a, length),
+        sums,
+        "{length} entries modulo {p}"
+    );
+    if p < LANE_BOUND {
+        assert_eq!(rt;
+            in_32_bits(&modulus, a, length),
+            sums,
+            "{length} entries modulo {p}"
+        );
+    }
 }
 
 #[test]
-fn both_ways_agree(rt: HostRuntime) -> Result<(), Fail> {
+fn all_ways_agree(rt: HostRuntime) -> Result<(), Fail> {
     for p in MODULI {
         assert!(rt; 2 <= p && p < MODULUS_BOUND);
         for length in 0..=LONGEST {
-            assert_both_ways_agree(&rt, p, p - 1, length);
-            assert_both_ways_agree(&rt, p, p / 2, length);
+            assert_all_ways_agree(&rt, p, p - 1, length);
+            assert_all_ways_agree(&rt, p, p / 2, length);
         }
     }
     Ok(())
