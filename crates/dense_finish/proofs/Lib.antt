@@ -8,6 +8,7 @@ pub mod Filling
 pub mod Gathering
 pub mod Growing
 pub mod Indexing
+pub mod JoinedPanels
 pub mod LeftThere
 pub mod PanelStages
 pub mod Parts

@@ -9,14 +9,10 @@ use Rattle.dense_finish.specs.Block.{AreVectors, block_row}
 use Rattle.dense_finish.specs.Panel.{PanelReducesEach, no_pivots}
 use Rattle.dense_finish.specs.Pivots.{AreEliminated, AreSplit, CanGoOn, FindsPanel, IsPanelFrom, PanelStage, before_panel, count, pivot_sequence, panel_stage, stage, stage_of}
 use Rattle.dense_finish.specs.Splitting.{IsSplit}
-use Rattle.dense_finish.specs.Units.{FoundPanel, HasUnits}
+use Rattle.dense_finish.specs.Units.{FoundPanel, HasUnits, nothing_found}
 use Rattle.dense_finish.proofs.Growing.{found_own}
 use Rattle.dense_finish.proofs.Progress.{panel_begins, reduced_split, split_begins}
 use Rattle.dense_finish.proofs.Splitting.{split_same}
-
--- without a pivot yet
-abbrev pub nothing_found : ℕ → FoundPanel
-nothing_found n = record { panel = no_pivots n; units = []; first = 0 }
 
 pub holds_begins : {p : ℕ} (names : List ℕ) (f : Pivots) (block : List (List ℕ)) → IsPanelFrom p names (before_panel (panel_stage f (nothing_found (length names)) block 0)) f (no_pivots (length names))
 holds_begins {p} names f block =

@@ -107,7 +107,7 @@ eliminated_behind {p} {n} {width} {i} {names} {f} {old} {new} found long same ve
 }
 
 -- what the panel leaves, where its rows have n entries
-split_panel : {p n : ℕ} {panel : PanelRows} {v w : List ℕ} → panel.width ≡ n → PanelReduces p panel v w → (P : PivotSequence p n) (r : ℕ) (b : List ℕ) → Continues P r panel →
+pub split_panel : {p n : ℕ} {panel : PanelRows} {v w : List ℕ} → panel.width ≡ n → PanelReduces p panel v w → (P : PivotSequence p n) (r : ℕ) (b : List ℕ) → Continues P r panel →
     HasSteps (r + length panel.columns) n P.entry P.column → IsSplit P r b v → IsSplit P (r + length panel.columns) b w
 split_panel {p} {n} {panel} {v} {w} wide h = subst (λ m. (P : PivotSequence p m) (r : ℕ) (b : List ℕ) → Continues P r panel →
     HasSteps (r + length panel.columns) m P.entry P.column → IsSplit P r b v → IsSplit P (r + length panel.columns) b w) wide h.split

@@ -19,7 +19,7 @@ use Rattle.dense_finish.proofs.Splitting.{fresh, steps_front}
 unit_on : (n c : ℕ) → c < n → slice_index (unit_row n c) c ≡ 1
 unit_on n c l = get_or-set_same (zeros n) c 1 0 (omega (arith, length_list_of n (λ j. 0)))
 
-unit_off : (n c j : ℕ) → j < n → j ≢ c → slice_index (unit_row n c) j ≡ 0
+pub unit_off : (n c j : ℕ) → j < n → j ≢ c → slice_index (unit_row n c) j ≡ 0
 unit_off n c j l d = get_or-set_other (zeros n) c j 1 0 d ∙ at_zeros n j l
 
 -- v0 is v without the entries at the panel's columns, and w is v0 and the units' rows, each as often as v has its column's entry

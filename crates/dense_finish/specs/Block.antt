@@ -71,3 +71,8 @@ pub record IsBlockOf (A : ResidueMatrix) (block : DenseBlock) : Type 0 where
 pub record AreRowsOf (rows : List (List ℕ)) (range : RowRange) : Type 0 where
   pub order : range.start ≤ range.end
   pub inside : range.end ≤ length rows
+
+-- these are the block's last rows
+pub record AreLastRowsOf (rows : List (List ℕ)) (range : RowRange) : Type 0 where
+  pub order : range.start ≤ range.end
+  pub last : range.end ≡ length rows

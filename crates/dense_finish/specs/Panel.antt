@@ -22,6 +22,14 @@ with_pivot panel c q = record {
   rows = panel.rows ++ q ∷ [];
 }
 
+-- the pivots of one panel and behind them those of another
+abbrev pub joined_panel : PanelRows → PanelRows → PanelRows
+joined_panel front back = record {
+  width = front.width;
+  columns = front.columns ++ back.columns;
+  rows = front.rows ++ back.rows;
+}
+
 -- rows of residues, one for each column, which are 0 before it
 pub record ArePivots (p : ℕ) (panel : PanelRows) : Type 0 where
   pub long : length panel.rows ≡ length panel.columns

@@ -184,6 +184,17 @@ pub record FindsPanel (p : ℕ) (columns : List ℕ) (old new : PanelStage) : Ty
   pub split : IsPrime p → (block : List (List ℕ)) → AreSplit p columns (before_panel old) block (stage_of old) →
       AreSplit p columns (count old.pivots) block (stage_of new)
 
+-- the pivots of more rows are found, behind those of `old`, and are the panel's: whatever block splits into `old`, its rows
+-- ahead by all pivots of `old`, splits into `new`, whose rows ahead are reduced by all pivots of `new`
+pub record FindsPart (p : ℕ) (columns : List ℕ) (old : Stage) (new : PanelStage) : Type 0 where
+  pub found : AreFound p columns old.pivots.u.matrix.width new.done new.pivots
+  pub eliminated : AreEliminated p (length columns) new.done new.pivots new.rows
+  pub holds : IsPanelFrom p columns (count old.pivots) new.pivots new.found.panel
+  pub units : HasUnits p new.found
+  pub kept : KeepsPivots columns old.pivots new.pivots
+  pub split : IsPrime p → (block : List (List ℕ)) → AreSplit p columns (count old.pivots) block old →
+      AreSplit p columns (count new.pivots) block (stage_of new)
+
 -- the pivots' places in the matrix, whose rows and columns with entries are these
 pub record ArePivotPlaces (f_rows f_columns rows columns : List ℕ) (pivots : List Pair) : Type 0 where
   pub long : length pivots ≡ length f_rows

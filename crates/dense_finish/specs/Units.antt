@@ -1,8 +1,8 @@
 -- What a panel leaves of unit rows.
-use Rattle.std.specs.Prelude.{◌≡◌, ◌<◌, ℕ, List, length, slice_index, slice_set}
+use Rattle.std.specs.Prelude.{◌≡◌, ◌<◌, ℕ, List, [], length, slice_index, slice_set}
 use Rattle.residue_words.specs.Matrix.{zeros}
 use Rattle.dense_finish.specs.Block.{AreVectors, block_row, entry_of}
-use Rattle.dense_finish.specs.Panel.{PanelReduces, PanelRows}
+use Rattle.dense_finish.specs.Panel.{PanelReduces, PanelRows, no_pivots}
 
 -- the row of n entries that is 1 at column c, and 0 elsewhere
 abbrev pub unit_row : ℕ → ℕ → List ℕ
@@ -27,6 +27,10 @@ pub record FoundPanel : Type 0 where
   pub panel : PanelRows
   pub units : List (List ℕ)
   pub first : ℕ
+
+-- without a pivot yet
+abbrev pub nothing_found : ℕ → FoundPanel
+nothing_found n = record { panel = no_pivots n; units = []; first = 0 }
 
 abbrev pub HasUnits : ℕ → FoundPanel → Type 0
 HasUnits p found = AreUnits p found.panel found.first found.units

@@ -4,18 +4,19 @@ ghost use Rattle.residue_words.specs.Matrix.{IsVector};
 ghost use Rattle.residue_words.specs.Residues.{IsPrime};
 ghost use Rattle.sparse_rows.specs.Rows.{AreRising};
 ghost use Rattle.sparse_rows.specs.declared.rows.TheConstants.{LARGEST_SIZE};
-ghost use Rattle.dense_finish.specs.Block.{AreRowsOf, AreVectors, IsDense};
+ghost use Rattle.dense_finish.specs.Block.{AreLastRowsOf, AreRowsOf, AreVectors, IsDense};
 ghost use Rattle.dense_finish.specs.Panel.{PanelReducesEach};
 ghost use Rattle.dense_finish.specs.Pieces.{AreReducible, AreReducedPieces};
 ghost use Rattle.dense_finish.specs.Dense.{IsFirstFree, IsPivotOf, KeepsCoefficients};
 ghost use Rattle.dense_finish.specs.Factors.{IsFactored};
 ghost use Rattle.sparse_rows.specs.Rows.{AreBelow};
-ghost use Rattle.dense_finish.specs.Pivots.{AddsPivot, AreEliminated, AreFound, CanGoOn, EliminatesBlock, FindsPanel, HasReached, IsPanelFrom, KeepsPivots, KeepsSplit, SplitBy, count, pivot_at, panel_stage, stage};
+ghost use Rattle.dense_finish.specs.Pivots.{AddsPivot, AreEliminated, AreFound, CanGoOn, EliminatesBlock, FindsPanel, FindsPart, HasReached, IsPanelFrom, KeepsPivots, KeepsSplit, SplitBy, count, pivot_at, panel_stage, stage};
 
 use crate::block::Block;
 use crate::dense::Dense;
 use crate::factors::{Factors, left_factor};
-use crate::panel::{PANEL, Panel};
+use crate::found::Found;
+use crate::panel::{PANEL, Panel, zeros_before};
 use crate::pieces::Piece;
 use crate::pivots::Pivots;
 use crate::reducing::Reducing;
@@ -24,9 +25,11 @@ use crate::right_factor::RightFactor;
 use residue_words::{LANE_BOUND, Modulus};
 use sparse_rows::Rows;
 use std::alloc::{AllocError, Global};
-use std::marker::Model;
 use std::sync::atomic::AtomicU64;
 use std::thread::{Threads, join_mut};
+
+// How many of a panel's rows are reduced by one another one by one, before their pivots are taken out of the others at once.
+const PART: usize = 16;
 
 // What stays the same during an elimination: the columns of the matrix that the block's stand for, the modulus, and the number of
 // workers.
@@ -43,23 +46,6 @@ pub(crate) struct Elimination<'a> {
 pub(crate) struct RowRange {
     pub(crate) start: usize,
     pub(crate) end: usize,
-}
-
-// A panel's pivots, and what they leave of the unit rows at their columns, which is 0 before column `first`. Contracts see these
-// as `FoundPanel`.
-#[derive(Drop)]
-pub(crate) struct Found<W: Residue> {
-    pub(crate) panel: Panel<W>,
-    pub(crate) units: Vec<Dense<W>>,
-    pub(crate) first: usize,
-}
-
-impl<W: Residue> Model for Found<W> {
-    ghost use Rattle.dense_finish.specs.Units.{FoundPanel};
-
-    ghost Value = { FoundPanel };
-
-    ghost view = { λ f. record { panel = f.panel; units = f.units.items; first = f.first } };
 }
 
 /// Factors of a matrix, by so many workers: the same for every number of them.
@@ -148,11 +134,7 @@ impl<'a> Elimination<'a> {
             SplitBy self.now.p self.now.columns.now pivots block.old block.new) }
     {
         let mut pivots = Pivots::new(self.alloc, block.len(), self.columns, width, &self.p)?;
-        let mut found = Found {
-            panel: Panel::new(self.alloc, self.columns.len()),
-            units: Vec::new(self.alloc),
-            first: 0,
-        };
+        let mut found = Found::none(self.alloc, self.columns.len());
         let mut done = 0;
         while done < block.len() {
             let rows = RowRange {
@@ -183,11 +165,37 @@ impl<'a> Elimination<'a> {
             (panel_stage pivots.old found.now block.old rows.start)
             (panel_stage pivots.new next block.new rows.end)) }
     {
-        if self.workers == 1 || found.panel.is_empty() {
-            return self.reduce_and_find(found, rows, pivots, block);
-        }
         let (own, others) = block.split_at_mut(rows.end);
-        self.find_beside(rt, found, rows, pivots, own, others)
+        self.find_split(rt, found, rows, pivots, own, others)
+    }
+
+    // The same where the rows behind these are given apart, by the workers that there are work for.
+    fn find_split<R: Threads + Sync, W: Reducing>(
+        &self,
+        rt: &R,
+        found: &Found<W>,
+        rows: RowRange,
+        pivots: &mut Pivots,
+        own: &mut [Dense<W>],
+        others: &mut [Dense<W>],
+    ) -> Result<Found<W>, AllocError>
+        requires modulus { W.serves self.now.p }
+        requires some { 1 ≤ self.now.workers }
+        requires rows { AreLastRowsOf own.old rows }
+        requires ready { CanGoOn self.now.p self.now.columns.now
+            (panel_stage pivots.old found.now own.old rows.start) }
+        requires others { AreVectors self.now.p found.now.panel.width others.old }
+        ensures own { IfOk result (λ next. FindsPanel self.now.p self.now.columns.now
+            (panel_stage pivots.old found.now own.old rows.start)
+            (panel_stage pivots.new next own.new rows.end)) }
+        ensures others { PanelReducesEach self.now.p found.now.panel others.old others.new }
+    {
+        if self.workers == 1 || found.panel.is_empty() {
+            found.reduce_behind(others, 0, &self.p);
+            self.reduce_and_find(found, rows, pivots, own)
+        } else {
+            self.find_beside(rt, found, rows, pivots, own, others)
+        }
     }
 
     // Takes a panel's pivots out of its own rows from the first on, and finds those of these rows, while the other workers take the
@@ -203,7 +211,7 @@ impl<'a> Elimination<'a> {
     ) -> Result<Found<W>, AllocError>
         requires modulus { W.serves self.now.p }
         requires some { 2 ≤ self.now.workers }
-        requires rows { AreRowsOf own.old rows }
+        requires rows { AreLastRowsOf own.old rows }
         requires ready { CanGoOn self.now.p self.now.columns.now
             (panel_stage pivots.old found.now own.old rows.start) }
         requires others { AreVectors self.now.p found.now.panel.width others.old }
@@ -221,7 +229,7 @@ impl<'a> Elimination<'a> {
         { self.pieces_by(rt, found, behind, &next, helpers) };
         let mut find = || -> (Result<Found<W>, AllocError>, Vec<Piece<W>>)
             requires { W.serves self.now.p × AreReducible self.now.p found.now behind.now
-                × AreRowsOf own.now rows × CanGoOn self.now.p self.now.columns.now
+                × AreLastRowsOf own.now rows × CanGoOn self.now.p self.now.columns.now
                 (panel_stage pivots.now found.now own.now rows.start) }
             ensures { AreReducedPieces self.entry.now.p found.entry.now.panel behind.entry.now result.1
                 × IfOk result.0 (λ next. FindsPanel self.entry.now.p self.entry.now.columns.now
@@ -238,7 +246,7 @@ impl<'a> Elimination<'a> {
         next_panel
     }
 
-    // Takes a panel's pivots out of the rows from the first on, and finds those of these rows.
+    // Takes a panel's pivots out of the last rows, and finds those of these rows.
     fn reduce_and_find<W: Reducing>(
         &self,
         found: &Found<W>,
@@ -247,23 +255,63 @@ impl<'a> Elimination<'a> {
         block: &mut [Dense<W>],
     ) -> Result<Found<W>, AllocError>
         requires modulus { W.serves self.now.p }
-        requires rows { AreRowsOf block.old rows }
+        requires rows { AreLastRowsOf block.old rows }
         requires ready { CanGoOn self.now.p self.now.columns.now
             (panel_stage pivots.old found.now block.old rows.start) }
         ensures { IfOk result (λ next. FindsPanel self.now.p self.now.columns.now
             (panel_stage pivots.old found.now block.old rows.start)
             (panel_stage pivots.new next block.new rows.end)) }
     {
-        found
-            .panel
-            .reduce_behind(&found.units, found.first, block, rows.start, &self.p);
+        found.reduce_behind(block, rows.start, &self.p);
+        let mut next = self.find_parts(rows, pivots, block)?;
+        next.first = zeros_before(&next.units, self.columns.len());
+        Ok(next)
+    }
+
+    // Finds the pivots of these rows, some rows at a time.
+    fn find_parts<W: Reducing>(
+        &self,
+        rows: RowRange,
+        pivots: &mut Pivots,
+        block: &mut [Dense<W>],
+    ) -> Result<Found<W>, AllocError>
+        requires modulus { W.serves self.now.p }
+        requires rows { AreRowsOf block.old rows }
+        requires ready { HasReached self.now.p self.now.columns.now (stage pivots.old block.old rows.start) }
+        ensures { IfOk result (λ found. FindsPart self.now.p self.now.columns.now
+            (stage pivots.old block.old rows.start) (panel_stage pivots.new found block.new rows.end)) }
+    {
+        let mut found = Found::none(self.alloc, self.columns.len());
+        let mut done = rows.start;
+        while done < rows.end {
+            let part = RowRange {
+                start: done,
+                end: rows.end.min(done + PART),
+            };
+            let more = self.find_part(part, pivots, block)?;
+            found.join(more, &self.p)?;
+            done = part.end;
+        }
+        Ok(found)
+    }
+
+    // Finds the pivots of these rows one by one, and takes them out of the rows behind.
+    fn find_part<W: Reducing>(
+        &self,
+        rows: RowRange,
+        pivots: &mut Pivots,
+        block: &mut [Dense<W>],
+    ) -> Result<Found<W>, AllocError>
+        requires modulus { W.serves self.now.p }
+        requires rows { AreRowsOf block.old rows }
+        requires ready { HasReached self.now.p self.now.columns.now (stage pivots.old block.old rows.start) }
+        ensures { IfOk result (λ found. FindsPart self.now.p self.now.columns.now
+            (stage pivots.old block.old rows.start) (panel_stage pivots.new found block.new rows.end)) }
+    {
         let panel = self.find_pivots(rows, pivots, block)?;
-        let (units, first) = panel.units(self.alloc, &self.p)?;
-        Ok(Found {
-            panel,
-            units,
-            first,
-        })
+        let found = Found::of(self.alloc, panel, &self.p)?;
+        found.reduce_behind(block, rows.end, &self.p);
+        Ok(found)
     }
 
     // Finds the pivots of these rows, each reduced by those before it.

@@ -5,6 +5,7 @@ mod block;
 mod dense;
 mod elimination;
 mod factors;
+mod found;
 mod lane_addition;
 mod multiplier;
 mod panel;

@@ -2,7 +2,7 @@
 ghost use Rattle.std.specs.Prelude.{◌≡◌, ◌<◌, ◌≤◌, ◌↔◌, ℕ, length, IfOk, OnOk, OnErr, IsTrue};
 ghost use Rattle.residue_words.specs.Matrix.{IsVector};
 ghost use Rattle.dense_finish.specs.Block.{AreVectors, block_row, entry_of};
-ghost use Rattle.dense_finish.specs.Panel.{ArePivots, PanelReduces, PanelReducesEach, no_pivots, with_pivot};
+ghost use Rattle.dense_finish.specs.Panel.{ArePivots, PanelReduces, PanelReducesEach, joined_panel, no_pivots, with_pivot};
 ghost use Rattle.dense_finish.specs.Units.{AreUnits, AreUnitRows};
 ghost use Rattle.residue_words.specs.declared.shoup.TheConstants.{LANE_BOUND};
 
@@ -53,6 +53,15 @@ impl<W: Residue> Panel<W> {
     {
         self.columns.push(column)?;
         self.rows.push(row)?;
+        Ok(())
+    }
+
+    // Puts other pivots behind these.
+    pub(crate) fn append(&mut self, mut more: Panel<W>) -> Result<(), AllocError>
+        ensures { OnOk result (self.new ≡ joined_panel self.old more) }
+    {
+        self.columns.append(&mut more.columns)?;
+        self.rows.append(&mut more.rows)?;
         Ok(())
     }
 
@@ -221,7 +230,7 @@ impl Panel<u32> {
 }
 
 // How many columns come before the first in which one of these rows is not 0.
-fn zeros_before<W: Residue>(rows: &[Dense<W>], width: usize) -> usize
+pub(crate) fn zeros_before<W: Residue>(rows: &[Dense<W>], width: usize) -> usize
     requires wide { (k : ℕ) → k < length rows.now → length (block_row rows.now k) ≡ width }
     ensures within { result ≤ width }
     ensures zeros { (k j : ℕ) → k < length rows.now → j < result → entry_of rows.now k j ≡ 0 }

@@ -4,7 +4,8 @@ ghost use Rattle.dense_finish.specs.Panel.{PanelReducesEach};
 ghost use Rattle.dense_finish.specs.Pieces.{AreReducible, IsReducedPiece, AreReducedPieces};
 
 use crate::dense::Dense;
-use crate::elimination::{Elimination, Found, RowRange};
+use crate::elimination::{Elimination, RowRange};
+use crate::found::Found;
 use crate::products::BLOCK_ROWS;
 use crate::reducing::Reducing;
 use crate::residue::Residue;

@@ -10,7 +10,7 @@ loop-done-init g c =
     let pivots = c.in_ok-pivots.pivots in
     let block = c.args.block.now in
     let names = c.args.self.now.columns.now in
-    rw (c.new-2.ensures, c.new-3.ensures.items) record {
+    rw c.none-found.ensures record {
       inside = omega arith;
       wide = c.in_ok-pivots.ensures.found.wide;
       ready = record {

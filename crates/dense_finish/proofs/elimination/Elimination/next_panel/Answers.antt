@@ -5,8 +5,8 @@ use Rattle.dense_finish.specs.Panel.{PanelReducesEach}
 use Rattle.dense_finish.proofs.PanelStages.{finds_joined, front_ready}
 use Rattle.dense_finish.proofs.elimination.Elimination.next_panel.Goals as goal
 
-pub find_beside-requires-clause-ready : goal.find_beside-requires-clause-ready
-find_beside-requires-clause-ready g c κs within =
+pub find_split-requires-clause-ready : goal.find_split-requires-clause-ready
+find_split-requires-clause-ready g c κs within =
     rw c.split_at_mut-own.ensures.front (front_ready c.args.rows.end c.requires.rows.order c.requires.rows.inside c.requires.ready)
 
 pub returns : goal.returns
@@ -15,11 +15,11 @@ returns g c =
     let names = c.args.self.now.columns.now in
     let found = c.args.found.now in
     let f = c.args.pivots.now in
-    let own = c.find_beside.new.own in
-    let others = c.find_beside.new.others in
+    let own = c.find_split.new.own in
+    let others = c.find_split.new.others in
     let front = c.split_at_mut-own.ensures.front in
     let back = c.split_at_mut-own.ensures.back in
-    IfOk-weaker c.find_beside.result _ _ (λ next h.
-    finds_joined others c.requires.rows.order c.requires.rows.inside c.requires.ready (omega arith) (c.find_beside.auto.own ∙ ap length front) (c.find_beside.auto.others ∙ ap length back)
-    (subst (λ rows. FindsPanel p names (panel_stage f found rows c.args.rows.start) (panel_stage c.find_beside.new.pivots next own c.args.rows.end)) front h)
-    (subst (λ rows. PanelReducesEach p found.panel rows others) back c.find_beside.ensures.others)) c.find_beside.ensures.own
+    IfOk-weaker c.find_split.result _ _ (λ next h.
+    finds_joined others c.requires.rows.order c.requires.rows.inside c.requires.ready (omega arith) (c.find_split.auto.own ∙ ap length front) (c.find_split.auto.others ∙ ap length back)
+    (subst (λ rows. FindsPanel p names (panel_stage f found rows c.args.rows.start) (panel_stage c.find_split.new.pivots next own c.args.rows.end)) front h)
+    (subst (λ rows. PanelReducesEach p found.panel rows others) back c.find_split.ensures.others)) c.find_split.ensures.own

@@ -1,0 +1,24 @@
+use Rattle.std.proofs.Common.{subst, sym}
+use Rattle.residue_words.specs.Matrix.{IsVector}
+use Rattle.dense_finish.specs.Block.{block_row}
+use Rattle.dense_finish.specs.Pivots.{IsPanelFrom, count}
+use Rattle.dense_finish.proofs.Progress.{eliminated_behind, split_behind}
+use Rattle.dense_finish.proofs.elimination.Elimination.find_part.Goals as goal
+
+pub returns : goal.returns
+returns g c =
+    let p = c.args.self.now.p in
+    let names = c.args.self.now.columns.now in
+    let behind = c.reduce_behind.ensures in
+    let finds = c.in_ok-panel.ensures in
+    let holds : IsPanelFrom p names (count c.args.pivots.now) c.find_pivots.new.pivots c.in_ok-found.found.panel =
+    subst (IsPanelFrom p names (count c.args.pivots.now) c.find_pivots.new.pivots) (sym c.in_ok-found.ensures.panel) finds.panel in
+    record {
+      found = finds.found;
+      eliminated = eliminated_behind finds.found behind.long behind.before
+          (λ t a l. subst (λ n. IsVector p n (block_row c.reduce_behind.new.rows t)) holds.wide (behind.behind t a l).vector) finds.eliminated;
+      holds = holds;
+      units = c.in_ok-found.ensures.units;
+      kept = finds.kept;
+      split = λ prime block before. split_behind holds finds.found.steps behind.long behind.before behind.behind (finds.split prime block before);
+    }
