@@ -119,8 +119,8 @@ module _ (p : ℕ) (front back : PanelRows) (pivots : ArePivots p front) where
           let later : HasSteps (r + s + t) front.width P.entry P.column = subst (λ u. HasSteps u front.width P.entry P.column) (sym all) steps in
           let here : P.column (r + s + m) ≡ slice_index back.columns m = (continues_back continues).stands m l in
           let passed = skip_pivots {P = P} r s (steps_front (omega arith) later)
-              (λ k lk. unit_off front.width (slice_index back.columns m) (P.column (r + k)) (later.inside (r + k) (omega arith))
-              (λ same. fresh {r = r + s + m} (steps_front (omega arith) later) (r + k) (omega arith) (same ∙ sym here))) h in
+          (λ k lk. unit_off front.width (slice_index back.columns m) (P.column (r + k)) (later.inside (r + k) (omega arith))
+          (λ same. fresh {r = r + s + m} (steps_front (omega arith) later) (r + k) (omega arith) (same ∙ sym here))) h in
           subst (λ u2. IsSplit P u2 b u) all
           (split_panel wide second P (r + s) b (continues_back continues) later (subst (λ n. IsSplit P (r + s) b (unit_row n (slice_index back.columns m))) (sym wide) passed));
     }

@@ -85,6 +85,15 @@ impl<W: Residue> Dense<W> {
         Ok(Dense { places })
     }
 
+    // The same row, in the memory of another.
+    pub(crate) fn copy_into(&self, mut room: Dense<W>) -> Result<Dense<W>, AllocError>
+        ensures { IfOk result (λ row. row ≡ self.now) }
+    {
+        room.places.clear();
+        room.places.extend_from_slice(&self.places)?;
+        Ok(room)
+    }
+
     // How many residues.
     pub(crate) fn len(&self) -> usize
         ensures { result ≡ length self.now }

@@ -17,14 +17,16 @@ use crate::dense::Dense;
 use crate::factors::{Factors, left_factor};
 use crate::found::Found;
 use crate::panel::{PANEL, Panel, zeros_before};
-use crate::pieces::Piece;
+use crate::pieces::{Piece, count_of_pieces};
 use crate::pivots::Pivots;
 use crate::reducing::Reducing;
 use crate::residue::Residue;
 use crate::right_factor::RightFactor;
+use crate::room::Room;
 use residue_words::{LANE_BOUND, Modulus};
 use sparse_rows::Rows;
 use std::alloc::{AllocError, Global};
+use std::mem::replace;
 use std::sync::atomic::AtomicU64;
 use std::thread::{Threads, join_mut};
 
@@ -135,13 +137,14 @@ impl<'a> Elimination<'a> {
     {
         let mut pivots = Pivots::new(self.alloc, block.len(), self.columns, width, &self.p)?;
         let mut found = Found::none(self.alloc, self.columns.len());
+        let mut room = Room::none(self.alloc);
         let mut done = 0;
         while done < block.len() {
             let rows = RowRange {
                 start: done,
                 end: block.len().min(done + PANEL),
             };
-            found = self.next_panel(rt, &found, rows, &mut pivots, block)?;
+            found = self.next_panel(rt, &found, rows, &mut pivots, block, &mut room)?;
             done = rows.end;
         }
         Ok(pivots)
@@ -155,6 +158,7 @@ impl<'a> Elimination<'a> {
         rows: RowRange,
         pivots: &mut Pivots,
         block: &mut [Dense<W>],
+        room: &mut Room<W>,
     ) -> Result<Found<W>, AllocError>
         requires modulus { W.serves self.now.p }
         requires some { 1 ≤ self.now.workers }
@@ -166,7 +170,7 @@ impl<'a> Elimination<'a> {
             (panel_stage pivots.new next block.new rows.end)) }
     {
         let (own, others) = block.split_at_mut(rows.end);
-        self.find_split(rt, found, rows, pivots, own, others)
+        self.find_split(rt, found, rows, pivots, own, others, room)
     }
 
     // The same where the rows behind these are given apart, by the workers that there are work for.
@@ -178,6 +182,7 @@ impl<'a> Elimination<'a> {
         pivots: &mut Pivots,
         own: &mut [Dense<W>],
         others: &mut [Dense<W>],
+        room: &mut Room<W>,
     ) -> Result<Found<W>, AllocError>
         requires modulus { W.serves self.now.p }
         requires some { 1 ≤ self.now.workers }
@@ -194,7 +199,7 @@ impl<'a> Elimination<'a> {
             found.reduce_behind(others, 0, &self.p);
             self.reduce_and_find(found, rows, pivots, own)
         } else {
-            self.find_beside(rt, found, rows, pivots, own, others)
+            self.find_beside(rt, found, rows, pivots, own, others, room)
         }
     }
 
@@ -208,6 +213,7 @@ impl<'a> Elimination<'a> {
         pivots: &mut Pivots,
         own: &mut [Dense<W>],
         others: &mut [Dense<W>],
+        room: &mut Room<W>,
     ) -> Result<Found<W>, AllocError>
         requires modulus { W.serves self.now.p }
         requires some { 2 ≤ self.now.workers }
@@ -221,12 +227,21 @@ impl<'a> Elimination<'a> {
         ensures others { PanelReducesEach self.now.p found.now.panel others.old others.new }
     {
         let next = AtomicU64::new(0);
+        let helpers = (self.workers - 1).min(count_of_pieces(others.len()));
+        let mut rooms = room.split(self.alloc, helpers);
         let behind: &[Dense<W>] = others;
-        let helpers = self.workers - 1;
         let mut help = || -> Vec<Piece<W>>
             requires { W.serves self.now.p × AreReducible self.now.p found.now behind.now }
             ensures { AreReducedPieces self.entry.now.p found.entry.now.panel behind.entry.now result }
-        { self.pieces_by(rt, found, behind, &next, helpers) };
+        {
+            self.pieces_by(
+                rt,
+                found,
+                behind,
+                &next,
+                replace(&mut rooms, Vec::new(self.alloc)),
+            )
+        };
         let mut find = || -> (Result<Found<W>, AllocError>, Vec<Piece<W>>)
             requires { W.serves self.now.p × AreReducible self.now.p found.now behind.now
                 × AreLastRowsOf own.now rows × CanGoOn self.now.p self.now.columns.now
@@ -237,12 +252,15 @@ impl<'a> Elimination<'a> {
                 (panel_stage pivots.exit.now next own.exit.now rows.end)) }
         {
             let next_panel = self.reduce_and_find(found, rows, pivots, own);
-            (next_panel, self.pieces_of_worker(found, behind, &next))
+            (
+                next_panel,
+                self.pieces_of_worker(found, behind, &next, room),
+            )
         };
         let ((next_panel, mut pieces), mut more) = join_mut(rt, &mut find, &mut help);
         // Pieces that there is no room for are made in place.
         let _ = pieces.append(&mut more);
-        self.put_pieces(found, pieces, others);
+        self.put_pieces(found, pieces, others, room);
         next_panel
     }
 

@@ -15,6 +15,7 @@ mod products;
 mod reducing;
 mod residue;
 mod right_factor;
+mod room;
 mod row_addition;
 
 pub use elimination::finish;

@@ -9,6 +9,7 @@ use crate::found::Found;
 use crate::products::BLOCK_ROWS;
 use crate::reducing::Reducing;
 use crate::residue::Residue;
+use crate::room::Room;
 use std::alloc::{AllocError, Global};
 use std::marker::Model;
 use std::sync::atomic::{AtomicU64, Ordering};
@@ -34,7 +35,7 @@ impl<W: Residue> Model for Piece<W> {
 }
 
 // In how many pieces so many rows are cut.
-fn count_of_pieces(height: usize) -> usize
+pub(crate) fn count_of_pieces(height: usize) -> usize
     ensures inside { (number : ℕ) → number < result → number * PIECE_ROWS < height }
     ensures all { height ≤ result * PIECE_ROWS }
 {
@@ -55,17 +56,6 @@ fn rows_of_piece(number: usize, height: usize) -> RowRange
     }
 }
 
-// Copies of these rows.
-fn copies<W: Residue>(alloc: Global, rows: &[Dense<W>]) -> Result<Vec<Dense<W>>, AllocError>
-    ensures { IfOk result (λ copies. copies.items ≡ rows.now) }
-{
-    let mut copies = Vec::with_capacity(alloc, rows.len())?;
-    for row in rows {
-        copies.push(row.copy(alloc)?)?;
-    }
-    Ok(copies)
-}
-
 // Takes the piece of this number out of these, if it is among them.
 fn take_piece<W: Residue>(pieces: &mut Vec<Piece<W>>, number: usize) -> Option<Piece<W>>
     ensures left { All (Contains pieces.old.items) pieces.new.items }
@@ -81,21 +71,21 @@ fn take_piece<W: Residue>(pieces: &mut Vec<Piece<W>>, number: usize) -> Option<P
 }
 
 impl<'a> Elimination<'a> {
-    // The pieces that so many workers make.
+    // The pieces that workers make, each in a room of its own.
     pub(crate) fn pieces_by<R: Threads + Sync, W: Reducing>(
         &self,
         rt: &R,
         found: &Found<W>,
         rows: &[Dense<W>],
         next: &AtomicU64,
-        workers: usize,
+        rooms: Vec<Room<W>>,
     ) -> Vec<Piece<W>>
         requires modulus { W.serves self.now.p }
         requires ready { AreReducible self.now.p found.now rows.now }
         ensures { AreReducedPieces self.now.p found.now.panel rows.now result }
     {
         let mut pieces = Vec::new(self.alloc);
-        let Ok(mut shares) = self.shares(rt, found, rows, next, workers) else {
+        let Ok(mut shares) = self.shares(rt, found, rows, next, rooms) else {
             return pieces;
         };
         while let Some(mut share) = shares.pop() {
@@ -105,28 +95,27 @@ impl<'a> Elimination<'a> {
         pieces
     }
 
-    // What each of them makes, or fewer where there are fewer pieces.
+    // What each of them makes.
     fn shares<R: Threads + Sync, W: Reducing>(
         &self,
         rt: &R,
         found: &Found<W>,
         rows: &[Dense<W>],
         next: &AtomicU64,
-        workers: usize,
+        rooms: Vec<Room<W>>,
     ) -> Result<Vec<Vec<Piece<W>>>, AllocError>
         requires modulus { W.serves self.now.p }
         requires ready { AreReducible self.now.p found.now rows.now }
         ensures { IfOk result (λ shares.
             All (AreReducedPieces self.now.p found.now.panel rows.now) shares.items) }
     {
-        thread::map_indices(
+        thread::map_vec(
             rt,
-            self.alloc,
-            workers.min(count_of_pieces(rows.len())),
-            &|_worker: usize| -> Vec<Piece<W>>
+            rooms,
+            &|mut room: Room<W>| -> Vec<Piece<W>>
                 requires { W.serves self.now.p × AreReducible self.now.p found.now rows.now }
                 ensures { AreReducedPieces self.entry.now.p found.entry.now.panel rows.entry.now result }
-            { self.pieces_of_worker(found, rows, next) },
+            { self.pieces_of_worker(found, rows, next, &mut room) },
         )
     }
 
@@ -136,6 +125,7 @@ impl<'a> Elimination<'a> {
         found: &Found<W>,
         rows: &[Dense<W>],
         next: &AtomicU64,
+        room: &mut Room<W>,
     ) -> Vec<Piece<W>>
         requires modulus { W.serves self.now.p }
         requires ready { AreReducible self.now.p found.now rows.now }
@@ -144,7 +134,7 @@ impl<'a> Elimination<'a> {
         let mut pieces = Vec::new(self.alloc);
         // No worker can take more.
         for _ in 0..count_of_pieces(rows.len()) {
-            let Some(piece) = self.next_piece(found, rows, next) else {
+            let Some(piece) = self.next_piece(found, rows, next, room) else {
                 return pieces;
             };
             if pieces.push(piece).is_err() {
@@ -160,6 +150,7 @@ impl<'a> Elimination<'a> {
         found: &Found<W>,
         rows: &[Dense<W>],
         next: &AtomicU64,
+        room: &mut Room<W>,
     ) -> Option<Piece<W>>
         requires modulus { W.serves self.now.p }
         requires ready { AreReducible self.now.p found.now rows.now }
@@ -169,7 +160,7 @@ impl<'a> Elimination<'a> {
         if number >= count_of_pieces(rows.len()) {
             return None;
         }
-        self.reduced_piece(found, rows, number).ok()
+        self.reduced_piece(found, rows, number, room).ok()
     }
 
     // What a panel leaves of the piece of this number.
@@ -178,6 +169,7 @@ impl<'a> Elimination<'a> {
         found: &Found<W>,
         rows: &[Dense<W>],
         number: usize,
+        room: &mut Room<W>,
     ) -> Result<Piece<W>, AllocError>
         requires modulus { W.serves self.now.p }
         requires ready { AreReducible self.now.p found.now rows.now }
@@ -185,7 +177,7 @@ impl<'a> Elimination<'a> {
         ensures { IfOk result (IsReducedPiece self.now.p found.now.panel rows.now) }
     {
         let range = rows_of_piece(number, rows.len());
-        let mut left = copies(self.alloc, &rows[range.start..range.end])?;
+        let mut left = room.copies(self.alloc, &rows[range.start..range.end])?;
         self.take_out(found, &mut left);
         Ok(Piece { number, rows: left })
     }
@@ -199,12 +191,13 @@ impl<'a> Elimination<'a> {
         W::take_out(&found.panel, &found.units, found.first, rows, &self.p);
     }
 
-    // Makes each of these rows what a panel leaves of it, by the pieces that workers made.
+    // Makes each of these rows what a panel leaves of it, by the pieces that workers made. What the rows were is room for others.
     pub(crate) fn put_pieces<W: Reducing>(
         &self,
         found: &Found<W>,
         mut pieces: Vec<Piece<W>>,
         rows: &mut [Dense<W>],
+        room: &mut Room<W>,
     )
         requires modulus { W.serves self.now.p }
         requires ready { AreReducible self.now.p found.now rows.old }
@@ -214,7 +207,7 @@ impl<'a> Elimination<'a> {
         for number in 0..count_of_pieces(rows.len()) {
             let piece = take_piece(&mut pieces, number);
             let range = rows_of_piece(number, rows.len());
-            self.put_piece(found, piece, &mut rows[range.start..range.end]);
+            self.put_piece(found, piece, &mut rows[range.start..range.end], room);
         }
     }
 
@@ -225,6 +218,7 @@ impl<'a> Elimination<'a> {
         found: &Found<W>,
         piece: Option<Piece<W>>,
         rows: &mut [Dense<W>],
+        room: &mut Room<W>,
     )
         requires modulus { W.serves self.now.p }
         requires ready { AreReducible self.now.p found.now rows.old }
@@ -235,6 +229,7 @@ impl<'a> Elimination<'a> {
     {
         if let Some(mut piece) = piece {
             rows.swap_with_slice(&mut piece.rows);
+            room.keep(piece.rows);
         } else {
             self.take_out(found, rows);
         }
