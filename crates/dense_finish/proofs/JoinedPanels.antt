@@ -3,12 +3,10 @@ use Rattle.std.proofs.Common.{ℕ, ◌≡◌, ◌+◌, ◌-◌, ◌*◌, ◌%◌
 use Rattle.std.proofs.lemmas.Bool.{cases_lt}
 use Rattle.std.proofs.lemmas.List.{get_or-append_right, get_or_append_left}
 use Rattle.residue_words.specs.Matrix.{IsVector}
-use Rattle.residue_words.specs.Residues.{IsPrime}
 use Rattle.row_space.specs.Rows.{HasSteps}
-use Rattle.dense_finish.specs.declared.pivots.Pivots.{Pivots}
-use Rattle.dense_finish.specs.Block.{block_row, entry_of}
+use Rattle.dense_finish.specs.Block.{block_row}
 use Rattle.dense_finish.specs.Panel.{ArePivots, Continues, PanelReduces, PanelRows, joined_panel}
-use Rattle.dense_finish.specs.Pivots.{AreFound, AreSplit, FindsPart, HasReached, IsPanelFrom, KeepsPivots, PanelStage, Stage, count, filled_entry, panel_stage, pivot_sequence, stage_of}
+use Rattle.dense_finish.specs.Pivots.{AreFound, FindsPart, HasReached, IsPanelFrom, KeepsPivots, PanelStage, Stage, count, filled_entry, panel_stage, stage_of}
 use Rattle.dense_finish.specs.Splitting.{IsSplit, PivotSequence}
 use Rattle.dense_finish.specs.Units.{FoundPanel, HasUnits, nothing_found, unit_row}
 use Rattle.dense_finish.proofs.Growing.{found_own}

@@ -1,4 +1,4 @@
-use Rattle.std.proofs.Common.{◌-◌, ◌≤◌, length}
+use Rattle.std.proofs.Common.{◌-◌, ◌≤◌}
 use Rattle.dense_finish.specs.Pivots.{FindsPart, panel_stage, stage}
 use Rattle.dense_finish.proofs.elimination.Elimination.find_parts.Given as goal
 

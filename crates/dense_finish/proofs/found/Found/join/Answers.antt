@@ -2,7 +2,7 @@ use Rattle.std.proofs.Common.{ℕ, ◌≡◌, ◌<◌, ◌++◌, ◌∙◌, ap, 
 use Rattle.std.proofs.Math.Seq.{take-append_seam}
 use Rattle.dense_finish.specs.Block.{block_row}
 use Rattle.dense_finish.specs.Panel.{ArePivots, PanelReduces, PanelRows, joined_panel}
-use Rattle.dense_finish.specs.Units.{AreUnits, FoundPanel, HasUnits, unit_row}
+use Rattle.dense_finish.specs.Units.{FoundPanel, HasUnits, unit_row}
 use Rattle.dense_finish.proofs.JoinedPanels.{joined_reduces, joined_units}
 use Rattle.dense_finish.proofs.found.Found.join.Goals as goal
 
