@@ -1,18 +1,19 @@
 -- Sums that are reduced late.
-use Rattle.std.proofs.Common.{ℕ, ◌≡◌, ◌≢◌, ◌+◌, ◌*◌, ◌/◌, ◌%◌, ◌<◌, ◌≤◌, ◌⊎◌, List, leb, length, replicate, slice_index, slice_set, inl, inr, sym, refl, ap, subst, ◌∙◌, arith, mod-eq_of_lt, one-mul}
+use Rattle.std.proofs.Common.{Vec, ℕ, ◌≡◌, ◌≢◌, ◌+◌, ◌*◌, ◌/◌, ◌%◌, ◌<◌, ◌≤◌, ◌⊎◌, List, leb, length, replicate, slice_index, slice_set, inl, inr, sym, refl, ap, subst, ◌∙◌, arith, mod-eq_of_lt, one-mul}
+use Rattle.std.specs.Vec.{with_items}
 use native.Mathlib.Nat.{mod-mod}
 use Rattle.std.proofs.Math.Nat.{add-mul-mod_self_right}
 use Rattle.std.proofs.Math.Seq.{map-set_same}
 use Rattle.std.proofs.lemmas.Nat.{le-div, mul-le, mul-lt}
-use Rattle.std.proofs.lemmas.List.{length-set, length-map, get_or-map, get_or-set_same, get_or-set_other, get_or-replicate, length-replicate, map-set}
+use Rattle.std.proofs.lemmas.List.{length-set, length-map, get_or-map, get_or-set_same, get_or-set_other, get_or-replicate, length-replicate, map-set, with_items_is}
 use Rattle.std.proofs.lemmas.Bool.{cases_eq, cases_lt, cond-true, cond-false, le-leb, lt-leb}
 use Rattle.residue_words.specs.Matrix.{IsVector, zeros}
 use Rattle.residue_words.proofs.Residues.{add_same}
 use Rattle.residue_words.proofs.Vectors.{at_zeros, length_list_of, list_equal}
 use Rattle.sparse_rows.specs.ColumnSet.{AllZero, TakesFirst}
 use Rattle.sparse_rows.specs.Rows.{AddsAt, ResidueRow}
-use Rattle.triangular_solve.specs.Accumulator.{AreTouched, IsAccumulator, limit_of, residues_of}
-use Rattle.triangular_solve.proofs.Touched.{IsTop, touched_mark, touched_set, untouched}
+use Rattle.triangular_solve.specs.Accumulator.{AddsBelow, AreLimited, AreTouched, IsAccumulator, limit_of, residues_of}
+use Rattle.triangular_solve.proofs.Touched.{IsTop, touched_mark, touched_set}
 
 -- a row with its modulus
 abbrev pub as_row : ℕ → List ℕ → ResidueRow
@@ -89,23 +90,26 @@ residues_zero p n sums pos e none =
     residue_at p sums j (omega arith) ∙ ap (λ x. x % p) (none j (omega arith)) ∙ mod-eq_of_lt pos ∙ sym (at_zeros n j l))
 
 -- one sum is set
-residues_set : (p : ℕ) (sums : List ℕ) (j sum r : ℕ) → sum % p ≡ r → residues_of p (slice_set sums j sum) ≡ slice_set (residues_of p sums) j r
+pub residues_set : (p : ℕ) (sums : List ℕ) (j sum r : ℕ) → sum % p ≡ r → residues_of p (slice_set sums j sum) ≡ slice_set (residues_of p sums) j r
 residues_set p sums j sum r e = map-set (λ s. s % p) sums j sum ∙ ap (slice_set (residues_of p sums) j) e
 
+-- a column of the row
+pub column_inside : {p : ℕ} {old : ResidueRow} (sums : List ℕ) (j : ℕ) → as_row p (residues_of p sums) ≡ old → j < length old.row → j < length sums
+column_inside {p} {old} sums j e l = omega (arith, l, ap (λ (r : ResidueRow). length r.row) e, residues_length p sums)
+
 -- what an addition does to the residues
-pub added : {p : ℕ} {old new : ResidueRow} (sums : List ℕ) (j v sum low : ℕ) → as_row p (residues_of p sums) ≡ old → j < length sums → sum ≡ slice_index sums j →
-    (low ≡ sum + v) ⊎ (low + limit_of p ≡ sum + v) → new ≡ as_row p (residues_of p (slice_set sums j low)) → AddsAt j v old new
-added {p} {old} {new} sums j v sum low is_old l e same is_new = subst (λ r. AddsAt j v r new) is_old (record {
-  modulus = ap (λ (r : ResidueRow). r.modulus) is_new;
-  row = ap (λ (r : ResidueRow). r.row) is_new ∙ residues_set p sums j low _
-      (lowered_same p low (sum + v) same ∙ ap (λ t. (t + v) % p) e ∙ add_same p (slice_index sums j) (slice_index (residues_of p sums) j) v v
+pub added : {p limit j v : ℕ} {old : ResidueRow} {sums next : List ℕ} → as_row p (residues_of p sums) ≡ old → AreLimited p limit sums → j < length sums → AddsBelow limit j v sums next →
+    AddsAt j v old (as_row p (residues_of p next))
+added {p} {limit} {j} {v} {old} {sums} {next} is_old limited l a = subst (λ r. AddsAt j v r (as_row p (residues_of p next))) is_old (record {
+  modulus = refl;
+  row = ap (residues_of p) a.after ∙ residues_set p sums j a.sum _
+      (lowered_same p a.sum (slice_index sums j + v) (subst (λ m. (a.sum ≡ slice_index sums j + v) ⊎ (a.sum + m ≡ slice_index sums j + v)) limited.limit_is a.same) ∙ add_same p (slice_index sums j) (slice_index (residues_of p sums) j) v v
       (sym (mod-mod (slice_index sums j) p) ∙ ap (λ t. t % p) (sym (residue_at p sums j l))) refl);
 })
 
 -- the sums stay below the limit when one is set
-pub accumulator_set : {p limit : ℕ} {sums marks new : List ℕ} → IsAccumulator p limit sums marks → (j sum : ℕ) → sum < limit → AreTouched (slice_set sums j sum) new →
-    IsAccumulator p limit (slice_set sums j sum) new
-accumulator_set {p} {limit} {sums} {marks} {new} a j sum small touched = record {
+pub limited_set : {p limit : ℕ} {sums : List ℕ} → AreLimited p limit sums → (j sum : ℕ) → sum < limit → AreLimited p limit (slice_set sums j sum)
+limited_set {p} {limit} {sums} a j sum small = record {
   two_or_more = a.two_or_more;
   in_range = a.in_range;
   limit_is = a.limit_is;
@@ -115,16 +119,32 @@ accumulator_set {p} {limit} {sums} {marks} {new} a j sum small touched = record 
         let is : slice_index (slice_set sums j sum) k ≡ slice_index sums k = get_or-set_other sums j k sum 0 d in
         let low : slice_index sums k < limit = a.below k (omega (arith, length-set sums j sum)) in omega arith
   ];
-  touched = touched;
 }
 
+-- or taken away
+pub limited_zero : {p limit : ℕ} {sums : List ℕ} → AreLimited p limit sums → (c : ℕ) → AreLimited p limit (slice_set sums c 0)
+limited_zero {p} {limit} {sums} a c = limited_set a c 0 (omega (arith, a.limit_is, a.two_or_more, limit_above p a.two_or_more))
+
+-- or added to
+pub limited_added : {p limit j v : ℕ} {sums next : List ℕ} → AreLimited p limit sums → AddsBelow limit j v sums next → AreLimited p limit next
+limited_added {p} {limit} {j} {v} {sums} {next} a b = subst (AreLimited p limit) (sym b.after) (limited_set a j b.sum b.below)
+
+-- as the sums stand in their Vec
+pub added_in : {Z : Type 0} {limit j v : ℕ} {lent next : List ℕ} (sums : Vec ℕ Z) → lent ≡ sums.items → AddsBelow limit j v lent next → AddsBelow limit j v sums.items (with_items sums next).items
+added_in {Z} {limit} {j} {v} {lent} {next} sums e a =
+    let below : AddsBelow limit j v sums.items next = subst (λ xs. AddsBelow limit j v xs next) e a in
+    subst (AddsBelow limit j v sums.items) (sym (with_items_is sums next (omega (arith, ap length below.after, length-set sums.items j below.sum, sums.ok.0)))) below
+
 -- an entry is added at a column that was touched, or is touched now
-pub accumulator_added : {p limit : ℕ} {sums marks new : List ℕ} → IsAccumulator p limit sums marks → (j old sum : ℕ) → j < length sums → sum < limit → old ≡ slice_index sums j →
-    ((old ≡ 0) × (new ≡ slice_set marks j 1)) ⊎ ((old ≢ 0) × (new ≡ marks)) → IsAccumulator p limit (slice_set sums j sum) new
-accumulator_added {p} {limit} {sums} {marks} {new} a j old sum l small e marked = accumulator_set a j sum small (elim marked [
-  | inl m ↦ let t = touched_mark a.touched j l in subst (AreTouched (slice_set sums j sum)) (sym m.1) (touched_set t.0 j sum l t.1)
-  | inr m ↦ subst (AreTouched (slice_set sums j sum)) (sym m.1) (touched_set a.touched j sum l (a.touched.covers j l (λ z. m.0 (e ∙ z))))
-])
+pub accumulator_added : {p limit j v : ℕ} {sums marks next new : List ℕ} → IsAccumulator p limit sums marks → j < length sums → AddsBelow limit j v sums next →
+    (new ≡ slice_set marks j 1) ⊎ ((slice_index sums j ≢ 0) × (new ≡ marks)) → IsAccumulator p limit next new
+accumulator_added {p} {limit} {j} {v} {sums} {marks} {next} {new} a l b marked = record {
+  limited = limited_added a.limited b;
+  touched = subst (λ s. AreTouched s new) (sym b.after) (elim marked [
+    | inl e ↦ let t = touched_mark a.touched j l in subst (AreTouched (slice_set sums j b.sum)) (sym e) (touched_set t.0 j b.sum l t.1)
+    | inr m ↦ subst (AreTouched (slice_set sums j b.sum)) (sym m.1) (touched_set a.touched j b.sum l (a.touched.covers j l m.0))
+  ]);
+}
 
 -- the first sum that is not 0 modulo p is taken
 pub first_taken : {sums new : List ℕ} {c : ℕ} (p v : ℕ) → 0 < p → IsTop sums new c → v ≡ slice_index sums c % p → v ≢ 0 →
@@ -138,43 +158,45 @@ first_taken {sums} {new} {c} p v pos top e some = record {
 }
 
 -- one that is 0 modulo p is left out
-pub first_skipped : {sums new : List ℕ} {c : ℕ} (p v : ℕ) → 0 < p → IsTop sums new c → v ≡ slice_index sums c % p → v ≡ 0 → residues_of p (slice_set sums c 0) ≡ residues_of p sums
-first_skipped {sums} {new} {c} p v pos top e none = map-set_same (λ s. s % p) sums c 0 0 (mod-eq_of_lt pos ∙ sym none ∙ e)
+pub skipped : (sums : List ℕ) (c p v : ℕ) → 0 < p → v ≡ slice_index sums c % p → v ≡ 0 → residues_of p (slice_set sums c 0) ≡ residues_of p sums
+skipped sums c p v pos e none = map-set_same (λ s. s % p) sums c 0 0 (mod-eq_of_lt pos ∙ sym none ∙ e)
 
 -- and is 0 then
 pub accumulator_zero : {p limit : ℕ} {sums marks new : List ℕ} → IsAccumulator p limit sums marks → (c : ℕ) → AreTouched (slice_set sums c 0) new → IsAccumulator p limit (slice_set sums c 0) new
-accumulator_zero {p} {limit} {sums} {marks} {new} a c touched = accumulator_set a c 0 (omega (arith, a.limit_is, a.two_or_more, limit_above p a.two_or_more)) touched
+accumulator_zero {p} {limit} {sums} {marks} {new} a c touched = record { limited = limited_zero a.limited c; touched = touched }
 
--- where nothing is marked all residues are 0
-pub residues_none : {p limit : ℕ} {sums marks : List ℕ} → IsAccumulator p limit sums marks → AllZero marks → AllZero (residues_of p sums)
-residues_none {p} {limit} {sums} {marks} a none = λ j l.
+-- where all sums are 0 the residues are
+pub residues_none : {p limit : ℕ} {sums : List ℕ} → AreLimited p limit sums → AllZero sums → AllZero (residues_of p sums)
+residues_none {p} {limit} {sums} a none = λ j l.
     let inside : j < length sums = omega (arith, residues_length p sums) in
-    residue_at p sums j inside ∙ ap (λ x. x % p) (untouched a.touched none j inside) ∙ mod-eq_of_lt (omega (arith, a.two_or_more))
+    residue_at p sums j inside ∙ ap (λ x. x % p) (none j inside) ∙ mod-eq_of_lt (omega (arith, a.two_or_more))
 
-pub cleared : {p limit : ℕ} {sums marks : List ℕ} (old : ResidueRow) → IsAccumulator p limit sums marks → AllZero marks → p ≡ old.modulus → length sums ≡ length old.row →
+-- and they are the zero row
+pub cleared : {p limit : ℕ} {sums : List ℕ} (old : ResidueRow) → AreLimited p limit sums → AllZero sums → p ≡ old.modulus → length sums ≡ length old.row →
     as_row p (residues_of p sums) ≡ as_row old.modulus (zeros (length old.row))
-cleared {p} {limit} {sums} {marks} old a none e long =
-    ap (as_row p) (residues_zero p (length old.row) sums (omega (arith, a.two_or_more)) long (untouched a.touched none))
-    ∙ ap (λ q. as_row q (zeros (length old.row))) e
+cleared {p} {limit} {sums} old a none e long =
+    ap (as_row p) (residues_zero p (length old.row) sums (omega (arith, a.two_or_more)) long none) ∙ ap (λ q. as_row q (zeros (length old.row))) e
 
 -- new sums are 0
-pub new_accumulator : (p n : ℕ) (sums marks : List ℕ) → 2 ≤ p → p < 281474976710656 → sums ≡ replicate n 0 → length marks ≡ n → IsAccumulator p (limit_of p) sums marks
-new_accumulator p n sums marks two high e long = record {
+pub new_zero : (n : ℕ) (sums : List ℕ) → sums ≡ replicate n 0 → (length sums ≡ n) × AllZero sums
+new_zero n sums e = (long, λ j l. ap (λ xs. slice_index xs j) e ∙ get_or-replicate n j 0 0 (omega (arith, long)))
+  where
+    long : length sums ≡ n
+    long = ap length e ∙ length-replicate {A = ℕ} n 0
+
+pub new_limited : (p n : ℕ) (sums : List ℕ) → 2 ≤ p → p < 281474976710656 → sums ≡ replicate n 0 → AreLimited p (limit_of p) sums
+new_limited p n sums two high e = record {
   two_or_more = two;
   in_range = high;
   limit_is = refl;
-  below = λ j l. let z : slice_index sums j ≡ 0 = zero j l in let some : p ≤ limit_of p = limit_above p two in omega arith;
-  touched = record { long = long ∙ sym is_long; covers = λ j l d. absurd (d (zero j l)) };
+  below = λ j l. let z : slice_index sums j ≡ 0 = (new_zero n sums e).1 j l in let some : p ≤ limit_of p = limit_above p two in omega arith;
 }
-  where
-    is_long : length sums ≡ n
-    is_long = ap length e ∙ length-replicate {A = ℕ} n 0
 
-    zero : (j : ℕ) → j < length sums → slice_index sums j ≡ 0
-    zero j l = ap (λ xs. slice_index xs j) e ∙ get_or-replicate n j 0 0 (omega (arith, is_long))
+pub new_accumulator : (p n : ℕ) (sums marks : List ℕ) → 2 ≤ p → p < 281474976710656 → sums ≡ replicate n 0 → length marks ≡ n → IsAccumulator p (limit_of p) sums marks
+new_accumulator p n sums marks two high e long = record {
+  limited = new_limited p n sums two high e;
+  touched = record { long = long ∙ sym (new_zero n sums e).0; covers = λ j l d. absurd (d ((new_zero n sums e).1 j l)) };
+}
 
 pub new_residues : (p n : ℕ) (sums : List ℕ) → 2 ≤ p → sums ≡ replicate n 0 → as_row p (residues_of p sums) ≡ as_row p (zeros n)
-new_residues p n sums two e = ap (as_row p) (residues_zero p n sums (omega arith) is_long (λ j l. ap (λ xs. slice_index xs j) e ∙ get_or-replicate n j 0 0 (omega (arith, is_long))))
-  where
-    is_long : length sums ≡ n
-    is_long = ap length e ∙ length-replicate {A = ℕ} n 0
+new_residues p n sums two e = let new = new_zero n sums e in ap (as_row p) (residues_zero p n sums (omega arith) new.0 new.1)

@@ -1,42 +1,26 @@
 -- Sums with a list of the columns touched, and what is gathered of them in any order.
-use Rattle.std.proofs.Common.{ℕ, zero, suc, ◌≡◌, ◌≢◌, ◌<◌, ◌⊎◌, List, [], ◌∷◌, ◌++◌, length, replicate, slice_index, slice_set, inl, inr, sym, refl, ap, subst, ◌∙◌, arith}
+use Rattle.std.proofs.Common.{ℕ, ◌≡◌, ◌≢◌, ◌+◌, ◌*◌, ◌%◌, ◌<◌, ◌≤◌, ◌⊎◌, List, [], ◌∷◌, ◌++◌, length, replicate, slice_index, slice_set, take, inl, inr, sym, refl, ap, subst, ◌∙◌, arith, mod-eq_of_lt}
 use Rattle.std.specs.List.{Contains}
 use Rattle.std.proofs.lemmas.Bool.{cases_eq}
-use Rattle.std.proofs.lemmas.List.{get_or_append_left, get_or_push, get_or-replicate, get_or-set_other, get_or-set_same, length-replicate, length-set, length_push}
+use Rattle.std.proofs.lemmas.List.{get_or_append_left, get_or_push, get_or-set_other, get_or-set_same, length-set, length_push, take-set, take_more_set}
 use Rattle.std.proofs.lemmas.List.Elements.{Contains-append_cases, Contains-append_left, Contains-append_right}
-use Rattle.residue_words.specs.Matrix.{zeros}
 use Rattle.residue_words.proofs.Lists.{contains_at, place_in}
-use Rattle.residue_words.proofs.Vectors.{at_zeros, list_equal}
+use Rattle.residue_words.proofs.Vectors.{list_equal}
 use Rattle.sparse_rows.specs.ColumnSet.{AllZero}
+use Rattle.sparse_rows.specs.Rows.{ResidueRow}
 use Rattle.sparse_rows.specs.Stored.{entry_at, spread}
-use Rattle.sparse_rows.proofs.Loops.{length_zeros}
+use Rattle.sparse_rows.proofs.Adding.{IsAddingTo, adding_none}
 use Rattle.sparse_rows.proofs.Spread.{at_spread, entry_cover, length_spread}
-use Rattle.triangular_solve.specs.Scattered.{IsScattered, IsTouched, TakesSome}
-use Rattle.triangular_solve.proofs.Scattered.{entry_listed}
+use Rattle.triangular_solve.specs.Accumulator.{AddsBelow, AreLimited, limit_of, residues_of}
+use Rattle.triangular_solve.specs.Scattered.{IsScattered, IsTouched}
+use Rattle.triangular_solve.proofs.Accumulating.{added, as_row, limited_set, limited_zero, new_limited, new_zero, residue_at, residues_length, residues_set, residues_vector, skipped}
+use Rattle.triangular_solve.proofs.Scattered.{entry_listed, scattered_step}
 
--- how many items are not 0
-unfoldable pub filled : List ℕ → ℕ
-filled [] = 0
-filled (zero ∷ xs) = filled xs
-filled (suc x ∷ xs) = suc (filled xs)
-
-pub filled_falls : (xs : List ℕ) (j : ℕ) → j < length xs → slice_index xs j ≢ 0 → filled (slice_set xs j 0) < filled xs
-unfolding filled
-filled_falls [] j l d = absurd (omega arith)
-filled_falls (zero ∷ xs) zero l d = absurd (d refl)
-filled_falls (suc x ∷ xs) zero l d = omega arith
-filled_falls (zero ∷ xs) (suc j) l d = filled_falls xs j (omega arith) d
-filled_falls (suc x ∷ xs) (suc j) l d = let less : filled (slice_set xs j 0) < filled xs = filled_falls xs j (omega arith) d in omega arith
-
--- a residue is set at a column that is touched already or now
-pub touched_set : {p : ℕ} {sums touched next : List ℕ} → IsTouched p sums touched → (j v : ℕ) → j < length sums → v < p →
-    ((next ≡ touched) × (slice_index sums j ≢ 0)) ⊎ (next ≡ touched ++ j ∷ []) → IsTouched p (slice_set sums j v) next
-touched_set {p} {sums} {touched} {next} s j v l small way = record {
-  two_or_more = s.two_or_more;
-  residues = λ i li. elim (cases_eq i j) [
-    | inl same ↦ omega (arith, ap (slice_index (slice_set sums j v)) same, get_or-set_same sums j v 0 l)
-    | inr d ↦ omega (arith, get_or-set_other sums j i v 0 d, s.residues i (omega (arith, length-set sums j v)))
-  ];
+-- a sum below the limit is set at a column that is touched already or now
+touched_set : {p limit : ℕ} {sums touched next : List ℕ} → IsTouched p limit sums touched → (j v : ℕ) → j < length sums → v < limit →
+    ((next ≡ touched) × (slice_index sums j ≢ 0)) ⊎ (next ≡ touched ++ j ∷ []) → IsTouched p limit (slice_set sums j v) next
+touched_set {p} {limit} {sums} {touched} {next} s j v l small way = record {
+  limited = limited_set s.limited j v small;
   below = λ t lt. elim way [
     | inl (e, d) ↦ omega (arith, length-set sums j v, ap (λ xs. slice_index xs t) e, s.below t (omega (arith, ap length e)))
     | inr e ↦ elim (cases_eq t (length touched)) [
@@ -60,41 +44,80 @@ touched_set {p} {sums} {touched} {next} s j v l small way = record {
   ];
 }
 
+-- an entry is added
+pub touched_added : {p limit j v : ℕ} {sums next touched columns : List ℕ} → IsTouched p limit sums touched → j < length sums → AddsBelow limit j v sums next →
+    ((columns ≡ touched) × (slice_index sums j ≢ 0)) ⊎ (columns ≡ touched ++ j ∷ []) → IsTouched p limit next columns
+touched_added {p} {limit} {j} {v} {sums} {next} {touched} {columns} s l a way = subst (λ xs. IsTouched p limit xs columns) (sym a.after) (touched_set s j a.sum l a.below way)
+
 -- the column touched last
-pub touched_last : {p : ℕ} {sums all : List ℕ} {c : ℕ} (touched : List ℕ) → IsTouched p sums all → all ≡ touched ++ c ∷ [] → c < length sums
-touched_last {p} {sums} {all} {c} touched s e =
+pub touched_last : {p limit : ℕ} {sums all : List ℕ} {c : ℕ} (touched : List ℕ) → IsTouched p limit sums all → all ≡ touched ++ c ∷ [] → c < length sums
+touched_last {p} {limit} {sums} {all} {c} touched s e =
     let at : slice_index all (length touched) ≡ c = ap (λ xs. slice_index xs (length touched)) e ∙ get_or_push touched c 0 (length touched) refl in
     omega (arith, at, s.below (length touched) (omega (arith, ap length e, length_push touched c)))
 
--- its sum is 0 now
-pub touched_less : {p : ℕ} {sums all touched next : List ℕ} {c : ℕ} → IsTouched p sums all → all ≡ touched ++ c ∷ [] → length next ≡ length sums → slice_index next c ≡ 0 → ((i : ℕ) → i ≢ c → slice_index next i ≡ slice_index sums i) →
-    IsTouched p next touched
-touched_less {p} {sums} {all} {touched} {next} {c} s e long none same = record {
-  two_or_more = s.two_or_more;
-  residues = λ i l. elim (cases_eq i c) [
-    | inl is ↦ omega (arith, s.two_or_more, ap (slice_index next) is)
-    | inr d ↦ omega (arith, same i d, s.residues i (omega arith))
-  ];
-  below = λ t l. omega (arith, ap (λ xs. slice_index xs t) e, get_or_append_left touched (c ∷ []) 0 t l, s.below t (omega (arith, ap length e, length_push touched c)));
+-- its sum is taken away
+pub touched_less : {p limit : ℕ} {sums all : List ℕ} (c : ℕ) (touched : List ℕ) → IsTouched p limit sums all → all ≡ touched ++ c ∷ [] → IsTouched p limit (slice_set sums c 0) touched
+touched_less {p} {limit} {sums} {all} c touched s e = record {
+  limited = limited_zero s.limited c;
+  below = λ t l. omega (arith, length-set sums c 0, ap (λ xs. slice_index xs t) e, get_or_append_left touched (c ∷ []) 0 t l, s.below t (omega (arith, ap length e, length_push touched c)));
   covers = λ i l d. elim (cases_eq i c) [
-    | inl is ↦ absurd (d (ap (slice_index next) is ∙ none))
+    | inl is ↦ absurd (d (ap (slice_index (slice_set sums c 0)) is ∙ get_or-set_same sums c 0 0 (touched_last touched s e)))
     | inr dc ↦
-        elim (Contains-append_cases touched (c ∷ []) i (subst (λ xs. Contains xs i) e (s.covers i (omega arith) (λ z. d (same i dc ∙ z))))) [
+        elim (Contains-append_cases touched (c ∷ []) i (subst (λ xs. Contains xs i) e (s.covers i (omega (arith, length-set sums c 0)) (λ z. d (get_or-set_other sums c i 0 0 dc ∙ z))))) [
           | inl has ↦ has
           | inr is ↦ let t = place_in (c ∷ []) i is in absurd (dc (sym t.2 ∙ ap (slice_index (c ∷ [])) (let z : t.0 ≡ 0 = omega (arith, t.1) in z)))
         ]
   ];
 }
 
--- it is taken away
-pub takes_last : {p : ℕ} {sums all : List ℕ} {c v : ℕ} (touched : List ℕ) → IsTouched p sums all → all ≡ touched ++ c ∷ [] → v ≡ slice_index sums c → v ≢ 0 → TakesSome p sums (slice_set sums c 0) c v
-takes_last {p} {sums} {all} {c} {v} touched s e is d =
-    let inside : c < length sums = touched_last touched s e in
-    record { inside = inside; value = is; nonzero = d; residue = omega (arith, s.residues c inside); after = refl }
-
 -- no column is touched
-pub touched_none : {p : ℕ} {sums : List ℕ} → IsTouched p sums [] → AllZero sums
-touched_none {p} {sums} s j l = elim (cases_eq (slice_index sums j) 0) [ inl z ↦ z | inr d ↦ let t = place_in [] j (s.covers j l d) in absurd (omega (arith, t.1)) ]
+pub touched_none : {p limit : ℕ} {sums touched : List ℕ} → IsTouched p limit sums touched → length touched ≡ 0 → AllZero sums
+touched_none {p} {limit} {sums} {touched} s e j l =
+    elim (cases_eq (slice_index sums j) 0) [ inl z ↦ z | inr d ↦ let t = place_in touched j (s.covers j l d) in absurd (omega (arith, t.1)) ]
+
+-- as of new sums
+pub new_touched : (p n : ℕ) (sums : List ℕ) → 2 ≤ p → p < 281474976710656 → sums ≡ replicate n 0 → IsTouched p (limit_of p) sums []
+new_touched p n sums two high e = record {
+  limited = new_limited p n sums two high e;
+  below = λ t l. absurd (omega arith);
+  covers = λ j l d. absurd (d ((new_zero n sums e).1 j l));
+}
+
+-- a multiple of a row is added entry by entry: at first nothing is
+pub adding_begins : {p by : ℕ} {cols vals : List ℕ} {old : ResidueRow} (sums : List ℕ) → 0 < p → as_row p (residues_of p sums) ≡ old → IsAddingTo by cols vals 0 old (as_row p (residues_of p sums))
+adding_begins {p} {by} {cols} {vals} {old} sums pos e = subst (λ r. IsAddingTo by cols vals 0 r (as_row p (residues_of p sums))) e (record {
+  modulus = refl;
+  positive = pos;
+  vector = residues_vector p sums pos;
+  adding = adding_none (residues_vector p sums pos);
+})
+
+-- the column of the next entry
+pub adding_inside : {p by k : ℕ} {cols vals : List ℕ} {old : ResidueRow} (sums : List ℕ) → IsScattered old.modulus (length old.row) cols vals → IsAddingTo by cols vals k old (as_row p (residues_of p sums)) → k < length cols →
+    slice_index cols k < length sums
+adding_inside {p} {by} {k} {cols} {vals} {old} sums row a l = omega (arith, row.below k l, a.adding.len, residues_length p sums)
+
+-- which is added
+pub adding_goes : {p limit by k v : ℕ} {cols vals sums next : List ℕ} {old : ResidueRow} → IsScattered old.modulus (length old.row) cols vals → IsAddingTo by cols vals k old (as_row p (residues_of p sums)) → k < length cols →
+    AreLimited p limit sums → v % old.modulus ≡ (by * slice_index vals k) % old.modulus → AddsBelow limit (slice_index cols k) v sums next → IsAddingTo by cols vals (k + 1) old (as_row p (residues_of p next))
+adding_goes {p} {limit} {by} {k} {v} {cols} {vals} {sums} {next} {old} row a l limited e below = scattered_step row a l v e (added refl limited (adding_inside sums row a l) below)
+
+-- v, which is not 0, stands at c and is taken away
+record TakesSome (p : ℕ) (old new : List ℕ) (c v : ℕ) : Type 0 where
+  inside : c < length old
+  value : v ≡ slice_index old c
+  nonzero : v ≢ 0
+  residue : v < p
+  after : new ≡ slice_set old c 0
+
+takes_some : (sums : List ℕ) {p c v : ℕ} → 0 < p → c < length sums → v ≡ slice_index sums c % p → v ≢ 0 → TakesSome p (residues_of p sums) (residues_of p (slice_set sums c 0)) c v
+takes_some sums {p} {c} {v} pos inside is d = record {
+  inside = omega (arith, residues_length p sums);
+  value = is ∙ sym (residue_at p sums c inside);
+  nonzero = d;
+  residue = omega arith;
+  after = residues_set p sums c 0 0 (mod-eq_of_lt pos);
+}
 
 -- some of the entries were taken, each once
 pub record IsGathering (p : ℕ) (whole left cs vs : List ℕ) : Type 0 where
@@ -104,19 +127,19 @@ pub record IsGathering (p : ℕ) (whole left cs vs : List ℕ) : Type 0 where
   pub there : (t : ℕ) → t < length cs → slice_index whole (slice_index cs t) ≡ slice_index vs t
   pub others : (j : ℕ) → ((t : ℕ) → t < length cs → slice_index cs t ≢ j) → slice_index left j ≡ slice_index whole j
 
-pub gathering_none : {p : ℕ} {whole cs vs : List ℕ} → cs ≡ [] → vs ≡ [] → IsGathering p whole whole cs vs
-gathering_none {p} {whole} {cs} {vs} e f = record {
-  wide = refl;
+pub gathering_none : {p : ℕ} {whole left : List ℕ} → left ≡ whole → IsGathering p whole left [] []
+gathering_none {p} {whole} {left} e = record {
+  wide = ap length e;
   scattered = record {
-    long = omega (arith, ap length e, ap length f);
-    distinct = λ k t a l. absurd (omega (arith, ap length e));
-    below = λ k l. absurd (omega (arith, ap length e));
-    positive = λ k l. absurd (omega (arith, ap length f));
-    residues = λ k l. absurd (omega (arith, ap length f));
+    long = refl;
+    distinct = λ k t a l. absurd (omega arith);
+    below = λ k l. absurd (omega arith);
+    positive = λ k l. absurd (omega arith);
+    residues = λ k l. absurd (omega arith);
   };
-  gone = λ t l. absurd (omega (arith, ap length e));
-  there = λ t l. absurd (omega (arith, ap length e));
-  others = λ j none. refl;
+  gone = λ t l. absurd (omega arith);
+  there = λ t l. absurd (omega arith);
+  others = λ j none. ap (λ xs. slice_index xs j) e;
 }
 
 module _ {p : ℕ} {whole left next cs vs : List ℕ} {c v : ℕ} (g : IsGathering p whole left cs vs) (t : TakesSome p left next c v) where
@@ -141,7 +164,7 @@ module _ {p : ℕ} {whole left next cs vs : List ℕ} {c v : ℕ} (g : IsGatheri
   fresh : (k : ℕ) → k < length cs → slice_index cs k ≢ c
   fresh k l e = t.nonzero (t.value ∙ sym (ap (slice_index left) e) ∙ g.gone k l)
 
-  pub gathering_more : IsGathering p whole next (cs ++ c ∷ []) (vs ++ v ∷ [])
+  gathering_more : IsGathering p whole next (cs ++ c ∷ []) (vs ++ v ∷ [])
   gathering_more = record {
     wide = ap length t.after ∙ length-set left c 0 ∙ g.wide;
     scattered = record {
@@ -176,6 +199,15 @@ module _ {p : ℕ} {whole left next cs vs : List ℕ} {c v : ℕ} (g : IsGatheri
         ap (λ xs. slice_index xs j) t.after ∙ get_or-set_other left c j 0 0 apart ∙ g.others j (λ k l e. none k (omega (arith, length_push cs c)) (old k l ∙ e));
   }
 
+-- an entry is written behind those that were taken, and is one of them if it is not 0
+pub gathering_next : {p c v count more : ℕ} {whole : List ℕ} (sums cs vs : List ℕ) → 0 < p → IsGathering p whole (residues_of p sums) (take count cs) (take count vs) → c < length sums → v ≡ slice_index sums c % p →
+    count < length cs → count < length vs → (v ≢ 0 → more ≡ count + 1) → (v ≡ 0 → more ≡ count) →
+    IsGathering p whole (residues_of p (slice_set sums c 0)) (take more (slice_set cs count c)) (take more (slice_set vs count v))
+gathering_next {p} {c} {v} {count} {more} {whole} sums cs vs pos g inside is lc lv some none = elim (cases_eq v 0) [
+  | inl z ↦ rw (none z, skipped sums c p v pos is z, take-set cs count c, take-set vs count v) g
+  | inr d ↦ rw (some d, take_more_set cs count c lc, take_more_set vs count v lv) (gathering_more g (takes_some sums pos inside is d))
+]
+
 -- all of them were
 pub gathering_all : {p : ℕ} {whole left cs vs : List ℕ} → IsGathering p whole left cs vs → AllZero left → spread (length whole) cs vs ≡ whole
 gathering_all {p} {whole} {left} {cs} {vs} g none = list_equal (length whole) (spread (length whole) cs vs) whole (length_spread (length whole) cs vs) refl (λ j l.
@@ -188,13 +220,3 @@ gathering_all {p} {whole} {left} {cs} {vs} g none = list_equal (length whole) (s
           z ∙ sym (none j (omega (arith, g.wide))) ∙ g.others j away
       | inr (k, lk, e) ↦ ap (entry_at cs vs) (sym e) ∙ entry_listed cs vs g.scattered.long g.scattered.distinct k lk ∙ sym (g.there k lk) ∙ ap (slice_index whole) e
     ])
-
--- nothing is left
-pub all_zeros : {n : ℕ} {left : List ℕ} → length left ≡ n → AllZero left → left ≡ zeros n
-all_zeros {n} {left} e none = list_equal n left (zeros n) e (length_zeros n) (λ j l. none j (omega arith) ∙ sym (at_zeros n j l))
-
-pub zeros_copied : (n : ℕ) {left : List ℕ} → left ≡ replicate n 0 → left ≡ zeros n
-zeros_copied n {left} e = all_zeros long (λ j l. ap (λ xs. slice_index xs j) e ∙ get_or-replicate n j 0 0 (omega (arith, long)))
-  where
-    long : length left ≡ n
-    long = ap length e ∙ length-replicate {A = ℕ} n 0

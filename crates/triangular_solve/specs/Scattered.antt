@@ -1,7 +1,8 @@
 -- Rows by their nonzero entries, which stand in any order.
-use Rattle.std.specs.Prelude.{◌≡◌, ◌≢◌, ◌<◌, ◌≤◌, ◌+◌, ◌-◌, ℕ, List, length, slice_index, slice_set}
+use Rattle.std.specs.Prelude.{◌≡◌, ◌≢◌, ◌<◌, ◌≤◌, ◌+◌, ◌-◌, ℕ, List, length, slice_index}
 use Rattle.std.specs.List.{Contains}
 use Rattle.sparse_rows.specs.Stored.{part}
+use Rattle.triangular_solve.specs.Accumulator.{AreLimited}
 use Rattle.triangular_solve.specs.PivotRows.{HaveDistinctColumns}
 
 -- as many values as columns; the columns are distinct and below n, the values are positive and below p
@@ -22,17 +23,8 @@ pub record AreScattered (p n : ℕ) (starts cs vs : List ℕ) : Type 0 where
   pub long : length cs ≡ length vs
   pub each : (i : ℕ) → i + 1 < length starts → IsScattered p n (part starts cs i) (part starts vs i)
 
--- residues modulo p, of which each that is not 0 stands at a column that is touched
-pub record IsTouched (p : ℕ) (sums touched : List ℕ) : Type 0 where
-  pub two_or_more : 2 ≤ p
-  pub residues : (j : ℕ) → j < length sums → slice_index sums j < p
+-- sums below the limit, of which each that is not 0 stands at a column that is touched
+pub record IsTouched (p limit : ℕ) (sums touched : List ℕ) : Type 0 where
+  pub limited : AreLimited p limit sums
   pub below : (t : ℕ) → t < length touched → slice_index touched t < length sums
   pub covers : (j : ℕ) → j < length sums → slice_index sums j ≢ 0 → Contains touched j
-
--- v, which is not 0, stands at c and is taken away
-pub record TakesSome (p : ℕ) (old new : List ℕ) (c v : ℕ) : Type 0 where
-  pub inside : c < length old
-  pub value : v ≡ slice_index old c
-  pub nonzero : v ≢ 0
-  pub residue : v < p
-  pub after : new ≡ slice_set old c 0

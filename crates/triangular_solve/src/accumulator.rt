@@ -1,12 +1,12 @@
 // A dense row of sums, and where in it something may stand.
-ghost use Rattle.std.specs.Prelude.{◌≡◌, ◌<◌, ◌≤◌, ◌⊎◌, ◌+◌, ◌*◌, ◌/◌, ◌%◌, ◌^◌, length, slice_index, slice_set, IfOk, OnOk, IfSome, IfNone};
+ghost use Rattle.std.specs.Prelude.{◌≡◌, ◌<◌, ◌≤◌, ◌⊎◌, ◌+◌, ◌*◌, ◌/◌, ◌%◌, ◌^◌, length, slice_index, slice_set, IfOk, OnOk, IfSome, IfNone, IsTrue, ◌↔◌};
 ghost use Rattle.residue_words.specs.Matrix.{IsVector, zeros};
 ghost use Rattle.residue_words.specs.declared.shoup.TheConstants.{LANE_BOUND};
 ghost use Rattle.sparse_rows.specs.ColumnSet.{AllZero, TakesFirst};
 ghost use Rattle.sparse_rows.specs.Stored.{IsSparse};
 ghost use Rattle.sparse_rows.specs.Rows.{AddsAt, AddsMultiple};
 ghost use Rattle.sparse_rows.specs.declared.rows.TheConstants.{LARGEST_SIZE};
-ghost use Rattle.triangular_solve.specs.Accumulator.{limit_of};
+ghost use Rattle.triangular_solve.specs.Accumulator.{AddsBelow, limit_of};
 ghost use Rattle.triangular_solve.specs.PivotRows.{IsAlike};
 ghost use Rattle.triangular_solve.specs.Scattered.{IsScattered};
 
@@ -80,11 +80,9 @@ impl Accumulator {
         requires below { v < limit_of self.old.modulus }
         ensures { AddsAt j v self.old self.new }
     {
-        let sum = self.sums[j as usize];
-        if sum == 0 {
+        if add_below(&mut self.sums, j, v, self.limit) {
             self.touched.mark(j);
         }
-        self.sums[j as usize] = lowered(sum + v, self.limit);
     }
 
     // Adds a multiple of a row by its products: of a small p more than 2^30 of them make no sum reach the limit.
@@ -189,7 +187,7 @@ impl Accumulator {
 }
 
 // What sums modulo p are kept below: for a small p the greatest multiple of p up to 2^63, else p.
-fn limit(p: u64) -> u64
+pub(crate) fn limit(p: u64) -> u64
     requires { 2 ≤ p }
     ensures { result ≡ limit_of p }
 {
@@ -205,4 +203,18 @@ fn lowered(sum: u64, limit: u64) -> u64
     ensures same { (result ≡ sum) ⊎ (result + limit ≡ sum) }
 {
     sum.min(sum.wrapping_sub(limit))
+}
+
+// Adds v at column j to sums that are kept below the limit. The answer is whether the sum was 0.
+pub(crate) fn add_below(sums: &mut [u64], j: u32, v: u64, limit: u64) -> bool
+    requires column { j < length sums.old }
+    requires limit { limit ≤ 2 ^ 63 }
+    requires sum { slice_index sums.old j < limit }
+    requires value { v < limit }
+    ensures zero { IsTrue result ↔ slice_index sums.old j ≡ 0 }
+    ensures sums { AddsBelow limit j v sums.old sums.new }
+{
+    let sum = sums[j as usize];
+    sums[j as usize] = lowered(sum + v, limit);
+    sum == 0
 }

@@ -1,23 +1,19 @@
-use Rattle.std.proofs.Common.{◌≡◌, ◌<◌, ◌+◌, ◌⊎◌, ◌∙◌, length, slice_index, refl, ap, arith, subst}
-use Rattle.std.proofs.lemmas.List.{get_or_default}
-use Rattle.sparse_rows.specs.Rows.{ResidueRow}
-use Rattle.triangular_solve.specs.Accumulator.{limit_of}
-use Rattle.triangular_solve.proofs.Accumulating.{added, residues_length}
+use Rattle.std.proofs.Common.{◌∙◌, slice_index, inl, inr, refl, sym, ap}
+use Rattle.std.proofs.lemmas.Bool.{false≢true}
+use Rattle.triangular_solve.proofs.Accumulating.{accumulator_added, added, added_in, column_inside}
 use Rattle.triangular_solve.proofs.accumulator.Accumulator.add.Goals as goal
-use Rattle.triangular_solve.proofs.accumulator.Accumulator.add.Goals.{then-sum-eq0, else-sum-eq0}
 
-pub returns : goal.returns
-returns c =
-    let column : c.args.j < length c.self.inside.sums.items =
-    omega (arith, c.requires.column, ap (λ (r : ResidueRow). length r.row) c.self.view_is, residues_length c.self.inside.modulus c.self.inside.sums.items) in
-    let is_sum : c.index-sum.result.now ≡ slice_index c.self.inside.sums.items c.args.j = c.index-sum.ensures ∙ get_or_default c.self.inside.sums.items c.args.j _ 0 column in
-    elim c.if-sum-eq0.branch [
-      | then-sum-eq0 w ↦
-          let limit : c.if-sum-eq0.self-inside.limit ≡ limit_of c.self.inside.modulus = rw w.self-inside-is c.self.invariant.limit_is in
-          rw w.self-inside-is (added c.self.inside.sums.items c.args.j c.args.v c.index-sum.result.now c.lowered.result c.self.view_is column is_sum
-          (subst (λ m. (c.lowered.result ≡ c.index-sum.result.now + c.args.v) ⊎ (c.lowered.result + m ≡ c.index-sum.result.now + c.args.v)) limit c.lowered.ensures.same) refl)
-      | else-sum-eq0 w ↦
-          let limit : c.if-sum-eq0.self-inside.limit ≡ limit_of c.self.inside.modulus = rw w.self-inside-is c.self.invariant.limit_is in
-          rw w.self-inside-is (added c.self.inside.sums.items c.args.j c.args.v c.index-sum.result.now c.lowered.result c.self.view_is column is_sum
-          (subst (λ m. (c.lowered.result ≡ c.index-sum.result.now + c.args.v) ⊎ (c.lowered.result + m ≡ c.index-sum.result.now + c.args.v)) limit c.lowered.ensures.same) refl)
-    ]
+pub invariant_of-self : goal.invariant_of-self
+invariant_of-self c = accumulator_added c.self.invariant (column_inside c.self.inside.sums.items c.args.j c.self.view_is c.requires.column)
+    (added_in c.self.inside.sums c.deref_mut.ensures.value c.add_below.ensures.sums) (inl c.mark.ensures)
+
+pub invariant_of-self-else-add_below : goal.invariant_of-self-else-add_below
+invariant_of-self-else-add_below c = accumulator_added c.self.invariant (column_inside c.self.inside.sums.items c.args.j c.self.view_is c.requires.column)
+    (added_in c.self.inside.sums c.deref_mut.ensures.value c.add_below.ensures.sums)
+    (inr (λ z. false≢true (sym c.if-add_below.false ∙ c.add_below.ensures.zero.1 (ap (λ xs. slice_index xs c.args.j) c.deref_mut.ensures.value ∙ z)), refl))
+
+pub returns-then-add_below : goal.returns-then-add_below
+returns-then-add_below c = added c.self.view_is c.self.invariant.limited (column_inside c.self.inside.sums.items c.args.j c.self.view_is c.requires.column) (added_in c.self.inside.sums c.deref_mut.ensures.value c.add_below.ensures.sums)
+
+pub returns-else-add_below : goal.returns-else-add_below
+returns-else-add_below c = added c.self.view_is c.self.invariant.limited (column_inside c.self.inside.sums.items c.args.j c.self.view_is c.requires.column) (added_in c.self.inside.sums c.deref_mut.ensures.value c.add_below.ensures.sums)

@@ -17,7 +17,7 @@ pub add-requires-clause-below : goal.add-requires-clause-below
 add-requires-clause-below c =
     let modulus : c.self.inside.modulus ≡ c.args.self.now.modulus = ap (λ (r : ResidueRow). r.modulus) c.self.view_is in
     let small : c.mul.result < c.args.self.now.modulus = omega (arith, modulus, c.mul.ensures.residue) in
-    let high = limit_above c.args.self.now.modulus (omega (arith, modulus, c.self.invariant.two_or_more)) in
+    let high = limit_above c.args.self.now.modulus (omega (arith, modulus, c.self.invariant.limited.two_or_more)) in
     subst (λ p. c.mul.result < limit_of p) (sym c.loop-k.invariant.modulus) (omega arith)
 
 pub loop-k-preserved : goal.loop-k-preserved

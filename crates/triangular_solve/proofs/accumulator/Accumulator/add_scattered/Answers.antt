@@ -6,8 +6,8 @@ use Rattle.triangular_solve.proofs.accumulator.Accumulator.add_scattered.Goals a
 
 pub add_products-requires-clause-residues : goal.add_products-requires-clause-residues
 add_products-requires-clause-residues c =
-    subst (λ (r : ResidueRow). IsVector r.modulus (length r.row) r.row) c.self.view_is (residues_vector c.self.inside.modulus c.self.inside.sums.items (omega (arith, c.self.invariant.two_or_more)))
+    subst (λ (r : ResidueRow). IsVector r.modulus (length r.row) r.row) c.self.view_is (residues_vector c.self.inside.modulus c.self.inside.sums.items (omega (arith, c.self.invariant.limited.two_or_more)))
 
 pub add_residues-requires-clause-residues : goal.add_residues-requires-clause-residues
 add_residues-requires-clause-residues c =
-    subst (λ (r : ResidueRow). IsVector r.modulus (length r.row) r.row) c.self.view_is (residues_vector c.self.inside.modulus c.self.inside.sums.items (omega (arith, c.self.invariant.two_or_more)))
+    subst (λ (r : ResidueRow). IsVector r.modulus (length r.row) r.row) c.self.view_is (residues_vector c.self.inside.modulus c.self.inside.sums.items (omega (arith, c.self.invariant.limited.two_or_more)))

@@ -3,8 +3,8 @@ use Rattle.std.proofs.lemmas.List.{get_or_default}
 use Rattle.sparse_rows.specs.ColumnSet.{AllZero, TakesFirst}
 use Rattle.sparse_rows.specs.Rows.{ResidueRow}
 use Rattle.triangular_solve.specs.Accumulator.{residues_of}
-use Rattle.triangular_solve.proofs.Accumulating.{accumulator_zero, as_row, first_skipped, first_taken, residues_none}
-use Rattle.triangular_solve.proofs.Touched.{IsTop, taken_falls, touched_pop}
+use Rattle.triangular_solve.proofs.Accumulating.{accumulator_zero, as_row, first_taken, residues_none, skipped}
+use Rattle.triangular_solve.proofs.Touched.{IsTop, taken_falls, touched_pop, untouched}
 use Rattle.triangular_solve.proofs.accumulator.Accumulator.pop.Goals as goal
 
 pub returns-then-value-ne0-clause-some : goal.returns-then-value-ne0-clause-some
@@ -13,7 +13,7 @@ returns-then-value-ne0-clause-some c =
     let sums : List ℕ = c.loop-column.self-inside.sums.items in
     let top : IsTop sums c.pop.new.self c.in-Some.column = touched_pop c.loop-column.invariant.sound.touched c.in-Some.ensures.some in
     subst (λ r. TakesFirst r (residues_of p (slice_set sums c.in-Some.column 0)) c.in-Some.column c.residue-value.result) (ap (λ (r : ResidueRow). r.row) c.loop-column.invariant.same)
-    (first_taken p _ (omega (arith, c.loop-column.invariant.sound.two_or_more)) top (c.residue-value.ensures.value ∙ ap (λ x. x % p) (c.index.ensures ∙ get_or_default sums _ _ 0 top.inside)) c.if-value-ne0.true)
+    (first_taken p _ (omega (arith, c.loop-column.invariant.sound.limited.two_or_more)) top (c.residue-value.ensures.value ∙ ap (λ x. x % p) (c.index.ensures ∙ get_or_default sums _ _ 0 top.inside)) c.if-value-ne0.true)
 
 pub loop-column-smaller : goal.loop-column-smaller
 loop-column-smaller c = taken_falls c.in-Some.ensures.some
@@ -24,7 +24,7 @@ loop-column-preserved c =
     let sums : List ℕ = c.loop-column.self-inside.sums.items in
     let top : IsTop sums c.pop.new.self c.in-Some.column = touched_pop c.loop-column.invariant.sound.touched c.in-Some.ensures.some in
     record {
-      same = ap (as_row p) (first_skipped p _ (omega (arith, c.loop-column.invariant.sound.two_or_more)) top
+      same = ap (as_row p) (skipped sums _ p _ (omega (arith, c.loop-column.invariant.sound.limited.two_or_more))
           (c.residue-value.ensures.value ∙ ap (λ x. x % p) (c.index.ensures ∙ get_or_default sums _ _ 0 top.inside)) c.if-value-ne0.false) ∙ c.loop-column.invariant.same;
       sound = accumulator_zero c.loop-column.invariant.sound c.in-Some.column top.taken;
     }
@@ -32,5 +32,5 @@ loop-column-preserved c =
 pub returns-clause-none : goal.returns-clause-none
 returns-clause-none c = (
   c.loop-column.invariant.same,
-  subst (λ (r : ResidueRow). AllZero r.row) c.loop-column.invariant.same (residues_none c.loop-column.invariant.sound c.in_default.ensures.none.1),
+  subst (λ (r : ResidueRow). AllZero r.row) c.loop-column.invariant.same (residues_none c.loop-column.invariant.sound.limited (untouched c.loop-column.invariant.sound.touched c.in_default.ensures.none.1)),
 )

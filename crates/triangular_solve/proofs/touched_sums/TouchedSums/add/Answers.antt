@@ -1,21 +1,20 @@
-use Rattle.std.proofs.Common.{◌≡◌, ◌<◌, ◌∙◌, length, slice_index, inl, inr, refl, ap, arith}
-use Rattle.std.proofs.lemmas.List.{get_or_default}
-use Rattle.sparse_rows.specs.Rows.{ResidueRow}
-use Rattle.triangular_solve.proofs.Gathering.{touched_set}
+use Rattle.std.proofs.Common.{◌∙◌, [], ◌∷◌, ◌++◌, slice_index, inl, inr, sym, ap}
+use Rattle.std.proofs.lemmas.Bool.{false≢true}
+use Rattle.triangular_solve.proofs.Accumulating.{added, added_in, column_inside}
+use Rattle.triangular_solve.proofs.Gathering.{touched_added}
 use Rattle.triangular_solve.proofs.touched_sums.TouchedSums.add.Goals as goal
-use Rattle.triangular_solve.proofs.touched_sums.TouchedSums.add.Goals.{then-sum-eq0+in_ok-push, else-sum-eq0}
 
-pub invariant_of-self-2 : goal.invariant_of-self-2
-invariant_of-self-2 c =
-    let column : c.args.j < length c.self.inside.sums.items = omega (arith, c.requires.column, ap (λ (r : ResidueRow). length r.row) c.self.view_is) in
-    let is_sum : c.index-sum.result.now ≡ slice_index c.self.inside.sums.items c.args.j = c.index-sum.ensures ∙ get_or_default c.self.inside.sums.items c.args.j _ 0 column in
-    elim c.if-sum-eq0.branch [
-      | then-sum-eq0+in_ok-push w ↦
-          let same : c.if-sum-eq0.self-inside.modulus ≡ c.self.inside.modulus = rw w.self-inside-is refl in
-          let small : c.add.result < c.self.inside.modulus = omega (arith, c.add.ensures.residue, same) in
-          rw w.self-inside-is (touched_set c.self.invariant c.args.j c.add.result column small (inr w.in_ok-push.ensures.items))
-      | else-sum-eq0 w ↦
-          let same : c.if-sum-eq0.self-inside.modulus ≡ c.self.inside.modulus = rw w.self-inside-is refl in
-          let small : c.add.result < c.self.inside.modulus = omega (arith, c.add.ensures.residue, same) in
-          rw w.self-inside-is (touched_set c.self.invariant c.args.j c.add.result column small (inl (refl, λ z. w.if-sum-eq0.false (is_sum ∙ z))))
-    ]
+pub invariant_of-self-then-add_below : goal.invariant_of-self-then-add_below
+invariant_of-self-then-add_below c = touched_added c.self.invariant (column_inside c.self.inside.sums.items c.args.j c.self.view_is c.requires.column)
+    (added_in c.self.inside.sums c.deref_mut.ensures.value c.add_below.ensures.sums) (inr (c.push_reserved.ensures.items ∙ ap (λ xs. xs ++ c.args.j ∷ []) c.in_ok-reserve.ensures.items))
+
+pub invariant_of-self-else-add_below : goal.invariant_of-self-else-add_below
+invariant_of-self-else-add_below c = touched_added c.self.invariant (column_inside c.self.inside.sums.items c.args.j c.self.view_is c.requires.column)
+    (added_in c.self.inside.sums c.deref_mut.ensures.value c.add_below.ensures.sums)
+    (inl (c.in_ok-reserve.ensures.items, λ z. false≢true (sym c.if-add_below.false ∙ c.add_below.ensures.zero.1 (ap (λ xs. slice_index xs c.args.j) c.deref_mut.ensures.value ∙ z))))
+
+pub returns-then-add_below : goal.returns-then-add_below
+returns-then-add_below c = added c.self.view_is c.self.invariant.limited (column_inside c.self.inside.sums.items c.args.j c.self.view_is c.requires.column) (added_in c.self.inside.sums c.deref_mut.ensures.value c.add_below.ensures.sums)
+
+pub returns-else-add_below : goal.returns-else-add_below
+returns-else-add_below c = added c.self.view_is c.self.invariant.limited (column_inside c.self.inside.sums.items c.args.j c.self.view_is c.requires.column) (added_in c.self.inside.sums c.deref_mut.ensures.value c.add_below.ensures.sums)

@@ -1,0 +1,44 @@
+use Rattle.std.proofs.Common.{◌≡◌, ◌∙◌, ℕ, length, slice_index, inl, inr, refl, sym, ap, subst, arith}
+use Rattle.std.proofs.lemmas.Bool.{false≢true}
+use Rattle.sparse_rows.proofs.Adding.{IsAddingTo}
+use Rattle.triangular_solve.specs.Accumulator.{residues_of}
+use Rattle.triangular_solve.specs.Scattered.{IsTouched}
+use Rattle.triangular_solve.proofs.Accumulating.{added_in, as_row}
+use Rattle.triangular_solve.proofs.Gathering.{adding_begins, adding_goes, adding_inside, touched_added}
+use Rattle.triangular_solve.proofs.Scattered.{scattered_done}
+use Rattle.triangular_solve.proofs.touched_sums.TouchedSums.add_products.Goals as goal
+use Rattle.triangular_solve.proofs.touched_sums.TouchedSums.add_products.Goals.{then-add_below, else-add_below}
+
+pub loop-k-init : goal.loop-k-init
+loop-k-init c = record {
+  sound = subst (IsTouched c.self.inside.modulus c.self.inside.limit c.self.inside.sums.items) (sym c.in_ok-reserve.ensures.items) c.self.invariant;
+  adding = adding_begins c.self.inside.sums.items (omega (arith, c.self.invariant.limited.two_or_more)) c.self.view_is;
+  room = omega (arith, c.in_ok-reserve.ensures.ok);
+}
+
+pub loop-k-preserved : goal.loop-k-preserved
+loop-k-preserved c =
+    let inv = c.loop-k.invariant in
+    let inside = adding_inside c.loop-k.self-inside.sums.items c.requires.row inv.adding c.loop-k-test.true in
+    let below = added_in c.loop-k.self-inside.sums c.deref_mut.ensures.value c.add_below.ensures.sums in
+    let adding = adding_goes c.requires.row inv.adding c.loop-k-test.true inv.sound.limited refl below in
+    elim c.if-add_below.branch [
+      | then-add_below w ↦ rw w.self-inside-is record {
+        sound = touched_added inv.sound inside below (inr w.push_reserved.ensures.items);
+        adding = adding;
+        room = omega (arith, inv.room, c.loop-k-test.true, w.push_reserved.ensures.len, w.push_reserved.ensures.capacity);
+      }
+      | else-add_below w ↦ rw w.self-inside-is record {
+        sound = touched_added inv.sound inside below
+            (inl (refl, λ z. false≢true (sym w.if-add_below.false ∙ c.add_below.ensures.zero.1 (ap (λ xs. slice_index xs (slice_index c.args.cols.now c.loop-k.k)) c.deref_mut.ensures.value ∙ z))));
+        adding = adding;
+        room = omega (arith, inv.room, c.loop-k-test.true);
+      }
+    ]
+
+pub returns : goal.returns
+returns c =
+    let p : ℕ = c.loop-k.self-inside.modulus in
+    let all : c.loop-k.k ≡ length c.args.cols.now = omega (arith, c.loop-k-test.false, c.loop-k.auto.k-end) in
+    scattered_done c.requires.row
+    (subst (λ k. IsAddingTo c.args.by c.args.cols.now c.args.vals.now k c.args.self.now (as_row p (residues_of p c.loop-k.self-inside.sums.items))) all c.loop-k.invariant.adding)
