@@ -26,8 +26,8 @@ pub fn mean_left(alloc: Global, reducer: &RowReducer, samples: u32) -> Result<u6
     mean_of(alloc, reducer, &pivot_rows, samples)
 }
 
-// How many entries the pivots leave in all, by samples: a quarter more, so that room for so many is seldom too small; and no more
-// than `MOST`, whatever the samples say.
+// Room for the entries that the pivots leave in all: for twice as many as samples tell, so that it is seldom too small and what is left
+// isn't moved, while room that stays empty costs nothing; and for no more than `MOST`, whatever the samples say.
 pub(crate) fn total_left(
     alloc: Global,
     reducer: &RowReducer,
@@ -38,7 +38,7 @@ pub(crate) fn total_left(
     let mean = mean_of(alloc, reducer, pivot_rows, SAMPLES)?;
     let others = pivot_rows.len().saturating_sub(reducer.pairs().len()) as u64;
     let total = mean.saturating_add(1).saturating_mul(others);
-    Ok(total.saturating_add(total / 4).min(MOST))
+    Ok(total.saturating_mul(2).min(MOST))
 }
 
 // The mean where the pivots' rows are known.

@@ -23,8 +23,8 @@ use triangular_solve::Work;
 // How many parts a stage has for each worker, so that none waits long for the others at its end.
 const PARTS: usize = 8;
 
-// Where more entries than these are left, one worker joins those of a stage while the next one is made.
-const STAGE_ENTRIES: usize = 1 << 17;
+// Where there is room for more entries than these, one worker joins those of a stage while the next one is made.
+const STAGE_ENTRIES: usize = 1 << 18;
 
 // But there are no more stages than these.
 const MOST_STAGES: usize = 8;
@@ -32,7 +32,7 @@ const MOST_STAGES: usize = 8;
 // Parts that a worker makes, or that memory ran out for it.
 type Share = Result<Vec<NumberedPart>, AllocError>;
 
-// In how many stages rows are made that leave about so many entries.
+// In how many stages rows are made, where there is room for so many entries of theirs.
 fn stages(entries: usize) -> usize
     ensures some { 1 ≤ result }
     ensures few { result ≤ 8 }

@@ -62,7 +62,7 @@ fn time_rank<R: Threads + Sync + Clock + Print>(
     println!(rt; "{time} {rank}")
 }
 
-// Takes one round, and says how long that takes.
+// Takes one round, and says how long that takes. One worker finds its pivots, so that they are the same for every number of workers.
 fn time_round<R: Threads + Sync + Clock + Print>(
     rt: &R,
     alloc: Global,
@@ -73,7 +73,7 @@ fn time_round<R: Threads + Sync + Clock + Print>(
     requires few { workers ≤ 64 }
 {
     let start = Instant::now(rt)?;
-    let triangle = pivots(rt, alloc, rows, workers)?;
+    let triangle = pivots(rt, alloc, rows)?;
     let search = start.elapsed(rt)?.as_micros();
     let found = triangle.pairs().len();
     let (rest, elimination) = left(rt, alloc, &triangle, workers)?;
@@ -124,11 +124,7 @@ fn pivots<'a, R: Threads + Sync>(
     rt: &R,
     alloc: Global,
     rows: &'a Rows,
-    workers: u32,
-) -> Result<Triangle<'a>, AllocError>
-    requires some { 1 ≤ workers }
-    requires few { workers ≤ 64 }
-{
-    let (book, _steps) = search_counted(rt, alloc, leftmost(alloc, rows)?, workers, &Open)?;
+) -> Result<Triangle<'a>, AllocError> {
+    let (book, _steps) = search_counted(rt, alloc, leftmost(alloc, rows)?, 1, &Open)?;
     Triangle::of(alloc, &book)
 }

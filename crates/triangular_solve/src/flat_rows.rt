@@ -15,6 +15,13 @@ use crate::touched_sums::TouchedSums;
 use sparse_rows::Sparse;
 use std::alloc::{AllocError, Global};
 
+// Room for so many times the entries of the pivot rows is asked for at once, so that flat rows aren't moved as they become more. What
+// is never written costs nothing.
+const ROOM: u64 = 16;
+
+// But room for more entries than these isn't asked for at once: 192 MB.
+const MOST_ROOM: u64 = 1 << 24;
+
 // Pivot rows less multiples of those behind them and divided by their pivots, so that each is 1 at its own pivot and 0 at all others.
 // A row is reduced by them in one pass over its own entries. It takes 12 bytes an entry and 8 bytes a pivot.
 #[derive(Debug, Drop)]
@@ -35,7 +42,7 @@ impl FlatRows {
     ) -> Result<Option<FlatRows>, AllocError>
         ensures { IfOk result (λ r. IfSome r (AreAllFlat pivots.now)) }
     {
-        let mut flat = FlatRows::none(alloc, pivots)?;
+        let mut flat = FlatRows::none(alloc, pivots, most)?;
         if flat.append_all(alloc, pivots, most)? {
             Ok(Some(flat))
         } else {
@@ -43,14 +50,15 @@ impl FlatRows {
         }
     }
 
-    // No flat row, and room for those of all pivots.
-    fn none(alloc: Global, pivots: &PivotRows) -> Result<FlatRows, AllocError>
+    // No flat row, and room for those of all pivots, which are to have no more than so many entries.
+    fn none(alloc: Global, pivots: &PivotRows, most: u64) -> Result<FlatRows, AllocError>
         ensures flat { IfOk result (AreFlat pivots.now) }
         ensures height { IfOk result (λ flat. flat.tails.matrix.height ≡ 0) }
     {
         let rows = pivots.rows();
         let count = rows.height();
-        let tails = ScatteredRows::with_room(alloc, rows.modulus(), rows.width(), count)?;
+        let room = rows.entries().saturating_mul(ROOM).min(most).min(MOST_ROOM) as usize;
+        let tails = ScatteredRows::with_room(alloc, rows.modulus(), rows.width(), count, room)?;
         Ok(FlatRows { count, tails })
     }
 

@@ -35,12 +35,13 @@ impl Model for ScatteredRows {
 }
 
 impl ScatteredRows {
-    // The matrix with no row, and room for so many.
+    // The matrix with no row, and room for so many and for so many entries.
     pub(crate) fn with_room(
         alloc: Global,
         modulus: Modulus,
         width: u32,
         height: u32,
+        entries: usize,
     ) -> Result<ScatteredRows, AllocError>
         ensures modulus { IfOk result (λ rows. rows.modulus ≡ modulus) }
         ensures matrix { IfOk result (λ rows. rows.matrix ≡ record { height = 0; width = width; rows = [] }) }
@@ -53,8 +54,8 @@ impl ScatteredRows {
             modulus,
             width,
             starts,
-            cols: Vec::with_capacity(alloc, height as usize)?,
-            vals: Vec::with_capacity(alloc, height as usize)?,
+            cols: Vec::with_capacity(alloc, entries)?,
+            vals: Vec::with_capacity(alloc, entries)?,
         })
     }
 
