@@ -1,4 +1,5 @@
 // The calls of each crate against values from outside.
+mod added_rows;
 mod certificates_read;
 mod checks;
 mod dense_factors;
