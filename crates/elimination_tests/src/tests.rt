@@ -2,10 +2,12 @@
 mod added_rows;
 mod certificates_read;
 mod checks;
+mod complements;
 mod dense_factors;
 mod factors_by_rounds;
 mod forms;
 mod growth;
 mod leads;
+mod matrices;
 mod solutions;
 mod triangles;
