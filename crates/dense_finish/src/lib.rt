@@ -21,4 +21,4 @@ mod row_addition;
 pub use elimination::finish;
 pub use factors::Factors;
 pub use right_factor::{RightFactor, finish_right};
-pub use row_addition::{axpy, axpy_plainly};
+pub use row_addition::{axpy, axpy_narrow, axpy_plainly};

@@ -4,8 +4,7 @@ ghost use Rattle.residue_words.specs.Matrix.{list_of};
 ghost use Rattle.residue_words.specs.declared.shoup.TheConstants.{LANE_BOUND};
 ghost use Rattle.dense_finish.specs.Multiples.{plus_at};
 
-use crate::lane_addition::add_multiple_32;
-use crate::row_addition::axpy;
+use crate::row_addition::{axpy, axpy_narrow};
 use residue_words::Modulus;
 use std::marker::{Send, Sync};
 
@@ -72,6 +71,6 @@ impl Residue for u32 {
     }
 
     fn add_multiple(out: &mut [u32], a: u64, y: &[u32], p: &Modulus) {
-        add_multiple_32(out, a, y, p);
+        axpy_narrow(out, a, y, p);
     }
 }

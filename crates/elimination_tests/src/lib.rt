@@ -1,4 +1,5 @@
-//! Tests of the public calls that eliminate, and of certificates: rows by their leads, dense factors, forms, solutions, factors by rounds.
+//! Tests of the public calls that eliminate, and of certificates: rows added and kept by their leads, dense factors,
+//! what pivots leave, forms, solutions, factors by rounds.
 #![tactic(auto)]
 
 #[cfg(test)]

@@ -14,8 +14,6 @@ mod row_ranges;
 mod row_reducer;
 mod sampling;
 mod streamed;
-#[cfg(test)]
-mod tests;
 mod workers;
 
 ghost use Rattle.schur_rows.specs.Laws.{ComplementIsOne, RoundJoins, RoundRank, RoundSpans};
@@ -23,7 +21,7 @@ ghost use Rattle.schur_rows.specs.Laws.{ComplementIsOne, RoundJoins, RoundRank, 
 pub use round::{SchurRows, complement, schur};
 pub use row_reducer::RowReducer;
 pub use sampling::mean_left;
-pub use streamed::left_basis;
+pub use streamed::{ChunkSize, left_basis, left_basis_by};
 
 /// A matrix has at most one complement, for a prime modulus.
 pub fn complement_is_one()

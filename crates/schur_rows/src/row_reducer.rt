@@ -53,12 +53,12 @@ impl<'t, 'a> RowReducer<'t, 'a> {
         }
     }
 
-    // By flat rows, whatever they cost.
-    #[cfg(test)]
-    pub(crate) fn by_flat_rows(
-        alloc: Global,
-        triangle: &'t Triangle<'a>,
-    ) -> Result<Self, AllocError>
+    /// Reduces each row in one pass over its entries by flat rows, whatever they cost; [`RowReducer::of`] makes them where they are
+    /// cheaper than walks, and gives them up where they would fill up.
+    ///
+    /// Making them takes the time of their entries, times those of a pivot's row, and 12 bytes an entry. Nothing but memory bounds how
+    /// many these are: a flat row may have one in each column of the pivots' rows that is no pivot's. Want of memory is an error.
+    pub fn by_flat_rows(alloc: Global, triangle: &'t Triangle<'a>) -> Result<Self, AllocError>
         ensures { IfOk result (λ r. r ≡ triangle.now) }
     {
         let flat = FlatTriangle::of(alloc, triangle, u64::MAX)?;

@@ -17,11 +17,15 @@ use sparse_rows::Rows;
 use std::alloc::{AllocError, Global};
 use std::thread::Threads;
 
-// How many rows a chunk has: at least so many, and so many that its dense block has about so many places.
+/// How many rows a chunk has, of those that have an entry and are no pivot's. Any two numbers will do: they decide about time and
+/// memory alone.
 #[derive(Clone, Copy, Debug)]
-pub(crate) struct ChunkSize {
-    pub(crate) rows: u32,
-    pub(crate) places: u32,
+pub struct ChunkSize {
+    /// At least so many rows, where so many are left; 0 is as 1.
+    pub rows: u32,
+    /// As many rows as have about so many places in a dense block on the columns that are left, or up to eight times as many below a
+    /// basis of many rows.
+    pub places: u32,
 }
 
 // A block of 8 MB where the modulus is below 2^31.
@@ -65,11 +69,12 @@ pub fn left_basis<R: Threads + Sync>(
     requires few { workers ≤ 64 }
     ensures { IfOk result (IsBasisLeft reducer.now) }
 {
-    basis_by(rt, alloc, reducer, workers, CHUNK)
+    left_basis_by(rt, alloc, reducer, workers, CHUNK)
 }
 
-// The same by chunks of this size.
-pub(crate) fn basis_by<R: Threads + Sync>(
+/// The same by chunks of this size. Larger ones take more memory, 4 bytes a place where the modulus is below 2^31 and else 8, and
+/// eliminate the basis again less often.
+pub fn left_basis_by<R: Threads + Sync>(
     rt: &R,
     alloc: Global,
     reducer: &RowReducer,

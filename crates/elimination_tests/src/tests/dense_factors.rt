@@ -2,6 +2,7 @@
 ghost use Rattle.std.specs.Prelude.{◌≡◌, ◌≢◌, ◌<◌, ◌≤◌, IfOk};
 ghost use Rattle.sparse_rows.specs.declared.rows.TheConstants.{LARGEST_SIZE};
 
+use crate::tests::matrices::have_same_entries;
 use dense_finish::{Factors, finish};
 use residue_words::plain::Pair;
 use residue_words::{MODULUS_BOUND, Modulus};
@@ -86,12 +87,6 @@ fn assert_product(rt: &impl Abort, a: &Rows, f: &Factors) {
             );
         }
     }
-}
-
-// Whether two matrices have the same entries.
-fn have_same_entries(alloc: Global, a: &Rows, b: &Rows) -> Result<bool, AllocError> {
-    let (left, right) = (a.triples(alloc)?, b.triples(alloc)?);
-    Ok(left.as_slice() == right.as_slice())
 }
 
 // Whether two factorings are the same.

@@ -1,6 +1,7 @@
 // Matrices whose pivots are known from outside, and forms and ranks beside those of an elimination without rounds.
 ghost use Rattle.std.specs.Prelude.{◌<◌, ◌≤◌};
 
+use crate::tests::matrices::scattered;
 use echelon_form::Echelon;
 use optimistic_search::Open;
 use pivot_table::Pair;
@@ -121,24 +122,6 @@ fn agrees<R: Threads + Sync>(rt: &R, alloc: Global, rows: &Rows) -> Result<bool,
         }
     }
     Ok(true)
-}
-
-// The matrix modulo 7 with so many values for each row, at places that a generator scatters over the columns.
-fn scattered(alloc: Global, m: u32, n: u32, per: u32) -> Result<Rows, Fail>
-    requires { 0 < n }
-{
-    let mut triples = Vec::new(alloc);
-    let mut state: u32 = 1;
-    for i in 0..m {
-        for _ in 0..per {
-            state = state.wrapping_mul(1103515245).wrapping_add(12345);
-            triples.push((i, (state >> 8) % n, u64::from((state >> 4) % 7)))?;
-        }
-    }
-    match Rows::checked_from_triples(alloc, m, n, &Modulus::new(7), &triples)? {
-        Some(rows) => Ok(rows),
-        None => Err(Fail::new("a place is outside")),
-    }
 }
 
 // Heights, widths and values a row: more rows than the rank, full rank, a dense rest, a rest without one, and sizes where a row

@@ -3,8 +3,7 @@ ghost use Rattle.residue_words.specs.declared.modulus.TheConstants.{MODULUS_BOUN
 ghost use Rattle.residue_words.specs.declared.shoup.TheConstants.{LANE_BOUND};
 ghost use Rattle.std.specs.Prelude.{◌≡◌, ◌<◌, ◌≤◌, ℕ, length, slice_index};
 
-use crate::residue::Residue;
-use crate::row_addition::{axpy, axpy_plainly};
+use dense_finish::{axpy, axpy_narrow, axpy_plainly};
 use residue_words::{LANE_BOUND, MODULUS_BOUND, Modulus};
 use std::process::Abort;
 use std::test::Fail;
@@ -121,21 +120,6 @@ fn by_lanes(p: &Modulus, a: u64, length: usize) -> [u64; LONGEST]
     out
 }
 
-// The same with residues kept in 64 bits.
-fn in_64_bits(p: &Modulus, a: u64, length: usize) -> [u64; LONGEST]
-    requires factor { a < p.now }
-    requires short { length ≤ 40 }
-{
-    let mut out = [0u64; LONGEST];
-    let mut y = [0u64; LONGEST];
-    let row = &mut out[..length];
-    let y = &mut y[..length];
-    fill(row, 1, p.p());
-    fill(y, 2, p.p());
-    <u64 as Residue>::add_multiple(row, a, y, p);
-    out
-}
-
 // Residues of the generator, in 32 bits.
 fn fill_narrow(out: &mut [u32], seed: u64, p: u64)
     requires two_or_more { 2 ≤ p }
@@ -161,7 +145,7 @@ fn in_32_bits(p: &Modulus, a: u64, length: usize) -> [u64; LONGEST]
     let y = &mut y[..length];
     fill_narrow(row, 1, p.p());
     fill_narrow(y, 2, p.p());
-    <u32 as Residue>::add_multiple(row, a, y, p);
+    axpy_narrow(row, a, y, p);
     widened(&out)
 }
 
@@ -173,32 +157,29 @@ fn widened(row: &[u32; LONGEST]) -> [u64; LONGEST] {
     wide
 }
 
-// All ways agree on rows of one length.
-fn assert_all_ways_agree(rt: &impl Abort, p: u64, a: u64, length: usize)
+// Whether all ways agree on rows of one length.
+fn ways_agree(p: &Modulus, a: u64, length: usize) -> bool
+    requires factor { a < p.now }
+    requires short { length ≤ 40 }
+{
+    let sums = plainly(p, a, length);
+    if by_lanes(p, a, length) != sums {
+        return false;
+    }
+    p.p() >= LANE_BOUND || in_32_bits(p, a, length) == sums
+}
+
+// They agree modulo p, with two factors.
+fn assert_ways_agree(rt: &impl Abort, p: u64, length: usize)
     requires two_or_more { 2 ≤ p }
-    requires factor { a < p }
     requires in_range { p < MODULUS_BOUND }
     requires short { length ≤ 40 }
 {
     let modulus = Modulus::new(p);
-    let sums = plainly(&modulus, a, length);
-    assert_eq!(rt;
-        by_lanes(&modulus, a, length),
-        sums,
+    assert!(rt;
+        ways_agree(&modulus, p - 1, length) && ways_agree(&modulus, p / 2, length),
         "{length} entries modulo {p}"
     );
-    assert_eq!(rt;
-        in_64_bits(&modulus, a, length),
-        sums,
-        "{length} entries modulo {p}"
-    );
-    if p < LANE_BOUND {
-        assert_eq!(rt;
-            in_32_bits(&modulus, a, length),
-            sums,
-            "{length} entries modulo {p}"
-        );
-    }
 }
 
 #[test]
@@ -206,8 +187,7 @@ fn all_ways_agree(rt: HostRuntime) -> Result<(), Fail> {
     for p in MODULI {
         assert!(rt; 2 <= p && p < MODULUS_BOUND);
         for length in 0..=LONGEST {
-            assert_all_ways_agree(&rt, p, p - 1, length);
-            assert_all_ways_agree(&rt, p, p / 2, length);
+            assert_ways_agree(&rt, p, length);
         }
     }
     Ok(())

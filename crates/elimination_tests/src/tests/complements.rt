@@ -1,41 +1,15 @@
 // What the leftmost pivots leave of scattered matrices: by flat rows as by walks, and by chunks as at once.
 ghost use Rattle.std.specs.Prelude.{◌<◌, ◌≤◌};
 
-use crate::complement;
-use crate::row_reducer::RowReducer;
-use crate::streamed::{ChunkSize, basis_by};
+use crate::tests::matrices::{have_same_entries, scattered};
 use dense_finish::finish;
 use fl_pivots::leftmost;
-use residue_words::Modulus;
+use schur_rows::{ChunkSize, RowReducer, complement, left_basis_by};
 use sparse_rows::Rows;
 use std::alloc::{AllocError, Global};
 use std::test::Fail;
 use std::thread::Threads;
 use triangular_solve::Triangle;
-
-// The matrix modulo 7 with so many values for each row, at places that a generator scatters over the columns.
-fn scattered(alloc: Global, m: u32, n: u32, per: u32) -> Result<Rows, Fail>
-    requires { 0 < n }
-{
-    let mut triples = Vec::new(alloc);
-    let mut state: u32 = 1;
-    for i in 0..m {
-        for _ in 0..per {
-            state = state.wrapping_mul(1103515245).wrapping_add(12345);
-            triples.push((i, (state >> 8) % n, u64::from((state >> 4) % 7)))?;
-        }
-    }
-    match Rows::checked_from_triples(alloc, m, n, &Modulus::new(7), &triples)? {
-        Some(rows) => Ok(rows),
-        None => Err(Fail::new("a place is outside")),
-    }
-}
-
-// Whether two matrices have the same entries.
-fn are_same(alloc: Global, a: &Rows, b: &Rows) -> Result<bool, AllocError> {
-    let (left, right) = (a.triples(alloc)?, b.triples(alloc)?);
-    Ok(left.as_slice() == right.as_slice())
-}
 
 // Whether what so many workers leave by this reducer is known.
 fn leaves<R: Threads + Sync>(
@@ -49,7 +23,7 @@ fn leaves<R: Threads + Sync>(
     requires few { workers ≤ 64 }
 {
     let left = complement(rt, alloc, reducer, workers)?;
-    are_same(alloc, &left, known)
+    have_same_entries(alloc, &left, known)
 }
 
 // Whether chunks of so many rows give a basis of so many.
@@ -65,7 +39,7 @@ fn has_basis<R: Threads + Sync>(
     requires few { workers ≤ 64 }
 {
     let size = ChunkSize { rows, places: 1 };
-    let basis = basis_by(rt, alloc, reducer, workers, size)?;
+    let basis = left_basis_by(rt, alloc, reducer, workers, size)?;
     Ok(basis.height() as usize == rank)
 }
 
