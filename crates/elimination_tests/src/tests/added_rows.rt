@@ -48,12 +48,13 @@ fn assert_residues(rt: &impl Abort, row: &[u64], p: u64)
 
 #[test]
 fn sums_agree_with_values_from_outside(rt: HostRuntime) -> Result<(), Fail> {
-    for (p, a, mut out, y, sums) in SUMS {
-        assert!(rt; 2 <= p && p < MODULUS_BOUND && a < p);
-        assert_residues(&rt, &out, p);
-        assert_residues(&rt, &y, p);
-        axpy(&mut out, a, &y, &Modulus::new(p));
-        assert_eq!(rt; out, sums, "modulo {p}");
+    for (p, a, first, y, sums) in &SUMS {
+        assert!(rt; 2 <= *p && *p < MODULUS_BOUND && *a < *p);
+        let mut out = *first;
+        assert_residues(&rt, &out, *p);
+        assert_residues(&rt, y, *p);
+        axpy(&mut out, *a, y, &Modulus::new(*p));
+        assert_eq!(rt; out, *sums, "modulo {p}");
     }
     Ok(())
 }
@@ -184,10 +185,10 @@ fn assert_ways_agree(rt: &impl Abort, p: u64, length: usize)
 
 #[test]
 fn all_ways_agree(rt: HostRuntime) -> Result<(), Fail> {
-    for p in MODULI {
-        assert!(rt; 2 <= p && p < MODULUS_BOUND);
+    for p in &MODULI {
+        assert!(rt; 2 <= *p && *p < MODULUS_BOUND);
         for length in 0..=LONGEST {
-            assert_ways_agree(&rt, p, length);
+            assert_ways_agree(&rt, *p, length);
         }
     }
     Ok(())

@@ -7,6 +7,7 @@ use certificates::{Certificate, read, write};
 use residue_words::Modulus;
 use sms_text::{Kind, MemorySink, Reader, SteadySource, TextError, read_rows};
 use std::alloc::Global;
+use std::process::Abort;
 use std::test::Fail;
 
 // The matrix of rows (2,4,1), (1,2,0) and (3,6,1) modulo 7, in ten lines.
@@ -178,22 +179,82 @@ fn written(
     Ok((held.len(), outcome.is_ok()))
 }
 
+// Whether all of a certificate is written as these pieces.
+fn is_written(alloc: Global, certificate: &Certificate, pieces: [&[u8]; 3]) -> Result<bool, Fail>
+    requires formed { IsFormed 7 certificate.now }
+    requires fits { HasText (certificate_of certificate.now) }
+{
+    let (_, whole) = written(alloc, certificate, pieces, &[])?;
+    Ok(whole)
+}
+
+// Whether these pieces are read and written again, or have their first fault in this line, 0 for none.
+fn is_as_known(
+    alloc: Global,
+    pieces: [&[u8]; 3],
+    at_once: usize,
+    line: u64,
+    kind: Kind,
+) -> Result<bool, Fail>
+    requires { 0 < at_once }
+{
+    match read_behind(alloc, pieces, at_once)? {
+        Ok(certificate) => Ok(line == 0 && is_written(alloc, &certificate, pieces)?),
+        Err(error) => Ok(error == TextError::Bad { line, kind }),
+    }
+}
+
+// All texts are as known where so many bytes are read at once.
+fn assert_known(rt: &impl Abort, alloc: Global, at_once: usize) -> Result<(), Fail>
+    requires { 0 < at_once }
+{
+    for (head, factors, extra, line, kind) in &TEXTS {
+        let pieces = [*head, *factors, *extra];
+        let known = is_as_known(alloc, pieces, at_once, *line, *kind)?;
+        assert!(rt; known, "line {line}");
+    }
+    Ok(())
+}
+
 #[test]
 fn certificates_are_read_and_written_or_their_first_fault_is_named(
     rt: HostRuntime,
 ) -> Result<(), Fail> {
-    for at_once in [1, 100] {
-        for (head, factors, extra, line, kind) in TEXTS {
-            let pieces = [head, factors, extra];
-            match read_behind(rt.alloc(), pieces, at_once)? {
-                Ok(certificate) => {
-                    assert_eq!(rt; line, 0);
-                    let (_, whole) = written(rt.alloc(), &certificate, pieces, &[])?;
-                    assert!(rt; whole);
-                }
-                Err(error) => assert_eq!(rt; error, TextError::Bad { line, kind }),
-            }
-        }
+    assert_known(&rt, rt.alloc(), 1)?;
+    assert_known(&rt, rt.alloc(), 100)
+}
+
+// A certificate that is spelled otherwise.
+fn spelled(alloc: Global) -> Result<Certificate, Fail>
+    ensures formed { IfOk result (IsFormed 7) }
+    ensures fits { IfOk result (λ c. HasText (certificate_of c)) }
+{
+    let head: &[u8] = b"% a\n\n certificate\trank 007 2\r\n02 1\n# b\n1 3 \n";
+    match read_behind(alloc, [head, FACTORS, b"x y"], 9)? {
+        Ok(certificate) => Ok(certificate),
+        Err(_) => Err(Fail::new("not read")),
+    }
+}
+
+// Whether a sink that fails in these calls holds so many bytes of it, of 101, in the plain spelling.
+fn holds(alloc: Global, certificate: &Certificate, fails: &[u64], held: usize) -> Result<bool, Fail>
+    requires formed { IsFormed 7 certificate.now }
+    requires fits { HasText (certificate_of certificate.now) }
+{
+    let outcome = written(alloc, certificate, [HEAD, FACTORS, b""], fails)?;
+    Ok(outcome == (held, held == 101))
+}
+
+// The puts that fail, each of at most 16 bytes, and how many bytes the sink holds in the end.
+const FAILING: [(&[u64], usize); 4] = [(&[], 101), (&[1], 0), (&[3], 32), (&[9], 101)];
+
+// It holds as much of this certificate as is known.
+fn assert_held(rt: &impl Abort, alloc: Global, certificate: &Certificate) -> Result<(), Fail>
+    requires formed { IsFormed 7 certificate.now }
+    requires fits { HasText (certificate_of certificate.now) }
+{
+    for (fails, held) in &FAILING {
+        assert!(rt; holds(alloc, certificate, *fails, *held)?, "{held} bytes");
     }
     Ok(())
 }
@@ -202,15 +263,6 @@ fn certificates_are_read_and_written_or_their_first_fault_is_named(
 fn other_spellings_are_one_certificate_and_a_failing_sink_holds_a_part(
     rt: HostRuntime,
 ) -> Result<(), Fail> {
-    let spelled: &[u8] = b"% a\n\n certificate\trank 007 2\r\n02 1\n# b\n1 3 \n";
-    let Ok(certificate) = read_behind(rt.alloc(), [spelled, FACTORS, b"x y"], 9)? else {
-        return Err(Fail::new("not read"));
-    };
-    // The puts that fail, each of at most 16 bytes, and how many bytes the sink holds in the end.
-    let cases: [(&[u64], usize); 4] = [(&[], 101), (&[1], 0), (&[3], 32), (&[9], 101)];
-    for (fails, held) in cases {
-        let outcome = written(rt.alloc(), &certificate, [HEAD, FACTORS, b""], fails)?;
-        assert_eq!(rt; outcome, (held, held == 101));
-    }
-    Ok(())
+    let certificate = spelled(rt.alloc())?;
+    assert_held(&rt, rt.alloc(), &certificate)
 }

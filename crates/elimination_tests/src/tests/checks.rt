@@ -302,13 +302,17 @@ fn certificate(alloc: Global, case: &Case) -> Result<Certificate, Fail>
     })
 }
 
+// Whether the certificate of a case is judged as is known.
+fn is_judged(alloc: Global, case: &Case) -> Result<bool, Fail> {
+    let a = built(alloc, &case.a)?;
+    let certificate = certificate(alloc, case)?;
+    Ok(check(alloc, &a, &certificate)? == case.valid)
+}
+
 #[test]
 fn valid_and_not(rt: HostRuntime) -> Result<(), Fail> {
-    let alloc = rt.alloc();
     for case in CASES {
-        let a = built(alloc, &case.a)?;
-        let certificate = certificate(alloc, case)?;
-        assert_eq!(rt; check(alloc, &a, &certificate)?, case.valid);
+        assert!(rt; is_judged(rt.alloc(), case)?);
     }
     Ok(())
 }

@@ -112,6 +112,18 @@ fn assert_same<R: Threads + Sync + Abort>(
     Ok(())
 }
 
+// The factors by any number of workers are these.
+fn assert_all_same<R: Threads + Sync + Abort>(
+    rt: &R,
+    alloc: Global,
+    a: &Rows,
+    f: &Factors,
+) -> Result<(), Fail> {
+    assert_same(rt, alloc, a, f, 2)?;
+    assert_same(rt, alloc, a, f, 4)?;
+    assert_same(rt, alloc, a, f, 8)
+}
+
 // The factors have so many pivots, multiply to the matrix, and are the same by any number of workers.
 fn assert_factors<R: Threads + Sync + Abort>(
     rt: &R,
@@ -122,9 +134,7 @@ fn assert_factors<R: Threads + Sync + Abort>(
     let f = finish(rt, alloc, a, 1)?;
     assert_eq!(rt; f.pivots.items().len(), rank);
     assert_product(rt, a, &f);
-    assert_same(rt, alloc, a, &f, 2)?;
-    assert_same(rt, alloc, a, &f, 4)?;
-    assert_same(rt, alloc, a, &f, 8)
+    assert_all_same(rt, alloc, a, &f)
 }
 
 // A modulus, a height and a width, the entries row after row, and the rank.
@@ -152,10 +162,10 @@ const CASES: [(u64, u32, u32, &[u64], usize); 9] = [
 #[test]
 fn factors_multiply_to_the_matrix(rt: HostRuntime) -> Result<(), Fail> {
     let alloc = rt.alloc();
-    for (p, m, n, entries, rank) in CASES {
-        assert!(rt; 2 <= p && p < MODULUS_BOUND && m <= LARGEST_SIZE && n <= LARGEST_SIZE);
-        let a = matrix(alloc, Modulus::new(p), m, n, entries)?;
-        assert_factors(&rt, alloc, &a, rank)?;
+    for (p, m, n, entries, rank) in &CASES {
+        assert!(rt; 2 <= *p && *p < MODULUS_BOUND && *m <= LARGEST_SIZE && *n <= LARGEST_SIZE);
+        let a = matrix(alloc, Modulus::new(*p), *m, *n, entries)?;
+        assert_factors(&rt, alloc, &a, *rank)?;
     }
     Ok(())
 }
@@ -297,12 +307,11 @@ const SIZES: [(u32, u32, u32); 10] = [
 #[test]
 fn ranks_agree_with_plain_elimination(rt: HostRuntime) -> Result<(), Fail> {
     let alloc = rt.alloc();
-    for p in MODULI {
-        for (m, n, rank) in SIZES {
-            assert!(rt;
-                2 <= p && p < MODULUS_BOUND && m <= LARGEST_SIZE && n <= LARGEST_SIZE && 1 <= rank
-            );
-            let a = drawn_matrix(alloc, Modulus::new(p), m, n, rank)?;
+    for p in &MODULI {
+        for (m, n, rank) in &SIZES {
+            let is_size = *m <= LARGEST_SIZE && *n <= LARGEST_SIZE && 1 <= *rank;
+            assert!(rt; 2 <= *p && *p < MODULUS_BOUND && is_size);
+            let a = drawn_matrix(alloc, Modulus::new(*p), *m, *n, *rank)?;
             assert_plain_rank(&rt, alloc, &a)?;
         }
     }

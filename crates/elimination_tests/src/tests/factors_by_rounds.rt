@@ -93,6 +93,37 @@ fn are_same(alloc: Global, a: &Echelon, b: &Echelon) -> Result<bool, AllocError>
     Ok(a.leads() == b.leads() && left.as_slice() == right.as_slice())
 }
 
+// Whether the form that a plan finds is known.
+fn finds_form<R: Threads + Sync>(
+    rt: &R,
+    alloc: Global,
+    rows: &Rows,
+    plan: Plan,
+    known: &Echelon,
+) -> Result<bool, AllocError>
+    requires some { 1 ≤ plan.workers }
+    requires few { plan.workers ≤ 64 }
+{
+    let at_once = form(rt, alloc, rows, plan, &Open)?;
+    are_same(alloc, &at_once, known)
+}
+
+// Whether the form of the basis that a plan finds is known.
+fn finds_basis<R: Threads + Sync>(
+    rt: &R,
+    alloc: Global,
+    rows: &Rows,
+    plan: Plan,
+    known: &Echelon,
+) -> Result<bool, AllocError>
+    requires some { 1 ≤ plan.workers }
+    requires few { plan.workers ≤ 64 }
+{
+    let basis = row_basis(rt, alloc, rows, plan, &Open)?;
+    let of_basis = form_of_basis(rt, alloc, &basis, plan.workers)?;
+    are_same(alloc, &of_basis, known)
+}
+
 // Whether a plan finds what is known: the form at once, the form of the basis, and the rank.
 fn finds<R: Threads + Sync>(
     rt: &R,
@@ -104,11 +135,9 @@ fn finds<R: Threads + Sync>(
     requires some { 1 ≤ plan.workers }
     requires few { plan.workers ≤ 64 }
 {
-    let at_once = form(rt, alloc, rows, plan, &Open)?;
-    let basis = row_basis(rt, alloc, rows, plan, &Open)?;
-    let of_basis = form_of_basis(rt, alloc, &basis, plan.workers)?;
-    let is_rank = rank(rt, alloc, rows, plan, &Open)? == known.rank();
-    Ok(is_rank && are_same(alloc, &at_once, known)? && are_same(alloc, &of_basis, known)?)
+    let has_form = finds_form(rt, alloc, rows, plan, known)?;
+    let has_basis = finds_basis(rt, alloc, rows, plan, known)?;
+    Ok(has_form && has_basis && rank(rt, alloc, rows, plan, &Open)? == known.rank())
 }
 
 // Whether each plan finds what an elimination without rounds finds.

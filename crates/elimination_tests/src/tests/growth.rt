@@ -1,12 +1,14 @@
 // Scripts with answers that are known from outside.
-ghost use Rattle.std.specs.Prelude.{◌<◌, ◌≤◌, All, IfOk};
+ghost use Rattle.std.specs.Prelude.{◌≡◌, ◌<◌, ◌≤◌, All, IfOk};
 ghost use Rattle.sparse_rows.specs.declared.rows.TheConstants.{LARGEST_SIZE};
+ghost use Rattle.grow_form.specs.Answers.{FitsRows};
 ghost use Rattle.grow_form.specs.Scripts.{AnswerFitsText};
 
-use grow_form::{Answer, Grow, answer_line, answer_script, script_line, write_answers};
+use grow_form::{Answer, Grow, ScriptLine, answer_line, answer_script, script_line, write_answers};
 use residue_words::Modulus;
 use sms_text::{Kind, Line, MemorySink, Reader, SteadySource, TextError, read_rows};
 use std::alloc::{AllocError, Global};
+use std::process::Abort;
 use std::test::Fail;
 
 // What is answered for a line that is none of a script's.
@@ -143,6 +145,46 @@ fn list_answer(alloc: Global, answer: &Answer, said: &mut Vec<u64>) -> Result<()
     Ok(())
 }
 
+// Appends the numbers of what is answered to a step of a script.
+fn push_answer(
+    alloc: Global,
+    grow: &mut Grow,
+    step: &ScriptLine,
+    said: &mut Vec<u64>,
+) -> Result<(), AllocError>
+    requires { FitsRows grow.old step.now }
+    ensures modulus { grow.new.modulus ≡ grow.old.modulus }
+    ensures width { grow.new.matrix.width ≡ grow.old.matrix.width }
+{
+    match answer_line(grow, step)? {
+        Some(answer) => list_answer(alloc, &answer, said),
+        None => Ok(()),
+    }
+}
+
+// The same of what is answered to a line of a script, modulo p.
+fn push_answer_to(
+    alloc: Global,
+    grow: &mut Grow,
+    width: u32,
+    p: &Modulus,
+    text: &[u8],
+    said: &mut Vec<u64>,
+) -> Result<(), AllocError>
+    requires narrow { width ≤ LARGEST_SIZE }
+    requires modulus { grow.old.modulus ≡ p.now }
+    requires width { grow.old.matrix.width ≡ width }
+    ensures modulus { grow.new.modulus ≡ grow.old.modulus }
+    ensures width { grow.new.matrix.width ≡ grow.old.matrix.width }
+{
+    let line = line_of(alloc, text)?;
+    if let Some(step) = script_line(alloc, &line, width, p)? {
+        return push_answer(alloc, grow, &step, said);
+    }
+    said.push(REFUSED)?;
+    Ok(())
+}
+
 // The numbers of the answers to the lines of a script, modulo 7.
 fn answers_to(alloc: Global, width: u32, lines: &[&[u8]]) -> Result<Vec<u64>, AllocError>
     requires { width ≤ LARGEST_SIZE }
@@ -151,14 +193,7 @@ fn answers_to(alloc: Global, width: u32, lines: &[&[u8]]) -> Result<Vec<u64>, Al
     let mut grow = Grow::new(alloc, width, &seven)?;
     let mut said = Vec::new(alloc);
     for text in lines {
-        let line = line_of(alloc, text)?;
-        if let Some(step) = script_line(alloc, &line, width, &seven)? {
-            if let Some(answer) = answer_line(&mut grow, &step)? {
-                list_answer(alloc, &answer, &mut said)?;
-            }
-        } else {
-            said.push(REFUSED)?;
-        }
+        push_answer_to(alloc, &mut grow, width, &seven, text, &mut said)?;
     }
     Ok(said)
 }
@@ -227,20 +262,38 @@ fn are_written_as(alloc: Global, answers: &[Answer], text: &[u8]) -> Result<bool
     Ok(done.is_ok() && sink.content() == text)
 }
 
+// Whether the script behind the matrix of a text is answered so, or has its first fault in this line, 0 for none.
+fn is_as_known(
+    alloc: Global,
+    text: &[u8],
+    at_once: usize,
+    written: &[u8],
+    line: u64,
+    kind: Kind,
+) -> Result<bool, Fail>
+    requires { 0 < at_once }
+{
+    match answers_in(alloc, text, at_once)? {
+        Ok(answers) => Ok(line == 0 && are_written_as(alloc, &answers, written)?),
+        Err(error) => Ok(error == TextError::Bad { line, kind }),
+    }
+}
+
+// All texts are as known where so many bytes are read at once.
+fn assert_known(rt: &impl Abort, alloc: Global, at_once: usize) -> Result<(), Fail>
+    requires { 0 < at_once }
+{
+    for (text, written, line, kind) in &TEXTS {
+        let known = is_as_known(alloc, *text, at_once, *written, *line, *kind)?;
+        assert!(rt; known, "line {line}");
+    }
+    Ok(())
+}
+
 #[test]
 fn scripts_behind_matrices_are_answered_or_their_first_fault_is_named(
     rt: HostRuntime,
 ) -> Result<(), Fail> {
-    for at_once in [1, 100] {
-        for (text, written, line, kind) in TEXTS {
-            match answers_in(rt.alloc(), text, at_once)? {
-                Ok(answers) => {
-                    assert_eq!(rt; line, 0);
-                    assert!(rt; are_written_as(rt.alloc(), &answers, written)?);
-                }
-                Err(error) => assert_eq!(rt; error, TextError::Bad { line, kind }),
-            }
-        }
-    }
-    Ok(())
+    assert_known(&rt, rt.alloc(), 1)?;
+    assert_known(&rt, rt.alloc(), 100)
 }

@@ -253,15 +253,23 @@ fn prepared<R: Threads + Sync>(rt: &R, alloc: Global) -> Result<Prepared, Fail>
     Ok(Prepared::of(rt, alloc, &a, 1)?)
 }
 
-// What is replied to a column, for the matrix X.
+// What is replied to a column.
+fn reply_to(alloc: Global, kept: &Prepared, triples: &[(u32, u32, u64)]) -> Result<Reply, Fail>
+    requires modulus { kept.now.modulus ≡ 7 }
+    requires height { kept.now.height ≡ 3 }
+{
+    let b = built(alloc, 3, 1, triples)?;
+    Ok(kept.answer(alloc, &b)?)
+}
+
+// The same for the matrix X.
 fn replied<R: Threads + Sync>(
     rt: &R,
     alloc: Global,
     triples: &[(u32, u32, u64)],
 ) -> Result<Reply, Fail> {
-    let prepared = prepared(rt, alloc)?;
-    let b = built(alloc, 3, 1, triples)?;
-    Ok(prepared.answer(alloc, &b)?)
+    let kept = prepared(rt, alloc)?;
+    reply_to(alloc, &kept, triples)
 }
 
 // Whether a reply is a solution, and its entries.

@@ -1,6 +1,8 @@
 // The walk on the example of histories, and both searches on small matrices.
 ghost use Rattle.sparse_rows.specs.declared.rows.TheConstants.{LARGEST_SIZE};
 ghost use Rattle.std.specs.Prelude.{◌≡◌, ◌<◌, ◌≤◌, ◌+◌, [], ◌∷◌, None, IfOk};
+ghost use Rattle.pivot_table.specs.Board.{IsSeatOf};
+ghost use Rattle.pivot_table.specs.Core.{opened};
 ghost use Rattle.pivot_table.specs.Example.{pivot_example};
 ghost use Rattle.pivot_table.specs.History.{pair};
 ghost use Rattle.optimistic_search.specs.Taking.{IsIdle};
@@ -111,7 +113,22 @@ fn take_three<L: Ledger>(
     [first, second, third]
 }
 
-// The same with the first pair given, and a count of its own.
+// The same by a walk over the first pair, on a board that begins with it.
+fn taken_on<L: Ledger>(
+    alloc: Global,
+    board: &Board<'_>,
+    seat: &mut Seat,
+    steps: &mut Steps<L>,
+) -> Result<[Taken; 3], AllocError>
+    requires matrix { board.now.rows.matrix ≡ pivot_example }
+    requires seat { IsSeatOf board.now seat.old }
+    requires chair { seat.old.chair ≡ opened (pair 0 0 ∷ []) }
+{
+    let mut walk = first_walk(alloc, board.rows(), steps)?;
+    Ok(take_three(board, seat, &mut walk, steps))
+}
+
+// The same with a board and a count of its own.
 fn taken_in_turn<L: Ledger>(alloc: Global, blank: Blank) -> Result<[Taken; 3], AllocError>
     requires name { blank.name ≡ L.name }
     requires parts { blank.parts ≡ L.parts }
@@ -121,8 +138,7 @@ fn taken_in_turn<L: Ledger>(alloc: Global, blank: Blank) -> Result<[Taken; 3], A
     let book = first_pair(alloc, &rows)?;
     let (board, mut seat) = Board::new(alloc, &book)?;
     let mut steps = Steps::<L>::new(blank);
-    let mut walk = first_walk(alloc, &rows, &mut steps)?;
-    Ok(take_three(&board, &mut seat, &mut walk, &mut steps))
+    taken_on(alloc, &board, &mut seat, &mut steps)
 }
 
 #[test]
@@ -421,13 +437,27 @@ fn pairs_of(alloc: Global, places: &[(u32, u32)]) -> Result<Vec<Pair>, AllocErro
     Ok(pairs)
 }
 
-#[test]
-fn the_largest_matrix_costs_by_its_entries(rt: HostRuntime) -> Result<(), Fail> {
-    let alloc = rt.alloc();
+// Whether one worker finds these pairs, and nothing is left behind many.
+fn has_all<R: Threads + Sync>(
+    rt: &R,
+    alloc: Global,
+    rows: &Rows,
+    pairs: &[Pair],
+) -> Result<bool, AllocError> {
+    let finds_all = finds(rt, alloc, Book::empty(alloc, rows)?, 1, pairs)?;
+    let leaves_nothing = leaves_nothing(rt, alloc, rows, 64)?;
+    Ok(finds_all && leaves_nothing)
+}
+
+// The same of the largest matrix with an entry at each of these places.
+fn has_all_apart<R: Threads + Sync>(rt: &R, alloc: Global) -> Result<bool, AllocError> {
     let rows = ones(alloc, 2_147_483_647, 2_147_483_647, &APART)?;
     let pairs = pairs_of(alloc, &APART)?;
-    let has_all = finds(&rt, alloc, Book::empty(alloc, &rows)?, 1, &pairs)?;
-    let leaves_nothing = leaves_nothing(&rt, alloc, &rows, 64)?;
-    assert_eq!(rt; (has_all, leaves_nothing), (true, true));
+    has_all(rt, alloc, &rows, &pairs)
+}
+
+#[test]
+fn the_largest_matrix_costs_by_its_entries(rt: HostRuntime) -> Result<(), Fail> {
+    assert!(rt; has_all_apart(&rt, rt.alloc())?);
     Ok(())
 }
