@@ -8,7 +8,7 @@ use Rattle.residue_words.proofs.Lists.{contains_at}
 use Rattle.sparse_rows.specs.ColumnSet.{AllZero, TakesFirst}
 use Rattle.sparse_rows.specs.Rows.{AreBelow, AreRising, nonzeros, support}
 use Rattle.sparse_rows.proofs.Spread.{entry_cover, entry_here, entry_support, support_sparse}
-use Rattle.triangular_solve.specs.PivotRows.{AppendsBefore, HaveDistinctColumns, AscendWhereNonzero, IsSplitRow}
+use Rattle.triangular_solve.specs.PivotRows.{AppendsBefore, HaveDistinctColumns, AscendWhereNonzero, IsSplitRow, place_range}
 use Rattle.triangular_solve.proofs.SplitRows.{distinct_same}
 
 -- the entry in the support's place t is not 0
@@ -68,7 +68,7 @@ appending_more {w} {from} {end} {to} {old} {new} rising below a l less v is next
     c : ℕ
     c = slice_index (support w) to
 
-pub appending_all : {w : List ℕ} {from end to : ℕ} {old new : List ℕ} → AreRising (support w) → IsAppending w from end old new to → (to < length (support w) → end ≤ slice_index (support w) to) → AppendsBefore w from end old new to
+pub appending_all : {w : List ℕ} {from end to : ℕ} {old new : List ℕ} → AreRising (support w) → IsAppending w from end old new to → (to < length (support w) → end ≤ slice_index (support w) to) → AppendsBefore w (place_range from to) end old new
 appending_all {w} {from} {end} {to} {old} {new} rising a stop = record {
   long = a.long;
   not_less = a.not_less;
@@ -111,7 +111,7 @@ joining_none columns s0 outer rest e zero = record {
 module _ {p n : ℕ} {columns s0 outer : List ℕ} (vector : IsVector p n outer) (distinct : HaveDistinctColumns columns) (apart : (i : ℕ) → i < length columns → slice_index outer (slice_index columns i) ≡ 0) where
   -- the entries that passed came as far as column c, before which no sum is left
   pub joining_to : {s rest next : List ℕ} {at to : ℕ} (j : IsJoining columns s0 outer s rest at) (c : ℕ) → j.bound ≤ c → c ≤ length outer → ((i : ℕ) → i < length columns → slice_index columns i < c → slice_index s i ≡ 0) →
-      AppendsBefore outer at c rest next to → (made : IsJoining columns s0 outer s next to) × (made.bound ≡ c)
+      AppendsBefore outer (place_range at to) c rest next → (made : IsJoining columns s0 outer s next to) × (made.bound ≡ c)
   joining_to {s} {rest} {next} {at} {to} j c le high none a = (
     record {
       bound = c;
@@ -225,20 +225,20 @@ module _ {p n : ℕ} {columns s0 outer : List ℕ} (vector : IsVector p n outer)
 
   -- what a step of joining does: behind the column nothing stands, and then its sum
   pub joining_behind : {s s1 rest next : List ℕ} {at to i v : ℕ} (j : IsJoining columns s0 outer s rest at) → AscendWhereNonzero columns s0 → length s ≡ length columns → TakesFirst s s1 i v → (c : ℕ) → c ≡ slice_index columns i →
-      AppendsBefore outer at c rest next to → (k : ℕ) → c ≤ k → slice_index next k ≡ 0
+      AppendsBefore outer (place_range at to) c rest next → (k : ℕ) → c ≤ k → slice_index next k ≡ 0
   joining_behind {s} {s1} {rest} {next} {at} {to} {i} {v} j ascending long t c e a k le =
       let b = none_before j ascending long t in
       a.others k (λ t f l z. absurd (omega (arith, a.before t f l))) ∙ j.behind k (omega (arith, b.0, e))
 
   pub joining_step : {s s1 rest next done : List ℕ} {at to i v : ℕ} (j : IsJoining columns s0 outer s rest at) → AscendWhereNonzero columns s0 → length s ≡ length columns → TakesFirst s s1 i v → (c : ℕ) → c ≡ slice_index columns i →
-      AppendsBefore outer at c rest next to → c < length next → done ≡ slice_set next c v → IsJoining columns s0 outer s1 done to
+      AppendsBefore outer (place_range at to) c rest next → c < length next → done ≡ slice_set next c v → IsJoining columns s0 outer s1 done to
   joining_step {s} {s1} {rest} {next} {done} {at} {to} {i} {v} j ascending long t c e a l is =
       let b = none_before j ascending long t in
       let m = joining_to j c (omega (arith, b.0, e)) (omega (arith, a.long, j.long)) (λ k lk less. b.1 k lk (omega (arith, e))) a in
       subst (λ w. IsJoining columns s0 outer s1 w to) (sym (is ∙ ap (λ c. slice_set next c v) e)) (joining_put m.0 long t (m.1 ∙ e) (omega (arith, e)))
 
   pub joining_ends : {s rest next : List ℕ} {at to : ℕ} (j : IsJoining columns s0 outer s rest at) → length s0 ≡ length columns → length s ≡ length columns → AllZero s → AreBelow (length outer) columns →
-      (c : ℕ) → c ≡ length outer → AppendsBefore outer at c rest next to → IsSplitRow columns next s0 outer
+      (c : ℕ) → c ≡ length outer → AppendsBefore outer (place_range at to) c rest next → IsSplitRow columns next s0 outer
   joining_ends {s} {rest} {next} {at} {to} j long same none below c e a =
       let m = joining_to j c (omega (arith, j.low, e)) (omega (arith, e)) (λ k lk less. none k (omega arith)) a in
       joining_all m.0 long below (m.1 ∙ e)

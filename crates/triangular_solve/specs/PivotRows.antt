@@ -120,16 +120,24 @@ AscendWhereNonzero columns sums = (k t : ℕ) → k < t → t < length columns �
     slice_index sums t ≢ 0 →
     slice_index columns k < slice_index columns t
 
--- the entries of w from place `from` on whose columns are less than `end` came to the row; the next entry stands at place `to`
-pub record AppendsBefore (w : List ℕ) (from end : ℕ) (old new : List ℕ) (to : ℕ) : Type 0 where
+-- the places of a row's entries from one on and before another
+pub record PlaceRange : Type 0 where
+  pub from : ℕ
+  pub to : ℕ
+
+abbrev pub place_range : ℕ → ℕ → PlaceRange
+place_range from to = record { from = from; to = to }
+
+-- the entries of w in these places came to the row: of those from the first place on the ones whose columns are less than `end`
+pub record AppendsBefore (w : List ℕ) (range : PlaceRange) (end : ℕ) (old new : List ℕ) : Type 0 where
   pub long : length new ≡ length old
-  pub not_less : from ≤ to
-  pub inside : to ≤ length (support w)
-  pub before : (t : ℕ) → from ≤ t → t < to → slice_index (support w) t < end
-  pub after : (t : ℕ) → to ≤ t → t < length (support w) → end ≤ slice_index (support w) t
-  pub there : (t : ℕ) → from ≤ t → t < to → slice_index new (slice_index (support w) t)
+  pub not_less : range.from ≤ range.to
+  pub inside : range.to ≤ length (support w)
+  pub before : (t : ℕ) → range.from ≤ t → t < range.to → slice_index (support w) t < end
+  pub after : (t : ℕ) → range.to ≤ t → t < length (support w) → end ≤ slice_index (support w) t
+  pub there : (t : ℕ) → range.from ≤ t → t < range.to → slice_index new (slice_index (support w) t)
       ≡ slice_index w (slice_index (support w) t)
-  pub others : (j : ℕ) → ((t : ℕ) → from ≤ t → t < to → slice_index (support w) t ≢ j) →
+  pub others : (j : ℕ) → ((t : ℕ) → range.from ≤ t → t < range.to → slice_index (support w) t ≢ j) →
       slice_index new j ≡ slice_index old j
 
 -- a row of sums and a row of entries, both zero, of one modulus

@@ -9,7 +9,7 @@ ghost use Rattle.sparse_rows.specs.Stored.{IsSparse, spread};
 ghost use Rattle.sparse_rows.specs.declared.rows.TheConstants.{LARGEST_SIZE};
 ghost use Rattle.triangular_solve.specs.AscendingColumns.{IsPlaceOf};
 ghost use Rattle.triangular_solve.specs.Accumulator.{IsClear};
-ghost use Rattle.triangular_solve.specs.PivotRows.{AppendsBefore, HaveDistinctColumns, AscendWhereNonzero, HasPivotsFirst, IsAlike, IsOrdering, IsOrderOf, IsSplitRow};
+ghost use Rattle.triangular_solve.specs.PivotRows.{AppendsBefore, HaveDistinctColumns, AscendWhereNonzero, HasPivotsFirst, IsAlike, IsOrdering, IsOrderOf, IsSplitRow, place_range};
 
 use crate::accumulator::Accumulator;
 use crate::ascending_columns::AscendingColumns;
@@ -159,7 +159,8 @@ fn append_before(row: &Sparse, from: usize, end: u32, to: &mut Sparse) -> Result
     requires behind { (t j : ℕ) → from ≤ t → t < length (support row.now.row) →
         slice_index (support row.now.row) t ≤ j → slice_index to.old.row j ≡ 0 }
     ensures alike { IsAlike to.old to.new }
-    ensures appended { IfOk result (AppendsBefore row.now.row from end to.old.row to.new.row) }
+    ensures appended { IfOk result (λ at.
+        AppendsBefore row.now.row (place_range from at) end to.old.row to.new.row) }
 {
     let cols = row.cols();
     let vals = row.vals();
