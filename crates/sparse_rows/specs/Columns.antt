@@ -1,5 +1,5 @@
 -- Lists of columns: which occur, and at which places they stand.
-use Rattle.std.specs.Prelude.{◌≡◌, ◌≢◌, ◌<◌, ◌↔◌, ℕ, Bool, true, false, List, length, map, slice_index, slice_index_or, Contains}
+use Rattle.std.specs.Prelude.{◌≡◌, ◌≢◌, ◌<◌, ◌↔◌, ◌++◌, ℕ, Bool, true, false, List, length, map, slice_index, slice_index_or, Contains}
 use Rattle.sparse_rows.specs.Rows.{AreRising}
 
 -- the columns named stand at these places among others
@@ -17,6 +17,11 @@ pub record AreOccurring (columns found : List ℕ) : Type 0 where
 pub record AreMarks (n : ℕ) (columns : List ℕ) (marks : List Bool) : Type 0 where
   pub long : length marks ≡ n
   pub each : (j : ℕ) → j < n → (slice_index_or marks j false ≡ true) ↔ Contains columns j
+
+-- marks that say which columns occur in some list say then which occur in it or among these
+abbrev pub MarksThese : List ℕ → List Bool → List Bool → Type 0
+MarksThese columns old new = (before : List ℕ) → AreMarks (length old) before old →
+    AreMarks (length old) (before ++ columns) new
 
 -- the columns that are marked, ascending
 pub record AreMarked (marks : List Bool) (found : List ℕ) : Type 0 where
