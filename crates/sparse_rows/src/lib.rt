@@ -10,6 +10,7 @@ mod column_lists;
 mod column_set;
 mod consecutive_parts;
 mod counting_sort;
+mod entry_room;
 mod list;
 mod order;
 mod rows;
@@ -19,6 +20,7 @@ mod sums;
 
 pub use builder::RowsBuilder;
 pub use column_set::ColumnSet;
+pub use entry_room::EntryRoom;
 pub use list::List;
 pub use rows::{LARGEST_SIZE, Rows};
 pub use sparse::Sparse;

@@ -14,6 +14,7 @@ ghost use Rattle.sparse_rows.specs.Stored.{IsSparse, spread, with_row, with_spar
 use crate::builder::RowsBuilder;
 use crate::cells::{Cell, renumbered, row_numbers};
 use crate::column_lists::{first_from, occurring, place_of, places_among};
+use crate::entry_room::EntryRoom;
 use crate::sparse::Sparse;
 use crate::stored_rows::StoredRows;
 use residue_words::Modulus;
@@ -63,14 +64,44 @@ impl Rows {
         ensures modulus { IfOk result (λ rows. rows.modulus ≡ modulus) }
         ensures matrix { IfOk result (λ rows. rows.matrix ≡ record { height = 0; width = width; rows = [] }) }
     {
-        let every_row = stores_every_row(height, entries);
+        Rows::in_room(
+            alloc,
+            modulus,
+            width,
+            height,
+            EntryRoom::new(alloc, entries)?,
+        )
+    }
+
+    /// The matrix with no row, and room for these rows, with the entries in this memory.
+    pub fn in_room(
+        alloc: Global,
+        modulus: Modulus,
+        width: u32,
+        height: u32,
+        room: EntryRoom,
+    ) -> Result<Rows, AllocError>
+        requires width_small { width ≤ LARGEST_SIZE }
+        requires height_small { height ≤ LARGEST_SIZE }
+        ensures modulus { IfOk result (λ rows. rows.modulus ≡ modulus) }
+        ensures matrix { IfOk result (λ rows. rows.matrix ≡ record { height = 0; width = width; rows = [] }) }
+    {
+        let every_row = stores_every_row(height, room.entries);
         let rows = if every_row { height } else { 0 };
         Ok(Rows {
             height: 0,
-            stored: StoredRows::with_room(alloc, modulus, width, rows, entries)?,
+            stored: StoredRows::in_room(alloc, modulus, width, rows, room)?,
             every_row,
             rows: Vec::new(alloc),
         })
+    }
+
+    /// Writes to the memory of so many more entries, as far as there is room, before they are appended. The system gives memory page by
+    /// page as it is first written to: so who appends them later need not wait for it.
+    pub fn write_ahead(&mut self, entries: usize)
+        ensures { self.new ≡ self.old }
+    {
+        self.stored.write_ahead(entries);
     }
 
     // Appends the row that these columns and values stand for. After an `Err` the matrix is as before.

@@ -12,6 +12,7 @@ use crate::cells::{Cell, columns, row_starts, values};
 use crate::column_lists::{named_columns, occurring, places_among};
 use crate::consecutive_parts::{append_starts, part, part_numbers};
 use crate::counting_sort::group;
+use crate::entry_room::{EntryRoom, write_behind};
 use residue_words::Modulus;
 use std::alloc::{AllocError, Global};
 use std::marker::Model;
@@ -42,13 +43,13 @@ impl Model for StoredRows {
 }
 
 impl StoredRows {
-    // The matrix with no row, and room for these rows and entries.
-    pub(crate) fn with_room(
+    // The matrix with no row, and room for these rows, with the entries in this memory.
+    pub(crate) fn in_room(
         alloc: Global,
         modulus: Modulus,
         width: u32,
         height: u32,
-        entries: usize,
+        mut room: EntryRoom,
     ) -> Result<StoredRows, AllocError>
         requires width_small { width ≤ LARGEST_SIZE }
         requires height_small { height ≤ LARGEST_SIZE }
@@ -59,12 +60,14 @@ impl StoredRows {
         let _ = modulus.p();
         let mut starts = Vec::with_capacity(alloc, height as usize + 1)?;
         starts.push(0)?;
+        room.cols.clear();
+        room.vals.clear();
         Ok(StoredRows {
             modulus,
             width,
             starts,
-            cols: Vec::with_capacity(alloc, entries)?,
-            vals: Vec::with_capacity(alloc, entries)?,
+            cols: room.cols,
+            vals: room.vals,
         })
     }
 
@@ -99,6 +102,14 @@ impl StoredRows {
         self.cols.extend_from_slice(&from.cols)?;
         self.vals.extend_from_slice(&from.vals)?;
         Ok(())
+    }
+
+    // Writes to the memory of so many more entries, as far as there is room, before they are appended.
+    pub(crate) fn write_ahead(&mut self, entries: usize)
+        ensures { self.new ≡ self.old }
+    {
+        write_behind(&mut self.cols, entries, 0);
+        write_behind(&mut self.vals, entries, 0);
     }
 
     // Appends this many rows of zeros. Where memory is wanted the matrix is as before.
