@@ -1,6 +1,6 @@
 // One row by its nonzero entries.
 ghost use Rattle.residue_words.specs.declared.modulus.TheConstants.{MODULUS_BOUND};
-ghost use Rattle.std.specs.Prelude.{◌≡◌, ◌<◌, ◌≤◌, ◌^◌, ℕ, length, slice_index, slice_set, OnOk, OnErr};
+ghost use Rattle.std.specs.Prelude.{◌≡◌, ◌<◌, ◌≤◌, ◌^◌, ℕ, length, slice_index, slice_set, IfOk, OnOk, OnErr};
 ghost use Rattle.residue_words.specs.Matrix.{IsVector, zeros};
 ghost use Rattle.sparse_rows.specs.Rows.{AreBelow, AreRising, nonzeros, support};
 
@@ -46,6 +46,21 @@ impl Sparse {
             cols: Vec::new(alloc),
             vals: Vec::new(alloc),
         }
+    }
+
+    /// The same with room for so many entries, so that they aren't moved as they become more.
+    pub fn with_room(alloc: Global, n: u32, p: Modulus, entries: usize) -> Result<Self, AllocError>
+        ensures modulus { IfOk result (λ row. row.modulus ≡ p) }
+        ensures row { IfOk result (λ row. row.row ≡ zeros n) }
+    {
+        // The call tells the range of the modulus.
+        let _ = p.p();
+        Ok(Sparse {
+            modulus: p,
+            width: n,
+            cols: Vec::with_capacity(alloc, entries)?,
+            vals: Vec::with_capacity(alloc, entries)?,
+        })
     }
 
     /// Sets the entry at column j, behind which and at which all entries are 0.
