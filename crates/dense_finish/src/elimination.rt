@@ -16,6 +16,7 @@ use crate::block::Block;
 use crate::dense::Dense;
 use crate::factors::{Factors, left_factor};
 use crate::found::Found;
+use crate::left_room::LeftRoom;
 use crate::panel::{PANEL, Panel, zeros_before};
 use crate::pieces::{Piece, count_of_pieces};
 use crate::pivots::Pivots;
@@ -84,19 +85,22 @@ fn finish_in<R: Threads + Sync, W: Reducing>(
     ensures { IfOk result (IsFactored rows.now.modulus rows.now.matrix) }
 {
     let mut block = Block::<W>::of(rt, alloc, rows, workers)?;
-    let pivots = block.eliminate(rt, alloc, workers)?;
-    let l = left_factor(alloc, &block, &pivots)?;
+    let mut room = Room::with_left(alloc, &block)?;
+    let pivots = block.eliminate(rt, alloc, workers, &mut room)?;
+    let l = left_factor(alloc, &block, &pivots, room.left)?;
     let RightFactor { pivots, u } = pivots.into_right_factor(alloc, &block)?;
     Ok(Factors { pivots, l, u })
 }
 
 impl<W: Reducing> Block<W> {
-    // Eliminates the block by so many workers: what is left are the coefficients of its rows at the pivots.
+    // Eliminates the block by so many workers: what is left are the coefficients of its rows at the pivots. Meanwhile the memory for the
+    // left factor is written to.
     pub(crate) fn eliminate<R: Threads + Sync>(
         &mut self,
         rt: &R,
         alloc: Global,
         workers: usize,
+        room: &mut Room<W>,
     ) -> Result<Pivots, AllocError>
         requires modulus { W.serves self.old.modulus }
         requires some { 1 ≤ workers }
@@ -109,7 +113,7 @@ impl<W: Reducing> Block<W> {
             p: self.p,
             workers,
         };
-        elimination.eliminate(rt, self.width, &mut self.entries)
+        elimination.eliminate(rt, self.width, &mut self.entries, room)
     }
 }
 
@@ -120,6 +124,7 @@ impl<'a> Elimination<'a> {
         rt: &R,
         width: u32,
         block: &mut [Dense<W>],
+        room: &mut Room<W>,
     ) -> Result<Pivots, AllocError>
         requires modulus { W.serves self.now.p }
         requires some { 1 ≤ self.now.workers }
@@ -137,14 +142,14 @@ impl<'a> Elimination<'a> {
     {
         let mut pivots = Pivots::new(self.alloc, block.len(), self.columns, width, &self.p)?;
         let mut found = Found::none(self.alloc, self.columns.len());
-        let mut room = Room::none(self.alloc);
         let mut done = 0;
         while done < block.len() {
             let rows = RowRange {
                 start: done,
                 end: block.len().min(done + PANEL),
             };
-            found = self.next_panel(rt, &found, rows, &mut pivots, block, &mut room)?;
+            found = self.next_panel(rt, &found, rows, &mut pivots, block, room)?;
+            room.count_left(rows.end - rows.start, pivots.rows.len());
             done = rows.end;
         }
         Ok(pivots)
@@ -229,19 +234,8 @@ impl<'a> Elimination<'a> {
         let next = AtomicU64::new(0);
         let helpers = (self.workers - 1).min(count_of_pieces(others.len()));
         let mut rooms = room.split(self.alloc, helpers);
+        let mut left = room.take_left(self.alloc);
         let behind: &[Dense<W>] = others;
-        let mut help = || -> Vec<Piece<W>>
-            requires { W.serves self.now.p × AreReducible self.now.p found.now behind.now }
-            ensures { AreReducedPieces self.entry.now.p found.entry.now.panel behind.entry.now result }
-        {
-            self.pieces_by(
-                rt,
-                found,
-                behind,
-                &next,
-                replace(&mut rooms, Vec::new(self.alloc)),
-            )
-        };
         let mut find = || -> (Result<Found<W>, AllocError>, Vec<Piece<W>>)
             requires { W.serves self.now.p × AreReducible self.now.p found.now behind.now
                 × AreLastRowsOf own.now rows × CanGoOn self.now.p self.now.columns.now
@@ -257,7 +251,21 @@ impl<'a> Elimination<'a> {
                 self.pieces_of_worker(found, behind, &next, room),
             )
         };
-        let ((next_panel, mut pieces), mut more) = join_mut(rt, &mut find, &mut help);
+        let mut help = || -> (Vec<Piece<W>>, LeftRoom)
+            requires { W.serves self.now.p × AreReducible self.now.p found.now behind.now }
+            ensures { AreReducedPieces self.entry.now.p found.entry.now.panel behind.entry.now result.0 }
+        {
+            self.pieces_and_left(
+                rt,
+                found,
+                behind,
+                &next,
+                replace(&mut rooms, Vec::new(self.alloc)),
+                replace(&mut left, LeftRoom::none(self.alloc)),
+            )
+        };
+        let ((mut more, written), (next_panel, mut pieces)) = join_mut(rt, &mut help, &mut find);
+        room.put_left(written);
         // Pieces that there is no room for are made in place.
         let _ = pieces.append(&mut more);
         self.put_pieces(found, pieces, others, room);

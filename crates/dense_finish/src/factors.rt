@@ -8,7 +8,8 @@ ghost use Rattle.dense_finish.specs.Factors.{IsLeftFactor};
 ghost use Rattle.dense_finish.specs.Pivots.{StandIn};
 
 use crate::block::Block;
-use crate::pivots::{Pivots, room_for};
+use crate::left_room::LeftRoom;
+use crate::pivots::Pivots;
 use crate::residue::Residue;
 use residue_words::plain::Pair;
 use sparse_rows::{List, Rows, Sparse};
@@ -27,11 +28,12 @@ pub struct Factors {
 }
 
 // The left factor: at each of the block's rows the coefficients that it holds at the pivots' columns, which are zeros behind the
-// pivots of the rows up to it, and zeros at the others.
+// pivots of the rows up to it, and zeros at the others. They are put into this room.
 pub(crate) fn left_factor<W: Residue>(
     alloc: Global,
     block: &Block<W>,
     pivots: &Pivots,
+    room: LeftRoom,
 ) -> Result<Rows, AllocError>
     requires dense { IsDense block.now }
     requires pivots { StandIn block.now pivots.now }
@@ -41,8 +43,8 @@ pub(crate) fn left_factor<W: Residue>(
         pivots.now.columns.items block.now.entries left.matrix) }
 {
     let width = pivots.columns.len() as u32;
-    let room = left_room(block.height as usize, block.rows.len(), width as usize);
-    let mut left = Rows::with_room(alloc, block.p, width, block.height, room)?;
+    let room = room.into_entries();
+    let mut left = Rows::in_room(alloc, block.p, width, block.height, room)?;
     let mut row = Sparse::new(alloc, width, block.p);
     let mut count = 0;
     for t in 0..block.rows.len() {
@@ -54,16 +56,6 @@ pub(crate) fn left_factor<W: Residue>(
     }
     pad(&mut left, block.height)?;
     Ok(left)
-}
-
-// Room for the entries of a left factor of this height, with entries in so many rows and columns. As `with_room` goes by it to tell
-// whether rows without an entry are stored, room for all is asked for only where there are none.
-fn left_room(height: usize, rows: usize, columns: usize) -> usize {
-    if rows == height {
-        room_for(rows, columns)
-    } else {
-        rows
-    }
 }
 
 // How many of these ascending rows come up to row t, of which so many come before it.

@@ -7,6 +7,7 @@ mod elimination;
 mod factors;
 mod found;
 mod lane_addition;
+mod left_room;
 mod multiplier;
 mod panel;
 mod pieces;

@@ -6,15 +6,17 @@ ghost use Rattle.dense_finish.specs.Pieces.{AreReducible, IsReducedPiece, AreRed
 use crate::dense::Dense;
 use crate::elimination::{Elimination, RowRange};
 use crate::found::Found;
+use crate::left_room::LeftRoom;
 use crate::products::BLOCK_ROWS;
 use crate::reducing::Reducing;
 use crate::residue::Residue;
 use crate::room::Room;
 use std::alloc::{AllocError, Global};
 use std::marker::Model;
+use std::mem::replace;
 use std::sync::atomic::{AtomicU64, Ordering};
 use std::thread;
-use std::thread::Threads;
+use std::thread::{Threads, join_mut};
 
 // How many rows a worker takes at a time.
 const PIECE_ROWS: usize = BLOCK_ROWS;
@@ -71,8 +73,39 @@ fn take_piece<W: Residue>(pieces: &mut Vec<Piece<W>>, number: usize) -> Option<P
 }
 
 impl<'a> Elimination<'a> {
+    // The pieces that workers make, each in a room of its own, while one more thread writes to the memory of the left factor.
+    pub(crate) fn pieces_and_left<R: Threads + Sync, W: Reducing>(
+        &self,
+        rt: &R,
+        found: &Found<W>,
+        rows: &[Dense<W>],
+        next: &AtomicU64,
+        mut rooms: Vec<Room<W>>,
+        mut left: LeftRoom,
+    ) -> (Vec<Piece<W>>, LeftRoom)
+        requires modulus { W.serves self.now.p }
+        requires ready { AreReducible self.now.p found.now rows.now }
+        ensures { AreReducedPieces self.now.p found.now.panel rows.now result.0 }
+    {
+        let mut write = || left.write();
+        let mut make = || -> Vec<Piece<W>>
+            requires { W.serves self.now.p × AreReducible self.now.p found.now rows.now }
+            ensures { AreReducedPieces self.entry.now.p found.entry.now.panel rows.entry.now result }
+        {
+            self.pieces_by(
+                rt,
+                found,
+                rows,
+                next,
+                replace(&mut rooms, Vec::new(self.alloc)),
+            )
+        };
+        let (_, pieces) = join_mut(rt, &mut write, &mut make);
+        (pieces, left)
+    }
+
     // The pieces that workers make, each in a room of its own.
-    pub(crate) fn pieces_by<R: Threads + Sync, W: Reducing>(
+    fn pieces_by<R: Threads + Sync, W: Reducing>(
         &self,
         rt: &R,
         found: &Found<W>,

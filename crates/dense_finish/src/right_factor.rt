@@ -6,6 +6,7 @@ use crate::block::Block;
 use crate::pivots::Pivots;
 use crate::reducing::Reducing;
 use crate::residue::Residue;
+use crate::room::Room;
 use residue_words::LANE_BOUND;
 use residue_words::plain::Pair;
 use sparse_rows::{List, Rows};
@@ -53,7 +54,8 @@ fn finish_right_in<R: Threads + Sync, W: Reducing>(
 {
     let mut block = Block::<W>::of(rt, alloc, &rows, workers)?;
     drop(rows);
-    let pivots = block.eliminate(rt, alloc, workers)?;
+    let mut room = Room::none(alloc);
+    let pivots = block.eliminate(rt, alloc, workers, &mut room)?;
     pivots.into_right_factor(alloc, &block)
 }
 

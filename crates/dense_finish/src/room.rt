@@ -1,22 +1,50 @@
-// Memory of rows that are no longer wanted.
+// Memory of rows that are no longer wanted, and for the left factor.
 ghost use Rattle.std.specs.Prelude.{◌≡◌, IfOk};
 
+use crate::block::Block;
 use crate::dense::Dense;
+use crate::left_room::LeftRoom;
 use crate::residue::Residue;
 use std::alloc::{AllocError, Global};
+use std::mem::replace;
 
-// Rows that are no longer wanted, whose memory serves for others. No contract tells which.
+// Rows that are no longer wanted, whose memory serves for others, and memory for the left factor. No contract tells which.
 #[derive(Drop)]
 pub(crate) struct Room<W: Residue> {
     rows: Vec<Dense<W>>,
+    pub(crate) left: LeftRoom,
 }
 
 impl<W: Residue> Room<W> {
-    // No row.
+    // No row, and no memory for a left factor.
     pub(crate) fn none(alloc: Global) -> Room<W> {
         Room {
             rows: Vec::new(alloc),
+            left: LeftRoom::none(alloc),
         }
+    }
+
+    // No row, and memory for the left factor of a block.
+    pub(crate) fn with_left(alloc: Global, block: &Block<W>) -> Result<Room<W>, AllocError> {
+        Ok(Room {
+            rows: Vec::new(alloc),
+            left: LeftRoom::of(alloc, block)?,
+        })
+    }
+
+    // Takes the memory for the left factor, and leaves none.
+    pub(crate) fn take_left(&mut self, alloc: Global) -> LeftRoom {
+        replace(&mut self.left, LeftRoom::none(alloc))
+    }
+
+    // Makes this the memory for the left factor.
+    pub(crate) fn put_left(&mut self, left: LeftRoom) {
+        self.left = left;
+    }
+
+    // Counts the entries of the left factor in so many rows more, each at so many pivots.
+    pub(crate) fn count_left(&mut self, rows: usize, pivots: usize) {
+        self.left.count(rows, pivots);
     }
 
     // Keeps these rows, or lets them go where there is no memory for a list of them.

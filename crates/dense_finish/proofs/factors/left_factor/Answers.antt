@@ -169,3 +169,6 @@ returns-clause-left g c =
     let end : c.pad-2.new.rows.matrix.height ≡ b.height = omega (arith, ap (λ A. A.height) c.in_ok-pad-2.ensures.matrix, c.loop-t.invariant.below, ap (λ (b : DenseBlock). b.height) c.block.view_is) in
     left_all end (omega arith)
     (left_zeros (c.block.inside.height - c.loop-t.left.matrix.height) pos c.loop-t.invariant.left (λ t a l. absurd (omega arith)) c.pad-2.ensures.modulus c.in_ok-pad-2.ensures.matrix)
+
+pub count_up_to-count-requires-clause-rising : goal.count_up_to-count-requires-clause-rising
+count_up_to-count-requires-clause-rising g c = rw c.deref.ensures.value c.requires.pivots.rising
