@@ -21,3 +21,4 @@ pub mod Stages
 pub mod TakingOut
 pub mod UnitRows
 pub mod Vectors
+pub mod Zeros

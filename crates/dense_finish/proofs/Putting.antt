@@ -13,6 +13,14 @@ put_none {n} name value {v} is = record {
   others = λ x l no. ap (λ u. slice_index u x) is ∙ at_zeros n x l;
 }
 
+-- the first values are 0
+pub put_zeros : (n m : ℕ) (name value : ℕ → ℕ) {v : List ℕ} → v ≡ zeros n → ((k : ℕ) → k < m → name k < n) → ((k : ℕ) → k < m → value k ≡ 0) → IsPut n m name value v
+put_zeros n m name value {v} is inside none = record {
+  long = ap length is ∙ length_list_of n (λ j. 0);
+  put = λ k l. ap (λ u. slice_index u (name k)) is ∙ at_zeros n (name k) (inside k l) ∙ sym (none k l);
+  others = λ x l no. ap (λ u. slice_index u x) is ∙ at_zeros n x l;
+}
+
 -- the row is 0 from the next place on
 pub put_behind : {n m : ℕ} (name value : ℕ → ℕ) {v : List ℕ} → ((k : ℕ) → k < m → name k < name m) → IsPut n m name value v → (x : ℕ) → name m ≤ x → x < length v → slice_index v x ≡ 0
 put_behind name value rising h x le l = h.others x (omega (arith, h.long)) (λ k lk same. omega (arith, rising k lk))

@@ -43,9 +43,7 @@ impl<W: Residue> Dense<W> {
         // The call's contract tells the range of the modulus.
         let _ = p.p();
         let mut places = Vec::with_capacity(alloc, n)?;
-        for _ in 0..n {
-            places.push(W::of(0, p))?;
-        }
+        places.resize(n, W::of(0, p))?;
         Ok(Dense { places })
     }
 
@@ -244,9 +242,16 @@ impl<W: Residue> Dense<W> {
         limit
     }
 
-    // Sets the zero row `to` to the entries, the j-th at `columns[j]`.
-    pub(crate) fn scatter(&self, columns: &[u32], to: &mut Sparse) -> Result<(), AllocError>
+    // Sets the zero row `to` to the entries, the j-th at `columns[j]`. Those before `from` are 0.
+    pub(crate) fn scatter(
+        &self,
+        columns: &[u32],
+        from: usize,
+        to: &mut Sparse,
+    ) -> Result<(), AllocError>
         requires long { length self.now ≡ length columns.now }
+        requires start { from ≤ length columns.now }
+        requires before { (j : ℕ) → j < from → slice_index self.now j ≡ 0 }
         requires residues { IsVector to.old.modulus (length columns.now) self.now }
         requires zero { to.old.row ≡ zeros (length to.old.row) }
         requires inside { AreBelow (length to.old.row) columns.now }
@@ -254,7 +259,7 @@ impl<W: Residue> Dense<W> {
         ensures modulus { to.new.modulus ≡ to.old.modulus }
         ensures row { OnOk result (Scatters (length to.old.row) columns.now self.now to.new.row) }
     {
-        for j in 0..columns.len() {
+        for j in from..columns.len() {
             let v = self.get(j);
             if v > 0 {
                 to.push(columns[j], v)?;

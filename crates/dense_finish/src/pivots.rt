@@ -1,5 +1,5 @@
 // The pivots that an elimination finds.
-ghost use Rattle.std.specs.Prelude.{◌≡◌, ◌<◌, ◌≤◌, length, IfOk, OnOk};
+ghost use Rattle.std.specs.Prelude.{◌≡◌, ◌<◌, ◌≤◌, ℕ, length, slice_index, IfOk, OnOk};
 ghost use Rattle.residue_words.specs.Matrix.{IsVector};
 ghost use Rattle.sparse_rows.specs.Rows.{AreRising};
 ghost use Rattle.sparse_rows.specs.declared.rows.TheConstants.{LARGEST_SIZE};
@@ -57,7 +57,7 @@ impl Pivots {
         })
     }
 
-    // Puts behind these the pivot of row i at column c, which has this row in the block.
+    // Puts behind these the pivot of row i at column c, which has this row in the block, with zeros before c.
     pub(crate) fn push<W: Residue>(
         &mut self,
         alloc: Global,
@@ -71,13 +71,14 @@ impl Pivots {
         requires column { c < length columns.now }
         requires few { length columns.now ≤ LARGEST_SIZE }
         requires residues { IsVector p.now (length columns.now) row.now }
+        requires before { (j : ℕ) → j < c → slice_index row.now j ≡ 0 }
         requires found { AreFound p.now columns.now self.old.u.matrix.width i self.old }
         requires inside { AreBelow self.old.u.matrix.width columns.now }
         requires rising { AreRising columns.now }
         ensures { OnOk result (AddsPivot columns.now (pivot_at i c row.now) self.old self.new) }
     {
         let mut entries = Sparse::new(alloc, self.u.width(), *p);
-        row.scatter(columns, &mut entries)?;
+        row.scatter(columns, c, &mut entries)?;
         self.u.append(&entries)?;
         self.rows.push(i)?;
         self.columns.push(c as u32)?;

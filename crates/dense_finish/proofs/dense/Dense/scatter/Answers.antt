@@ -1,11 +1,15 @@
 use Rattle.std.proofs.Common.{ℕ, ◌≡◌, ◌<◌, ◌+◌, ◌∙◌, ap, arith, length, refl, slice_index, subst, sym}
 use Rattle.dense_finish.specs.Dense.{IsPut}
-use Rattle.dense_finish.proofs.Putting.{put_behind, put_more, put_none, put_over}
+use Rattle.dense_finish.proofs.Putting.{put_behind, put_more, put_over, put_zeros}
 use Rattle.dense_finish.proofs.dense.Dense.scatter.Goals as goal
 use Rattle.dense_finish.proofs.dense.Dense.scatter.Goals.{then-v-gt0+in_ok-push, else-v-gt0}
 
 pub loop-j-init : goal.loop-j-init
-loop-j-init g c = record { modulus = refl; put = put_none (slice_index c.args.columns.now) (slice_index c.args.self.now) c.requires.zero }
+loop-j-init g c = record {
+  modulus = refl;
+  put = put_zeros (length c.args.to.now.row) c.args.from (slice_index c.args.columns.now) (slice_index c.args.self.now) c.requires.zero
+      (λ k l. c.requires.inside k (omega (arith, c.requires.start))) c.requires.before;
+}
 
 pub push-requires-clause-column : goal.push-requires-clause-column
 push-requires-clause-column g c = omega (arith, c.loop-j.invariant.put.long, c.requires.inside c.loop-j.j c.loop-j-test.true)
