@@ -1,5 +1,5 @@
 -- What is done to one dense row.
-use Rattle.std.specs.Prelude.{◌≡◌, ◌≢◌, ◌<◌, ◌+◌, ◌*◌, ◌%◌, ℕ, Bool, true, false, List, length, slice_index, slice_index_or}
+use Rattle.std.specs.Prelude.{◌≡◌, ◌≢◌, ◌<◌, ◌≤◌, ◌+◌, ◌*◌, ◌%◌, ℕ, Bool, true, false, List, length, slice_index, slice_index_or}
 use Rattle.residue_words.specs.Matrix.{IsVector}
 use Rattle.residue_words.specs.Residues.{IsPrime}
 use Rattle.sparse_rows.specs.Stored.{entry_at}
@@ -48,6 +48,13 @@ pub record KeepsCoefficients (p c : ℕ) (taken : List Bool) (v w : List ℕ) : 
   pub lead : slice_index w c ≡ slice_index v c
   pub kept : (j : ℕ) → j < length v → slice_index_or taken j false ≡ true → slice_index w j ≡ slice_index v j
   pub clear : (j : ℕ) → j < length v → j ≢ c → HasNoPivot taken j → slice_index w j ≡ 0
+
+-- w is v, with zeros at the columns from `from` on that aren't free
+pub record ClearsTaken (p from : ℕ) (taken : List Bool) (v w : List ℕ) : Type 0 where
+  pub vector : IsVector p (length v) w
+  pub clear : (j : ℕ) → from ≤ j → j < length v → slice_index_or taken j false ≡ true → slice_index w j ≡ 0
+  pub before : (j : ℕ) → j < from → slice_index w j ≡ slice_index v j
+  pub free : (j : ℕ) → HasNoPivot taken j → slice_index w j ≡ slice_index v j
 
 -- the row of n entries has the first m values at these places, and 0 at all others
 pub record IsPut (n m : ℕ) (place value : ℕ → ℕ) (row : List ℕ) : Type 0 where

@@ -1,11 +1,11 @@
 // One dense row.
-ghost use Rattle.std.specs.Prelude.{◌≡◌, ◌≢◌, ◌<◌, ◌≤◌, ◌+◌, ◌-◌, ℕ, length, slice_index, slice_set, IfOk, OnOk, IfSome, IfNone};
+ghost use Rattle.std.specs.Prelude.{◌≡◌, ◌≢◌, ◌<◌, ◌≤◌, ◌+◌, ◌-◌, ℕ, length, slice_index, slice_set, false, IfOk, OnOk, IfSome, IfNone};
 ghost use Rattle.residue_words.specs.Matrix.{IsVector, zeros};
 ghost use Rattle.sparse_rows.specs.Rows.{AreRising};
 ghost use Rattle.sparse_rows.specs.declared.rows.TheConstants.{LARGEST_SIZE};
-ghost use Rattle.dense_finish.specs.Dense.{AreEntriesAt, Gathers, IsZeroAtFree, IsCleared, IsFirstFree, IsPivotOf, KeepsCoefficients, Scatters, TakesOut};
+ghost use Rattle.dense_finish.specs.Dense.{AreEntriesAt, ClearsTaken, Gathers, HasNoPivot, IsZeroAtFree, IsCleared, IsFirstFree, IsPivotOf, KeepsCoefficients, Scatters, TakesOut};
 ghost use Rattle.sparse_rows.specs.Rows.{AreBelow};
-ghost use Rattle.dense_finish.specs.Multiples.{plus_multiple};
+ghost use Rattle.dense_finish.specs.Multiples.{IsAddedFrom, plus_at, plus_multiple};
 ghost use Rattle.dense_finish.specs.Products.{IsWritten};
 ghost use Rattle.dense_finish.specs.declared.panel.TheConstants.{PANEL};
 ghost use Rattle.residue_words.specs.declared.shoup.TheConstants.{LANE_BOUND};
@@ -18,6 +18,10 @@ use sparse_rows::Sparse;
 use std::alloc::{AllocError, Global};
 use std::marker::Model;
 use std::simd::prelude::*;
+
+// How many entries are looked at at once where the first of some kind is sought: so many that vectors serve, and few where the
+// block with the first is gone through one by one.
+const SCAN_BLOCK: usize = 64;
 
 // A row of residues, zeros too. Contracts see the list of the residues.
 #[derive(Drop)]
@@ -127,6 +131,18 @@ impl<W: Residue> Dense<W> {
         requires before { (j : ℕ) → j < from → slice_index y.now j ≡ 0 }
         ensures { self.new ≡ plus_multiple p.now a self.old y.now }
     {
+        self.add_behind(a, y, from, p);
+    }
+
+    // Adds a y from column `from` on.
+    fn add_behind(&mut self, a: u64, y: &Dense<W>, from: usize, p: &Modulus)
+        requires modulus { W.serves p.now }
+        requires factor { a < p.now }
+        requires inside { from ≤ length self.old }
+        requires residues { IsVector p.now (length self.old) self.old }
+        requires multiple { IsVector p.now (length self.old) y.now }
+        ensures { IsAddedFrom (plus_at p.now a self.old y.now) self.old from self.new }
+    {
         W::add_multiple(&mut self.places[from..], a, &y.places[from..], p);
     }
 
@@ -152,12 +168,42 @@ impl<W: Residue> Dense<W> {
         ensures some { IfSome result (IsFirstFree self.now taken.now) }
         ensures none { IfNone result (IsZeroAtFree taken.now self.now) }
     {
-        for j in 0..taken.len() {
+        for j in self.free_blocks(taken)..taken.len() {
             if !taken[j] && self.get(j) != 0 {
                 return Some(j);
             }
         }
         None
+    }
+
+    // How many columns the blocks take that come before one with a free column where an entry is not 0.
+    fn free_blocks(&self, taken: &[bool]) -> usize
+        requires { length taken.now ≡ length self.now }
+        ensures within { result ≤ length self.now }
+        ensures zeros { (j : ℕ) → j < result → HasNoPivot taken.now j → slice_index self.now j ≡ 0 }
+    {
+        let mut at = 0;
+        while taken.len() - at >= SCAN_BLOCK {
+            if self.has_free_entry(taken, at, at + SCAN_BLOCK) {
+                return at;
+            }
+            at += SCAN_BLOCK;
+        }
+        at
+    }
+
+    // Whether an entry from `start` on and before `end` is not 0 at a free column. It looks at all of them, by vectors.
+    fn has_free_entry(&self, taken: &[bool], start: usize, end: usize) -> bool
+        requires marks { length taken.now ≡ length self.now }
+        requires inside { end ≤ length self.now }
+        ensures { result ≡ false → (j : ℕ) → start ≤ j → j < end
+            → HasNoPivot taken.now j → slice_index self.now j ≡ 0 }
+    {
+        let mut any = false;
+        for j in start..end {
+            any |= !taken[j] & (self.get(j) != 0);
+        }
+        any
     }
 
     // The pivot's row that this row gives: its entries at the free columns, divided by the first, which stands at c.
@@ -176,13 +222,38 @@ impl<W: Residue> Dense<W> {
     {
         let factor = p.inv(self.get(c));
         let mut pivot = Dense::zeros(alloc, self.len(), p)?;
+        pivot.add_behind(factor, self, c, p);
         pivot.set(c, 1, p);
-        for j in c + 1..self.len() {
-            if !taken[j] {
-                pivot.set(j, p.mul(factor, self.get(j)), p);
+        pivot.clear_taken(c + 1, taken, p);
+        Ok(pivot)
+    }
+
+    // Clears the pivots' columns from `from` on, if there are any.
+    fn clear_taken(&mut self, from: usize, taken: &[bool], p: &Modulus)
+        requires modulus { W.serves p.now }
+        requires some { 0 < p.now }
+        requires residues { IsVector p.now (length self.old) self.old }
+        requires marks { length taken.now ≡ length self.old }
+        ensures { ClearsTaken p.now from taken.now self.old self.new }
+    {
+        if has_pivot(taken, from) {
+            self.clear_each_taken(from, taken, p);
+        }
+    }
+
+    // The same column by column.
+    fn clear_each_taken(&mut self, from: usize, taken: &[bool], p: &Modulus)
+        requires modulus { W.serves p.now }
+        requires some { 0 < p.now }
+        requires residues { IsVector p.now (length self.old) self.old }
+        requires marks { length taken.now ≡ length self.old }
+        ensures { ClearsTaken p.now from taken.now self.old self.new }
+    {
+        for j in from..taken.len() {
+            if taken[j] {
+                self.set(j, 0, p);
             }
         }
-        Ok(pivot)
     }
 
     // Clears the free columns behind c.
@@ -193,10 +264,39 @@ impl<W: Residue> Dense<W> {
         requires first { IsFirstFree self.old taken.now c }
         ensures { KeepsCoefficients p.now c taken.now self.old self.new }
     {
+        if has_pivot(taken, c + 1) {
+            self.clear_each_free(c, taken, p);
+        } else {
+            self.clear_behind(c + 1, p);
+        }
+    }
+
+    // The same column by column.
+    fn clear_each_free(&mut self, c: usize, taken: &[bool], p: &Modulus)
+        requires modulus { W.serves p.now }
+        requires residues { IsVector p.now (length self.old) self.old }
+        requires marks { length taken.now ≡ length self.old }
+        requires first { IsFirstFree self.old taken.now c }
+        ensures { KeepsCoefficients p.now c taken.now self.old self.new }
+    {
         for j in c + 1..taken.len() {
             if !taken[j] {
                 self.set(j, 0, p);
             }
+        }
+    }
+
+    // Clears all columns from `from` on.
+    fn clear_behind(&mut self, from: usize, p: &Modulus)
+        requires modulus { W.serves p.now }
+        requires some { 0 < p.now }
+        requires residues { IsVector p.now (length self.old) self.old }
+        ensures vector { IsVector p.now (length self.old) self.new }
+        ensures before { (j : ℕ) → j < from → slice_index self.new j ≡ slice_index self.old j }
+        ensures behind { (j : ℕ) → from ≤ j → j < length self.old → slice_index self.new j ≡ 0 }
+    {
+        for j in from..self.len() {
+            self.set(j, 0, p);
         }
     }
 
@@ -234,12 +334,40 @@ impl<W: Residue> Dense<W> {
         ensures zeros { (j : ℕ) → j < result → slice_index self.now j ≡ 0 }
         ensures nonzero { result < limit → slice_index self.now result ≢ 0 }
     {
-        for j in 0..limit {
+        for j in self.zero_blocks(limit)..limit {
             if self.get(j) != 0 {
                 return j;
             }
         }
         limit
+    }
+
+    // How many of the first `limit` entries the blocks take that come before one with an entry that is not 0.
+    fn zero_blocks(&self, limit: usize) -> usize
+        requires inside { limit ≤ length self.now }
+        ensures within { result ≤ limit }
+        ensures zeros { (j : ℕ) → j < result → slice_index self.now j ≡ 0 }
+    {
+        let mut at = 0;
+        while limit - at >= SCAN_BLOCK {
+            if self.has_entry(at, at + SCAN_BLOCK) {
+                return at;
+            }
+            at += SCAN_BLOCK;
+        }
+        at
+    }
+
+    // Whether an entry from `start` on and before `end` is not 0. It looks at all of them, by vectors.
+    fn has_entry(&self, start: usize, end: usize) -> bool
+        requires inside { end ≤ length self.now }
+        ensures { result ≡ false → (j : ℕ) → start ≤ j → j < end → slice_index self.now j ≡ 0 }
+    {
+        let mut any = false;
+        for j in start..end {
+            any |= self.get(j) != 0;
+        }
+        any
     }
 
     // Sets the zero row `to` to the entries, the j-th at `columns[j]`. Those before `from` are 0.
@@ -328,6 +456,18 @@ impl Dense<u32> {
             self.set(j, u64::from(values[j - columns.start]), p);
         }
     }
+}
+
+// Whether a pivot stands at one of the columns from `from` on. It looks at all of them, which takes less time than to stop at the
+// first, since there is none as a rule.
+fn has_pivot(taken: &[bool], from: usize) -> bool
+    ensures { result ≡ false → (j : ℕ) → from ≤ j → HasNoPivot taken.now j }
+{
+    let mut any = false;
+    for j in from..taken.len() {
+        any |= taken[j];
+    }
+    any
 }
 
 // Where a column stands among these: at `near`, as in a full row, or elsewhere.

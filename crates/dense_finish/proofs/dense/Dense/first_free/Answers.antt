@@ -3,7 +3,7 @@ use Rattle.dense_finish.proofs.dense.Dense.first_free.Goals as goal
 use Rattle.dense_finish.proofs.dense.Dense.first_free.Goals.{else-not-taken-j-via-then-not-taken-j+else-get-ne0, else-not-taken-j-via-else-not-taken-j}
 
 pub loop-j-init : goal.loop-j-init
-loop-j-init g c = λ x l f. absurd (omega arith)
+loop-j-init g c = c.free_blocks-j.ensures.zeros
 
 pub returns-then-get-ne0-clause-some : goal.returns-then-get-ne0-clause-some
 returns-then-get-ne0-clause-some g c = record {
