@@ -77,7 +77,8 @@ impl Pivots {
         requires rising { AreRising columns.now }
         ensures { OnOk result (AddsPivot columns.now (pivot_at i c row.now) self.old self.new) }
     {
-        let mut entries = Sparse::new(alloc, self.u.width(), *p);
+        let room = columns.len() - c;
+        let mut entries = Sparse::with_room(alloc, self.u.width(), *p, room)?;
         row.scatter(columns, c, &mut entries)?;
         self.u.append(&entries)?;
         self.rows.push(i)?;
