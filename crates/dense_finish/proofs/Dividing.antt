@@ -8,7 +8,7 @@ use Rattle.residue_words.specs.Residues.{IsPrime}
 use Rattle.residue_words.proofs.Residues.{mul_same}
 use Rattle.residue_words.proofs.Vectors.{at_zeros, length_list_of}
 use Rattle.dense_finish.specs.Dense.{ClearsTaken, IsFirstFree, IsPivotOf, KeepsCoefficients}
-use Rattle.dense_finish.specs.Multiples.{IsAddedFrom, plus_at}
+use Rattle.dense_finish.specs.Multiples.{IsChangedFrom, plus_at}
 use Rattle.dense_finish.proofs.TakingOut.{vector_set}
 
 -- w is v, cleared before column j
@@ -69,18 +69,24 @@ clears_none {p} {from} {taken} {v} vector none = record {
 }
 
 -- or none behind column c, so that all there are cleared
-pub kept_alone : {p c : ℕ} {taken : List Bool} {v w : List ℕ} → IsFirstFree v taken c → ((j : ℕ) → c + 1 ≤ j → slice_index_or taken j false ≡ false) → IsVector p (length v) w →
-    ((j : ℕ) → j < c + 1 → slice_index w j ≡ slice_index v j) → ((j : ℕ) → c + 1 ≤ j → j < length v → slice_index w j ≡ 0) → KeepsCoefficients p c taken v w
-kept_alone {p} {c} {taken} {v} {w} first none vector before behind = record {
-  vector = vector;
-  lead = before c (omega arith);
+pub kept_alone : {p c : ℕ} {taken : List Bool} {v w : List ℕ} → 0 < p → IsVector p (length v) v → IsFirstFree v taken c → ((j : ℕ) → c + 1 ≤ j → slice_index_or taken j false ≡ false) →
+    IsChangedFrom (λ j. 0) v (c + 1) w → KeepsCoefficients p c taken v w
+kept_alone {p} {c} {taken} {v} {w} pos residues first none h = record {
+  vector = record {
+    len = h.long;
+    residues = λ j l. elim (cases_lt j (c + 1)) [
+      | inl less ↦ omega (arith, h.kept j less, residues.residues j l)
+      | inr more ↦ omega (arith, h.changed j more l)
+    ];
+  };
+  lead = h.kept c (omega arith);
   kept = λ j l t. elim (cases_lt j (c + 1)) [
-    | inl less ↦ before j less
+    | inl less ↦ h.kept j less
     | inr more ↦ let no : true ≡ false = sym t ∙ none j more in cc
   ];
   clear = λ j l d f. elim (cases_lt j (c + 1)) [
-    | inl less ↦ before j less ∙ first.before j (omega arith) f
-    | inr more ↦ behind j more l
+    | inl less ↦ h.kept j less ∙ first.before j (omega arith) f
+    | inr more ↦ h.changed j more l
   ];
 }
 
@@ -128,13 +134,13 @@ pub record IsScaledFrom (p c factor : ℕ) (v q : List ℕ) : Type 0 where
   pub scaled : (x : ℕ) → c < x → x < length v → slice_index q x ≡ (factor * slice_index v x) % p
 
 -- v times `factor` is added to zeros
-pub scaled_from : {p c factor n : ℕ} {v z q w : List ℕ} → 2 ≤ p → c < length v → n ≡ length v → z ≡ zeros n → IsAddedFrom (plus_at p factor z v) z c q → w ≡ slice_set q c 1 → IsScaledFrom p c factor v w
+pub scaled_from : {p c factor n : ℕ} {v z q w : List ℕ} → 2 ≤ p → c < length v → n ≡ length v → z ≡ zeros n → IsChangedFrom (plus_at p factor z v) z c q → w ≡ slice_set q c 1 → IsScaledFrom p c factor v w
 scaled_from {p} {c} {factor} {n} {v} {z} {q} {w} two inside wide none h is =
     let size : length z ≡ length v = ap length none ∙ length_list_of n (λ j. 0) ∙ wide in
     let zero_at : (x : ℕ) → x < length v → slice_index z x ≡ 0 = λ x l. ap (λ l. slice_index l x) none ∙ at_zeros n x (omega arith) in
     let below : (x : ℕ) → x < c → slice_index q x ≡ 0 = λ x l. h.kept x l ∙ zero_at x (omega arith) in
     let times : (x : ℕ) → c ≤ x → x < length v → slice_index q x ≡ (factor * slice_index v x) % p =
-    λ x le l. h.added x le (omega arith) ∙ ap (λ t. (t + factor * slice_index v x) % p) (zero_at x l) ∙ ap (λ t. t % p) (zero-add (factor * slice_index v x)) in
+    λ x le l. h.changed x le (omega arith) ∙ ap (λ t. (t + factor * slice_index v x) % p) (zero_at x l) ∙ ap (λ t. t % p) (zero-add (factor * slice_index v x)) in
     let vector : IsVector p (length v) q = record {
       len = h.long ∙ size;
       residues = λ x l. elim (cases_lt x c) [

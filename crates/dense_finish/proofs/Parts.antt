@@ -6,7 +6,7 @@ use Rattle.std.proofs.lemmas.Bool.{cases_lt}
 use Rattle.std.proofs.lemmas.List.{drop-map, get_or-drop, get_or-take, length-drop, length-map, length-take, map-append, take-map, take_all}
 use Rattle.residue_words.specs.Matrix.{IsVector, list_of}
 use Rattle.residue_words.proofs.Vectors.{at_list_of, length_list_of, list_equal}
-use Rattle.dense_finish.specs.Multiples.{IsAddedFrom, plus_at, plus_multiple}
+use Rattle.dense_finish.specs.Multiples.{IsChangedFrom, plus_at, plus_multiple}
 
 -- the end from `from` on, as a borrow of it is written
 abbrev pub ending : {X : Type 0} → ℕ → List X → List X
@@ -45,36 +45,44 @@ length_changed from xs out le long =
       length-drop from xs,
     )
 
--- a y is added from `from` on
-pub added_at_end : {X : Type 0} (f : X → ℕ) (p a from : ℕ) (xs ys out : List X) (u v : List ℕ) → map f xs ≡ u → map f ys ≡ v → from ≤ length u →
-    map f out ≡ list_of (length (ending from xs)) (plus_at p a (map f (ending from xs)) (map f (ending from ys))) →
-    IsAddedFrom (plus_at p a u v) u from (map f (take from xs ++ (out ++ drop (length xs - from) (drop from xs))))
-added_at_end f p a from xs ys out u v xs-is ys-is le added =
-    let wide : length xs ≡ length u = sym (length-map xs f) ∙ ap length xs-is in
-    let long : length out ≡ length xs - from = sym (length-map out f) ∙ ap length added ∙ length_list_of _ _ ∙ length_ending from xs in
+-- the end is changed to what g gives
+pub changed_at_end : {X : Type 0} (f : X → ℕ) (g : ℕ → ℕ) (from : ℕ) (xs out : List X) (u : List ℕ) → map f xs ≡ u → from ≤ length u → length out ≡ length (ending from xs) →
+    ((k : ℕ) → k < length (ending from xs) → slice_index (map f out) k ≡ g (from + k)) →
+    IsChangedFrom g u from (map f (take from xs ++ (out ++ drop (length xs - from) (drop from xs))))
+changed_at_end f g from xs out u is le same each =
+    let wide : length xs ≡ length u = sym (length-map xs f) ∙ ap length is in
+    let long : length out ≡ length xs - from = same ∙ length_ending from xs in
     let rest : List _ = drop (length xs - from) (drop from xs) in
     let whole : map f (take from xs ++ (out ++ rest)) ≡ take from u ++ (map f out ++ map f rest) =
-    map-append f (take from xs) (out ++ rest) ∙ ap₂ (λ x y. x ++ y) (sym (take-map f from xs) ∙ ap (take from) xs-is) (map-append f out rest) in
+    map-append f (take from xs) (out ++ rest) ∙ ap₂ (λ x y. x ++ y) (sym (take-map f from xs) ∙ ap (take from) is) (map-append f out rest) in
     record {
       long = length-map _ f ∙ length_changed from xs out (omega arith) long ∙ wide;
-      added = λ j past l.
+      changed = λ j past l.
           let inner : j - from < length (ending from xs) = omega (arith, length_ending from xs) in
           let back : from + (j - from) ≡ j = omega arith in
           ap (λ z. slice_index z j) whole ∙ at_back from u (map f out) (map f rest) j 0 le past (omega (arith, length-map out f, length_ending from xs))
-          ∙ ap (λ z. slice_index z (j - from)) added ∙ at_list_of _ _ (j - from) inner
-          ∙ ap₂ (λ x y. (x + a * y) % p) (at_ending f from xs (j - from) ∙ ap₂ (λ z k. slice_index z k) xs-is back) (at_ending f from ys (j - from) ∙ ap₂ (λ z k. slice_index z k) ys-is back);
+          ∙ each (j - from) inner ∙ ap g back;
       kept = λ j less. ap (λ z. slice_index z j) whole ∙ at_front from u (map f out) (map f rest) j 0 le less;
     }
 
+-- a y is added from `from` on
+pub added_at_end : {X : Type 0} (f : X → ℕ) (p a from : ℕ) (xs ys out : List X) (u v : List ℕ) → map f xs ≡ u → map f ys ≡ v → from ≤ length u →
+    map f out ≡ list_of (length (ending from xs)) (plus_at p a (map f (ending from xs)) (map f (ending from ys))) →
+    IsChangedFrom (plus_at p a u v) u from (map f (take from xs ++ (out ++ drop (length xs - from) (drop from xs))))
+added_at_end f p a from xs ys out u v xs-is ys-is le added =
+    changed_at_end f (plus_at p a u v) from xs out u xs-is le (sym (length-map out f) ∙ ap length added ∙ length_list_of _ _) (λ k l.
+    ap (λ z. slice_index z k) added ∙ at_list_of _ _ k l
+    ∙ ap₂ (λ x y. (x + a * y) % p) (at_ending f from xs k ∙ ap (λ z. slice_index z (from + k)) xs-is) (at_ending f from ys k ∙ ap (λ z. slice_index z (from + k)) ys-is))
+
 -- that is all of a y, where y is 0 before `from`
-pub added_all : (p a from : ℕ) (u v w : List ℕ) → IsVector p (length u) u → ((j : ℕ) → j < from → slice_index v j ≡ 0) → IsAddedFrom (plus_at p a u v) u from w → w ≡ plus_multiple p a u v
+pub added_all : (p a from : ℕ) (u v w : List ℕ) → IsVector p (length u) u → ((j : ℕ) → j < from → slice_index v j ≡ 0) → IsChangedFrom (plus_at p a u v) u from w → w ≡ plus_multiple p a u v
 added_all p a from u v w vector none h =
     list_equal (length u) w (plus_multiple p a u v) h.long (length_list_of (length u) (plus_at p a u v)) (λ j l.
     elim (cases_lt j from) [
       | inl less ↦
           h.kept j less
           ∙ sym (ap (λ x. (slice_index u j + a * x) % p) (none j less) ∙ ap (λ x. (slice_index u j + x) % p) (mul-zero a) ∙ ap (λ x. x % p) (add-zero (slice_index u j)) ∙ mod-eq_of_lt (vector.residues j l))
-      | inr past ↦ h.added j past l
+      | inr past ↦ h.changed j past l
     ]
     ∙ sym (at_list_of (length u) (plus_at p a u v) j l))
 

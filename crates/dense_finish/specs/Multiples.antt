@@ -17,7 +17,7 @@ pub record IsAddedBelow (f : ℕ → ℕ) (x : List ℕ) (n : ℕ) (new : List �
   pub kept : (k : ℕ) → n ≤ k → slice_index new k ≡ slice_index x k
 
 -- new is as long as x: its entries from n on are those of f, and the others are those of x
-pub record IsAddedFrom (f : ℕ → ℕ) (x : List ℕ) (n : ℕ) (new : List ℕ) : Type 0 where
+pub record IsChangedFrom (f : ℕ → ℕ) (x : List ℕ) (n : ℕ) (new : List ℕ) : Type 0 where
   pub long : length new ≡ length x
-  pub added : (k : ℕ) → n ≤ k → k < length x → slice_index new k ≡ f k
+  pub changed : (k : ℕ) → n ≤ k → k < length x → slice_index new k ≡ f k
   pub kept : (k : ℕ) → k < n → slice_index new k ≡ slice_index x k

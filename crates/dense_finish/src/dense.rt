@@ -1,11 +1,11 @@
 // One dense row.
-ghost use Rattle.std.specs.Prelude.{◌≡◌, ◌≢◌, ◌<◌, ◌≤◌, ◌+◌, ◌-◌, ℕ, length, slice_index, slice_set, false, IfOk, OnOk, IfSome, IfNone};
+ghost use Rattle.std.specs.Prelude.{◌≡◌, ◌≢◌, ◌<◌, ◌≤◌, ◌+◌, ◌-◌, ℕ, length, map, slice_index, slice_set, false, IfOk, OnOk, IfSome, IfNone};
 ghost use Rattle.residue_words.specs.Matrix.{IsVector, zeros};
 ghost use Rattle.sparse_rows.specs.Rows.{AreRising};
 ghost use Rattle.sparse_rows.specs.declared.rows.TheConstants.{LARGEST_SIZE};
 ghost use Rattle.dense_finish.specs.Dense.{AreEntriesAt, ClearsTaken, Gathers, HasNoPivot, IsZeroAtFree, IsCleared, IsFirstFree, IsPivotOf, KeepsCoefficients, Scatters, TakesOut};
 ghost use Rattle.sparse_rows.specs.Rows.{AreBelow};
-ghost use Rattle.dense_finish.specs.Multiples.{IsAddedFrom, plus_at, plus_multiple};
+ghost use Rattle.dense_finish.specs.Multiples.{IsChangedFrom, plus_at, plus_multiple};
 ghost use Rattle.dense_finish.specs.Products.{IsWritten};
 ghost use Rattle.dense_finish.specs.declared.panel.TheConstants.{PANEL};
 ghost use Rattle.residue_words.specs.declared.shoup.TheConstants.{LANE_BOUND};
@@ -141,7 +141,7 @@ impl<W: Residue> Dense<W> {
         requires inside { from ≤ length self.old }
         requires residues { IsVector p.now (length self.old) self.old }
         requires multiple { IsVector p.now (length self.old) y.now }
-        ensures { IsAddedFrom (plus_at p.now a self.old y.now) self.old from self.new }
+        ensures { IsChangedFrom (plus_at p.now a self.old y.now) self.old from self.new }
     {
         W::add_multiple(&mut self.places[from..], a, &y.places[from..], p);
     }
@@ -290,14 +290,10 @@ impl<W: Residue> Dense<W> {
     fn clear_behind(&mut self, from: usize, p: &Modulus)
         requires modulus { W.serves p.now }
         requires some { 0 < p.now }
-        requires residues { IsVector p.now (length self.old) self.old }
-        ensures vector { IsVector p.now (length self.old) self.new }
-        ensures before { (j : ℕ) → j < from → slice_index self.new j ≡ slice_index self.old j }
-        ensures behind { (j : ℕ) → from ≤ j → j < length self.old → slice_index self.new j ≡ 0 }
+        requires inside { from ≤ length self.old }
+        ensures { IsChangedFrom (λ _. 0) self.old from self.new }
     {
-        for j in from..self.len() {
-            self.set(j, 0, p);
-        }
+        clear_all(&mut self.places[from..], p);
     }
 
     // The entries at these columns, and zeros behind them.
@@ -455,6 +451,17 @@ impl Dense<u32> {
         for j in columns.start..columns.end {
             self.set(j, u64::from(values[j - columns.start]), p);
         }
+    }
+}
+
+// Makes all entries 0. They come as a slice, which no write of an entry can move, so that they are filled at once.
+fn clear_all<W: Residue>(places: &mut [W], p: &Modulus)
+    requires modulus { W.serves p.now }
+    requires some { 0 < p.now }
+    ensures { (k : ℕ) → k < length places.old → slice_index (map W.value places.new) k ≡ 0 }
+{
+    for k in 0..places.len() {
+        places[k] = W::of(0, p);
     }
 }
 

@@ -1,7 +1,7 @@
 use Rattle.std.proofs.Common.{ap, arith, drop, length, map, subst, sym, take, ◌++◌, ◌-◌, ◌≡◌, ◌≤◌, ◌∙◌}
 use Rattle.std.proofs.lemmas.List.{length-map}
 use Rattle.residue_words.proofs.Vectors.{length_list_of}
-use Rattle.dense_finish.specs.Multiples.{IsAddedFrom, plus_at}
+use Rattle.dense_finish.specs.Multiples.{IsChangedFrom, plus_at}
 use Rattle.dense_finish.proofs.Parts.{added_at_end, ending_below, length_changed, length_ending, refilled}
 use Rattle.dense_finish.proofs.dense.Dense.add_behind.Goals as goal
 
@@ -26,5 +26,5 @@ returns g c =
     let inside : c.args.from ≤ length xs = omega (arith, c.requires.inside, ap length xs-is, length-map xs value) in
     let long : length out ≡ length xs - c.args.from = sym (length-map out value) ∙ ap length c.add_multiple.ensures ∙ length_list_of _ _ ∙ length_ending c.args.from xs in
     let kept = refilled c.self.inside.places.len ws c.self.inside.places.items (length_changed c.args.from xs out inside long ∙ some) (sym c.self.inside.places.ok.0) in
-    subst (IsAddedFrom (plus_at c.args.p.now c.args.a c.args.self.now c.args.y.now) c.args.self.now c.args.from) (sym (ap (map value) kept))
+    subst (IsChangedFrom (plus_at c.args.p.now c.args.a c.args.self.now c.args.y.now) c.args.self.now c.args.from) (sym (ap (map value) kept))
     (added_at_end value c.args.p.now c.args.a c.args.from xs ys out c.args.self.now c.args.y.now xs-is (ap (map value) c.deref.ensures.value ∙ c.y.view_is) c.requires.inside c.add_multiple.ensures)

@@ -1,4 +1,4 @@
-use Rattle.std.proofs.Common.{arith}
+use Rattle.std.proofs.Common.{◌<◌, arith}
 use Rattle.dense_finish.proofs.Dividing.{kept_alone}
 use Rattle.dense_finish.proofs.dense.Dense.keep_coefficients.Goals as goal
 
@@ -7,4 +7,5 @@ clear_behind-requires-clause-some g c κs within = omega (arith, c.requires.resi
 
 pub returns-else-has_pivot : goal.returns-else-has_pivot
 returns-else-has_pivot g c =
-    kept_alone c.requires.first (c.has_pivot.ensures c.if-has_pivot.false) c.clear_behind.ensures.vector c.clear_behind.ensures.before c.clear_behind.ensures.behind
+    let pos : 0 < c.args.p.now = omega (arith, c.requires.residues.residues c.args.c c.requires.first.inside) in
+    kept_alone pos c.requires.residues c.requires.first (c.has_pivot.ensures c.if-has_pivot.false) c.clear_behind.ensures
