@@ -1,8 +1,8 @@
 -- Sums with a list of the columns touched, and what is gathered of them in any order.
-use Rattle.std.proofs.Common.{ℕ, ◌≡◌, ◌≢◌, ◌+◌, ◌*◌, ◌%◌, ◌<◌, ◌≤◌, ◌⊎◌, List, [], ◌∷◌, ◌++◌, length, replicate, slice_index, slice_set, take, inl, inr, sym, refl, ap, subst, ◌∙◌, arith, mod-eq_of_lt}
+use Rattle.std.proofs.Common.{Bool, true, false, eqb, not, if◌then◌else◌, ℕ, ◌≡◌, ◌≢◌, ◌+◌, ◌*◌, ◌%◌, ◌<◌, ◌≤◌, ◌⊎◌, List, [], ◌∷◌, ◌++◌, length, replicate, slice_index, slice_set, inl, inr, sym, refl, ap, subst, ◌∙◌, arith, mod-eq_of_lt}
 use Rattle.std.specs.List.{Contains}
-use Rattle.std.proofs.lemmas.Bool.{cases_eq}
-use Rattle.std.proofs.lemmas.List.{get_or_append_left, get_or_push, get_or-set_other, get_or-set_same, length-set, length_push, take-set, take_more_set}
+use Rattle.std.proofs.lemmas.Bool.{cases_eq, eq-eqb, ne_eqb}
+use Rattle.std.proofs.lemmas.List.{append_assoc, get_or_append_left, get_or_push, get_or-set_other, get_or-set_same, length-set, length_push}
 use Rattle.std.proofs.lemmas.List.Elements.{Contains-append_cases, Contains-append_left, Contains-append_right}
 use Rattle.residue_words.proofs.Lists.{contains_at, place_in}
 use Rattle.residue_words.proofs.Vectors.{list_equal}
@@ -199,13 +199,17 @@ module _ {p : ℕ} {whole left next cs vs : List ℕ} {c v : ℕ} (g : IsGatheri
         ap (λ xs. slice_index xs j) t.after ∙ get_or-set_other left c j 0 0 apart ∙ g.others j (λ k l e. none k (omega (arith, length_push cs c)) (old k l ∙ e));
   }
 
--- an entry is written behind those that were taken, and is one of them if it is not 0
-pub gathering_next : {p c v count more : ℕ} {whole : List ℕ} (sums cs vs : List ℕ) → 0 < p → IsGathering p whole (residues_of p sums) (take count cs) (take count vs) → c < length sums → v ≡ slice_index sums c % p →
-    count < length cs → count < length vs → (v ≢ 0 → more ≡ count + 1) → (v ≡ 0 → more ≡ count) →
-    IsGathering p whole (residues_of p (slice_set sums c 0)) (take more (slice_set cs count c)) (take more (slice_set vs count v))
-gathering_next {p} {c} {v} {count} {more} {whole} sums cs vs pos g inside is lc lv some none = elim (cases_eq v 0) [
-  | inl z ↦ rw (none z, skipped sums c p v pos is z, take-set cs count c, take-set vs count v) g
-  | inr d ↦ rw (some d, take_more_set cs count c lc, take_more_set vs count v lv) (gathering_more g (takes_some sums pos inside is d))
+-- an item that stands behind a list if it stays
+pub behind_if : {X : Type 0} {now new : List X} (old more : List X) (x : X) (stays : Bool) → now ≡ old ++ more → new ≡ (if stays then now ++ x ∷ [] else now) → new ≡ old ++ (if stays then more ++ x ∷ [] else more)
+behind_if {X} {now} {new} old more x true e is = is ∙ ap (λ xs. xs ++ x ∷ []) e ∙ append_assoc old more (x ∷ [])
+behind_if {X} {now} {new} old more x false e is = is ∙ e
+
+-- an entry is one of those that were taken if it is not 0
+pub gathering_next : {p c v : ℕ} {whole cs vs : List ℕ} (sums : List ℕ) → 0 < p → IsGathering p whole (residues_of p sums) cs vs → c < length sums → v ≡ slice_index sums c % p →
+    IsGathering p whole (residues_of p (slice_set sums c 0)) (if not (eqb v 0) then cs ++ c ∷ [] else cs) (if not (eqb v 0) then vs ++ v ∷ [] else vs)
+gathering_next {p} {c} {v} {whole} {cs} {vs} sums pos g inside is = elim (cases_eq v 0) [
+  | inl z ↦ rw (eq-eqb v 0 z, skipped sums c p v pos is z) g
+  | inr d ↦ rw (ne_eqb v 0 d) (gathering_more g (takes_some sums pos inside is d))
 ]
 
 -- all of them were

@@ -13,7 +13,7 @@ use Rattle.sparse_rows.proofs.Spread.{at_spread, entry_cover, entry_head, entry_
 use Rattle.sparse_rows.proofs.Stored.{part_before, part_end, row_stored}
 use Rattle.triangular_solve.specs.FlatRows.{AddsRowTimes}
 use Rattle.triangular_solve.specs.PivotRows.{HaveDistinctColumns}
-use Rattle.triangular_solve.specs.Scattered.{AreScattered, IsScattered}
+use Rattle.triangular_solve.specs.Scattered.{AreScattered, IsScattered, ListsBehind}
 
 -- at a listed column stands its value
 pub entry_listed : (cs vs : List ℕ) → length cs ≡ length vs → HaveDistinctColumns cs → (k : ℕ) → k < length cs → entry_at cs vs (slice_index cs k) ≡ slice_index vs k
@@ -160,7 +160,7 @@ module _ (p n : ℕ) (starts cs vs : List ℕ) (stored : AreScattered p n starts
       ∙ part_end starts vs vs' (length starts - 1) (omega (arith, stored.some)) (stored.last ∙ stored.long)
 
   -- one row more is stored
-  pub scattered_push : AreScattered p n (starts ++ length (cs ++ cs') ∷ []) (cs ++ cs') (vs ++ vs')
+  scattered_push : AreScattered p n (starts ++ length (cs ++ cs') ∷ []) (cs ++ cs') (vs ++ vs')
   unfolding ends
   scattered_push = record {
     two_or_more = stored.two_or_more;
@@ -194,9 +194,20 @@ module _ (p n : ℕ) (starts cs vs : List ℕ) (stored : AreScattered p n starts
       (ap₂ (spread n) end_columns end_values)
 
   -- and the matrix has this row more
-  pub scattered_matrix : stored_matrix n (starts ++ length (cs ++ cs') ∷ []) (cs ++ cs') (vs ++ vs') ≡ with_row (stored_matrix n starts cs vs) (spread n cs' vs')
+  scattered_matrix : stored_matrix n (starts ++ length (cs ++ cs') ∷ []) (cs ++ cs') (vs ++ vs') ≡ with_row (stored_matrix n starts cs vs) (spread n cs' vs')
   unfolding ends
   scattered_matrix = ap₂ (λ h r. sized h n r) (omega (arith, long_ends, stored.some)) rows_push
+
+-- one row more, whose columns and values stand behind those of before
+pub scattered_appended : {p n : ℕ} {starts cs vs ends cs' vs' : List ℕ} {r : ResidueRow} → AreScattered p n starts cs vs → ListsBehind r cs vs cs' vs' → r.modulus ≡ p → length r.row ≡ n → ends ≡ starts ++ length cs' ∷ [] →
+    AreScattered p n ends cs' vs' × (stored_matrix n ends cs' vs' ≡ with_row (stored_matrix n starts cs vs) r.row)
+scattered_appended {p} {n} {starts} {cs} {vs} {ends} {cs'} {vs'} {r} s l modulus wide e =
+    let more : IsScattered p n l.columns l.values = subst (λ n. IsScattered p n l.columns l.values) wide (subst (λ p. IsScattered p (length r.row) l.columns l.values) modulus l.scattered) in
+    let is : spread n l.columns l.values ≡ r.row = ap (λ n. spread n l.columns l.values) (sym wide) ∙ l.row in
+    rw (e, l.all_columns, l.all_values) (
+      scattered_push p n starts cs vs s l.columns l.values more,
+      scattered_matrix p n starts cs vs s l.columns l.values more ∙ ap (with_row (stored_matrix n starts cs vs)) is,
+    )
 
 -- row i
 pub scattered_row : (n : ℕ) (starts cs vs : List ℕ) (i : ℕ) → i + 1 < length starts → row (stored_matrix n starts cs vs) i ≡ spread n (part starts cs i) (part starts vs i)

@@ -1,7 +1,8 @@
 -- Rows by their nonzero entries, which stand in any order.
-use Rattle.std.specs.Prelude.{◌≡◌, ◌≢◌, ◌<◌, ◌≤◌, ◌+◌, ◌-◌, ℕ, List, length, slice_index}
+use Rattle.std.specs.Prelude.{◌≡◌, ◌≢◌, ◌<◌, ◌≤◌, ◌+◌, ◌-◌, ◌++◌, ℕ, List, length, slice_index}
 use Rattle.std.specs.List.{Contains}
-use Rattle.sparse_rows.specs.Stored.{part}
+use Rattle.sparse_rows.specs.Rows.{ResidueRow}
+use Rattle.sparse_rows.specs.Stored.{part, spread}
 use Rattle.triangular_solve.specs.Accumulator.{AreLimited}
 use Rattle.triangular_solve.specs.PivotRows.{HaveDistinctColumns}
 
@@ -12,6 +13,15 @@ pub record IsScattered (p n : ℕ) (cs vs : List ℕ) : Type 0 where
   pub below : (k : ℕ) → k < length cs → slice_index cs k < n
   pub positive : (k : ℕ) → k < length vs → 0 < slice_index vs k
   pub residues : (k : ℕ) → k < length vs → slice_index vs k < p
+
+-- cs' and vs' are cs and vs with columns and values of the row behind them
+pub record ListsBehind (r : ResidueRow) (cs vs cs' vs' : List ℕ) : Type 0 where
+  pub columns : List ℕ
+  pub values : List ℕ
+  pub scattered : IsScattered r.modulus (length r.row) columns values
+  pub row : spread (length r.row) columns values ≡ r.row
+  pub all_columns : cs' ≡ cs ++ columns
+  pub all_values : vs' ≡ vs ++ values
 
 -- rows of n residues modulo p, one after another
 pub record AreScattered (p n : ℕ) (starts cs vs : List ℕ) : Type 0 where

@@ -75,25 +75,21 @@ impl FlatRows {
     {
         let rows = pivots.rows();
         let mut sums = TouchedSums::new(alloc, rows.width(), rows.modulus())?;
-        let mut cols = Vec::new(alloc);
-        let mut vals = Vec::new(alloc);
         for k in 0..self.count {
             if self.tails.entries() > most {
                 return Ok(false);
             }
-            self.append_row(pivots, self.count - 1 - k, &mut sums, &mut cols, &mut vals)?;
+            self.append_row(pivots, self.count - 1 - k, &mut sums)?;
         }
         Ok(true)
     }
 
-    // Appends the flat row of the pivot at a place, whose followers are there. The lists are room for it.
+    // Appends the flat row of the pivot at a place, whose followers are there. The sums are room for it.
     fn append_row(
         &mut self,
         pivots: &PivotRows,
         place: u32,
         sums: &mut TouchedSums,
-        cols: &mut Vec<u32>,
-        vals: &mut Vec<u64>,
     ) -> Result<(), AllocError>
         requires flat { AreFlat pivots.now self.old }
         requires next { self.old.tails.matrix.height + (place + 1) ≡ self.old.count }
@@ -106,8 +102,7 @@ impl FlatRows {
         // The call's contract tells that the flat rows are residues.
         let _ = self.tails.entries();
         self.flatten(pivots, place, sums)?;
-        sums.drain(cols, vals)?;
-        self.tails.append(cols, vals)?;
+        self.tails.append_sums(sums)?;
         Ok(())
     }
 

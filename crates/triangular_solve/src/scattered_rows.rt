@@ -1,9 +1,11 @@
 // Rows whose entries stand in any order.
 ghost use Rattle.std.specs.Prelude.{◌≡◌, ◌<◌, ◌≤◌, [], length, IfOk, OnOk};
 ghost use Rattle.residue_words.specs.Matrix.{IsMatrix, row};
-ghost use Rattle.sparse_rows.specs.Stored.{spread, with_sparse_row};
+ghost use Rattle.sparse_rows.specs.Stored.{spread, with_row};
+ghost use Rattle.triangular_solve.specs.Accumulator.{IsClear};
 ghost use Rattle.triangular_solve.specs.Scattered.{IsScattered};
 
+use crate::touched_sums::TouchedSums;
 use residue_words::Modulus;
 use std::alloc::{AllocError, Global};
 use std::marker::Model;
@@ -59,17 +61,17 @@ impl ScatteredRows {
         })
     }
 
-    // Appends the row that these columns and values stand for.
-    pub(crate) fn append(&mut self, cols: &[u32], vals: &[u64]) -> Result<(), AllocError>
-        requires { IsScattered self.old.modulus self.old.matrix.width cols.now vals.now }
+    // Appends the row of these sums, which is taken from them.
+    pub(crate) fn append_sums(&mut self, sums: &mut TouchedSums) -> Result<(), AllocError>
+        requires modulus { sums.old.modulus ≡ self.old.modulus }
+        requires width { length sums.old.row ≡ self.old.matrix.width }
         ensures modulus { self.new.modulus ≡ self.old.modulus }
-        ensures matrix { OnOk result (self.new.matrix ≡ with_sparse_row self.old.matrix cols.now vals.now) }
+        ensures matrix { OnOk result (self.new.matrix ≡ with_row self.old.matrix sums.old.row) }
+        ensures clear { OnOk result (IsClear sums.old.modulus (length sums.old.row) sums.new) }
     {
         self.starts.reserve(1)?;
-        self.vals.reserve(vals.len())?;
-        self.cols.extend_from_slice(cols)?;
-        self.vals.extend_from_slice(vals)?;
-        self.starts.push(self.cols.len())?;
+        sums.drain_behind(&mut self.cols, &mut self.vals)?;
+        self.starts.push_reserved(self.cols.len());
         Ok(())
     }
 

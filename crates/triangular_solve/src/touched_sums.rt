@@ -1,10 +1,9 @@
 // Sums by column, with a list of the columns touched.
-ghost use Rattle.std.specs.Prelude.{◌≡◌, ◌<◌, length, IfOk, OnOk};
+ghost use Rattle.std.specs.Prelude.{◌≡◌, ◌<◌, ◌≤◌, ◌+◌, [], ◌∷◌, ◌++◌, if◌then◌else◌, length, vec_len, vec_capacity, IfOk, OnErr, OnOk};
 ghost use Rattle.residue_words.specs.declared.shoup.TheConstants.{LANE_BOUND};
 ghost use Rattle.sparse_rows.specs.Rows.{AddsAt, AddsMultiple};
-ghost use Rattle.sparse_rows.specs.Stored.{spread};
 ghost use Rattle.triangular_solve.specs.Accumulator.{IsClear};
-ghost use Rattle.triangular_solve.specs.Scattered.{IsScattered};
+ghost use Rattle.triangular_solve.specs.Scattered.{IsScattered, ListsBehind};
 
 use crate::accumulator::{add_below, limit};
 use residue_words::{LANE_BOUND, Modulus};
@@ -114,31 +113,38 @@ impl TouchedSums {
         }
     }
 
-    // Makes these lists the columns and values of the row, which is taken from it.
-    pub(crate) fn drain(
+    // Appends the columns and values of the row, which is taken from it, to these lists.
+    pub(crate) fn drain_behind(
         &mut self,
         cols: &mut Vec<u32>,
         vals: &mut Vec<u64>,
     ) -> Result<(), AllocError>
         ensures clear { OnOk result (IsClear self.old.modulus (length self.old.row) self.new) }
-        ensures scattered { OnOk result
-            (IsScattered self.old.modulus (length self.old.row) cols.new.items vals.new.items) }
-        ensures row { OnOk result
-            (spread (length self.old.row) cols.new.items vals.new.items ≡ self.old.row) }
+        ensures listed { OnOk result
+            (ListsBehind self.old cols.old.items vals.old.items cols.new.items vals.new.items) }
+        ensures kept { OnErr result ((cols.new.items ≡ cols.old.items) × (vals.new.items ≡ vals.old.items)) }
     {
-        cols.resize(self.touched.len(), 0)?;
-        vals.resize(self.touched.len(), 0)?;
-        let mut count = 0;
+        cols.reserve(self.touched.len())?;
+        vals.reserve(self.touched.len())?;
         while let Some(column) = self.touched.pop() {
             let value = self.modulus.residue(self.sums[column as usize]);
             self.sums[column as usize] = 0;
-            // An entry that is 0 is written too, and the next one over it: a branch would be missed at random.
-            cols[count] = column;
-            vals[count] = value;
-            count += usize::from(value != 0);
+            push_if(cols, column, value != 0);
+            push_if(vals, value, value != 0);
         }
-        cols.truncate(count);
-        vals.truncate(count);
         Ok(())
+    }
+}
+
+// Appends an item if it is to stay. It is written behind the list in any case: a branch would be missed at random.
+fn push_if<T: Copy>(list: &mut Vec<T>, item: T, stays: bool)
+    requires { vec_len list.old < vec_capacity list.old }
+    ensures items { list.new.items ≡ (if stays then list.old.items ++ item ∷ [] else list.old.items) }
+    ensures len { vec_len list.new ≤ vec_len list.old + 1 }
+    ensures capacity { vec_capacity list.new ≡ vec_capacity list.old }
+{
+    list.push_reserved(item);
+    if !stays {
+        let _ = list.take_last();
     }
 }
