@@ -1,9 +1,9 @@
 // Sums by column, with a list of the columns touched.
-ghost use Rattle.std.specs.Prelude.{◌≡◌, ◌<◌, ◌≤◌, ◌+◌, [], ◌∷◌, ◌++◌, if◌then◌else◌, length, vec_len, vec_capacity, IfOk, OnErr, OnOk};
+ghost use Rattle.std.specs.Prelude.{ℕ, ◌≡◌, ◌<◌, ◌≤◌, ◌+◌, ◌^◌, [], ◌∷◌, ◌++◌, if◌then◌else◌, length, slice_index, vec_len, vec_capacity, IfOk, OnErr, OnOk};
 ghost use Rattle.residue_words.specs.declared.shoup.TheConstants.{LANE_BOUND};
 ghost use Rattle.sparse_rows.specs.Rows.{AddsAt, AddsMultiple};
-ghost use Rattle.triangular_solve.specs.Accumulator.{IsClear};
-ghost use Rattle.triangular_solve.specs.Scattered.{IsScattered, ListsBehind};
+ghost use Rattle.triangular_solve.specs.Accumulator.{AddsBelow, IsClear};
+ghost use Rattle.triangular_solve.specs.Scattered.{IsScattered, IsTouched, ListsBehind};
 
 use crate::accumulator::{add_below, limit};
 use residue_words::{LANE_BOUND, Modulus};
@@ -55,9 +55,7 @@ impl TouchedSums {
         ensures { OnOk result (AddsAt j v self.old self.new) }
     {
         self.touched.reserve(1)?;
-        if add_below(&mut self.sums, j, v, self.limit) {
-            self.touched.push_reserved(j);
-        }
+        add_touched(&mut self.sums, &mut self.touched, j, v, self.limit);
         Ok(())
     }
 
@@ -71,9 +69,14 @@ impl TouchedSums {
     {
         self.touched.reserve(cols.len())?;
         for k in 0..cols.len() {
-            if add_below(&mut self.sums, cols[k], by * vals[k], self.limit) {
-                self.touched.push_reserved(cols[k]);
-            }
+            let product = by * vals[k];
+            add_touched(
+                &mut self.sums,
+                &mut self.touched,
+                cols[k],
+                product,
+                self.limit,
+            );
         }
         Ok(())
     }
@@ -88,9 +91,13 @@ impl TouchedSums {
         let modulus = self.modulus;
         for k in 0..cols.len() {
             let product = modulus.mul(by, vals[k]);
-            if add_below(&mut self.sums, cols[k], product, self.limit) {
-                self.touched.push_reserved(cols[k]);
-            }
+            add_touched(
+                &mut self.sums,
+                &mut self.touched,
+                cols[k],
+                product,
+                self.limit,
+            );
         }
         Ok(())
     }
@@ -134,6 +141,23 @@ impl TouchedSums {
         }
         Ok(())
     }
+}
+
+// Adds v at column j to sums that are kept below the limit, and lists the column if its sum was 0.
+fn add_touched(sums: &mut Vec<u64>, touched: &mut Vec<u32>, j: u32, v: u64, limit: u64)
+    requires column { j < length sums.old.items }
+    requires limit { limit ≤ 2 ^ 63 }
+    requires sum { slice_index sums.old.items j < limit }
+    requires value { v < limit }
+    requires room { vec_len touched.old < vec_capacity touched.old }
+    ensures sums { AddsBelow limit j v sums.old.items sums.new.items }
+    ensures touched { (p : ℕ) → IsTouched p limit sums.old.items touched.old.items
+        → IsTouched p limit sums.new.items touched.new.items }
+    ensures len { vec_len touched.new ≤ vec_len touched.old + 1 }
+    ensures capacity { vec_capacity touched.new ≡ vec_capacity touched.old }
+{
+    let first = add_below(sums, j, v, limit);
+    push_if(touched, j, first);
 }
 
 // Appends an item if it is to stay. It is written behind the list in any case: a branch would be missed at random.

@@ -1,15 +1,13 @@
-use Rattle.std.proofs.Common.{◌≡◌, ◌*◌, ◌%◌, ◌∙◌, ℕ, length, slice_index, inl, inr, refl, sym, ap, subst, arith}
+use Rattle.std.proofs.Common.{◌≡◌, ◌*◌, ◌%◌, ◌∙◌, ℕ, length, slice_index, sym, ap, subst, arith}
 use native.Mathlib.Nat.{mod-mod}
-use Rattle.std.proofs.lemmas.Bool.{false≢true}
 use Rattle.sparse_rows.specs.Rows.{ResidueRow}
 use Rattle.sparse_rows.proofs.Adding.{IsAddingTo}
 use Rattle.triangular_solve.specs.Accumulator.{residues_of}
 use Rattle.triangular_solve.specs.Scattered.{IsTouched}
-use Rattle.triangular_solve.proofs.Accumulating.{added_in, as_row}
-use Rattle.triangular_solve.proofs.Gathering.{adding_begins, adding_goes, adding_inside, touched_added}
+use Rattle.triangular_solve.proofs.Accumulating.{as_row}
+use Rattle.triangular_solve.proofs.Gathering.{adding_begins, adding_goes}
 use Rattle.triangular_solve.proofs.Scattered.{scattered_done}
 use Rattle.triangular_solve.proofs.touched_sums.TouchedSums.add_residues.Goals as goal
-use Rattle.triangular_solve.proofs.touched_sums.TouchedSums.add_residues.Goals.{then-add_below, else-add_below}
 
 pub loop-k-init : goal.loop-k-init
 loop-k-init c = record {
@@ -21,26 +19,15 @@ loop-k-init c = record {
 pub loop-k-preserved : goal.loop-k-preserved
 loop-k-preserved c =
     let inv = c.loop-k.invariant in
-    let inside = adding_inside c.loop-k.self-inside.sums.items c.requires.row inv.adding c.loop-k-test.true in
-    let below = added_in c.loop-k.self-inside.sums c.deref_mut.ensures.value c.add_below.ensures.sums in
     let modulus : c.self.inside.modulus ≡ c.args.self.now.modulus = ap (λ (r : ResidueRow). r.modulus) c.self.view_is in
     let value : c.mul-product.result % c.args.self.now.modulus ≡ (c.args.by * slice_index c.args.vals.now c.loop-k.k) % c.args.self.now.modulus =
     ap (λ x. x % c.args.self.now.modulus) (c.mul-product.ensures.value ∙ ap (λ m. (c.args.by * slice_index c.args.vals.now c.loop-k.k) % m) modulus)
     ∙ mod-mod (c.args.by * slice_index c.args.vals.now c.loop-k.k) c.args.self.now.modulus in
-    let adding = adding_goes c.requires.row inv.adding c.loop-k-test.true inv.sound.limited value below in
-    elim c.if-add_below.branch [
-      | then-add_below w ↦ rw w.self-inside-is record {
-        sound = touched_added inv.sound inside below (inr w.push_reserved.ensures.items);
-        adding = adding;
-        room = omega (arith, inv.room, c.loop-k-test.true, w.push_reserved.ensures.len, w.push_reserved.ensures.capacity);
-      }
-      | else-add_below w ↦ rw w.self-inside-is record {
-        sound = touched_added inv.sound inside below
-            (inl (refl, λ z. false≢true (sym w.if-add_below.false ∙ c.add_below.ensures.zero.1 (ap (λ xs. slice_index xs (slice_index c.args.cols.now c.loop-k.k)) c.deref_mut.ensures.value ∙ z))));
-        adding = adding;
-        room = omega (arith, inv.room, c.loop-k-test.true);
-      }
-    ]
+    record {
+      sound = c.add_touched.ensures.touched c.loop-k.self-inside.modulus inv.sound;
+      adding = adding_goes c.requires.row inv.adding c.loop-k-test.true inv.sound.limited value c.add_touched.ensures.sums;
+      room = omega (arith, inv.room, c.loop-k-test.true, c.add_touched.ensures.len, c.add_touched.ensures.capacity);
+    }
 
 pub returns : goal.returns
 returns c =
