@@ -140,7 +140,7 @@ impl Accumulator {
         ensures none { IfNone result ((self.new ≡ self.old) × AllZero self.old.row) }
     {
         while let Some(column) = self.touched.pop() {
-            let value = self.modulus.residue(self.sums[column as usize]);
+            let value = residue_of(&self.modulus, self.limit, self.sums[column as usize]);
             self.sums[column as usize] = 0;
             if value != 0 {
                 return Some((column, value));
@@ -192,6 +192,14 @@ pub(crate) fn limit(p: u64) -> u64
     ensures { result ≡ limit_of p }
 {
     if p < LANE_BOUND { ROOM / p * p } else { p }
+}
+
+// The residue of a sum below the limit: the sum where the limit is the modulus, since by a large one it takes a division.
+pub(crate) fn residue_of(p: &Modulus, limit: u64, sum: u64) -> u64
+    requires { sum < limit }
+    ensures value { result ≡ sum % p.now }
+{
+    if limit == p.p() { sum } else { p.residue(sum) }
 }
 
 // A number below twice the limit, less the limit where it is not below it. A difference that wraps is above the sum; this

@@ -5,7 +5,7 @@ ghost use Rattle.sparse_rows.specs.Rows.{AddsAt, AddsMultiple};
 ghost use Rattle.triangular_solve.specs.Accumulator.{AddsBelow, IsClear};
 ghost use Rattle.triangular_solve.specs.Scattered.{IsScattered, IsTouched, ListsBehind};
 
-use crate::accumulator::{add_below, limit};
+use crate::accumulator::{add_below, limit, residue_of};
 use residue_words::{LANE_BOUND, Modulus};
 use std::alloc::{AllocError, Global};
 use std::marker::Model;
@@ -134,7 +134,7 @@ impl TouchedSums {
         cols.reserve(self.touched.len())?;
         vals.reserve(self.touched.len())?;
         while let Some(column) = self.touched.pop() {
-            let value = self.modulus.residue(self.sums[column as usize]);
+            let value = residue_of(&self.modulus, self.limit, self.sums[column as usize]);
             self.sums[column as usize] = 0;
             push_if(cols, column, value != 0);
             push_if(vals, value, value != 0);

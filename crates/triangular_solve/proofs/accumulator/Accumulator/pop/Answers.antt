@@ -12,8 +12,8 @@ returns-then-value-ne0-clause-some c =
     let p : ℕ = c.loop-column.self-inside.modulus in
     let sums : List ℕ = c.loop-column.self-inside.sums.items in
     let top : IsTop sums c.pop.new.self c.in-Some.column = touched_pop c.loop-column.invariant.sound.touched c.in-Some.ensures.some in
-    subst (λ r. TakesFirst r (residues_of p (slice_set sums c.in-Some.column 0)) c.in-Some.column c.residue-value.result) (ap (λ (r : ResidueRow). r.row) c.loop-column.invariant.same)
-    (first_taken p _ (omega (arith, c.loop-column.invariant.sound.limited.two_or_more)) top (c.residue-value.ensures.value ∙ ap (λ x. x % p) (c.index.ensures ∙ get_or_default sums _ _ 0 top.inside)) c.if-value-ne0.true)
+    subst (λ r. TakesFirst r (residues_of p (slice_set sums c.in-Some.column 0)) c.in-Some.column c.residue_of-value.result) (ap (λ (r : ResidueRow). r.row) c.loop-column.invariant.same)
+    (first_taken p _ (omega (arith, c.loop-column.invariant.sound.limited.two_or_more)) top (c.residue_of-value.ensures.value ∙ ap (λ x. x % p) (c.index.ensures ∙ get_or_default sums _ _ 0 top.inside)) c.if-value-ne0.true)
 
 pub loop-column-smaller : goal.loop-column-smaller
 loop-column-smaller c = taken_falls c.in-Some.ensures.some
@@ -25,7 +25,7 @@ loop-column-preserved c =
     let top : IsTop sums c.pop.new.self c.in-Some.column = touched_pop c.loop-column.invariant.sound.touched c.in-Some.ensures.some in
     record {
       same = ap (as_row p) (skipped sums _ p _ (omega (arith, c.loop-column.invariant.sound.limited.two_or_more))
-          (c.residue-value.ensures.value ∙ ap (λ x. x % p) (c.index.ensures ∙ get_or_default sums _ _ 0 top.inside)) c.if-value-ne0.false) ∙ c.loop-column.invariant.same;
+          (c.residue_of-value.ensures.value ∙ ap (λ x. x % p) (c.index.ensures ∙ get_or_default sums _ _ 0 top.inside)) c.if-value-ne0.false) ∙ c.loop-column.invariant.same;
       sound = accumulator_zero c.loop-column.invariant.sound c.in-Some.column top.taken;
     }
 

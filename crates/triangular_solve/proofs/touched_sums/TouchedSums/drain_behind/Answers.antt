@@ -25,18 +25,18 @@ loop-column-preserved c =
     let sums : List ℕ = c.loop-column.self-inside.sums.items in
     let inside : c.in-Some.column < length sums = touched_last c.pop.new.self.items inv.sound c.in-Some.ensures.items in
     let fewer : length c.loop-column.self-inside.touched.items ≡ length c.pop.new.self.items + 1 = ap length c.in-Some.ensures.items ∙ length_push _ _ in
-    let stays : Bool = not (eqb c.residue-value.result 0) in
+    let stays : Bool = not (eqb c.residue_of-value.result 0) in
     record {
       modulus = inv.modulus;
       sound = touched_less c.in-Some.column c.pop.new.self.items inv.sound c.in-Some.ensures.items;
       room = omega (arith, inv.room, fewer, c.push_if.ensures.len, c.push_if.ensures.capacity);
       room_values = omega (arith, inv.room_values, fewer, c.push_if-in-Some.ensures.len, c.push_if-in-Some.ensures.capacity);
       columns = if stays then inv.columns ++ c.in-Some.column ∷ [] else inv.columns;
-      values = if stays then inv.values ++ c.residue-value.result ∷ [] else inv.values;
+      values = if stays then inv.values ++ c.residue_of-value.result ∷ [] else inv.values;
       all_columns = behind_if c.args.cols.now.items inv.columns c.in-Some.column stays inv.all_columns c.push_if.ensures.items;
-      all_values = behind_if c.args.vals.now.items inv.values c.residue-value.result stays inv.all_values c.push_if-in-Some.ensures.items;
+      all_values = behind_if c.args.vals.now.items inv.values c.residue_of-value.result stays inv.all_values c.push_if-in-Some.ensures.items;
       gathered = gathering_next sums (omega (arith, inv.sound.limited.two_or_more)) inv.gathered inside
-          (c.residue-value.ensures.value ∙ ap (λ x. x % c.loop-column.self-inside.modulus) (c.index.ensures ∙ get_or_default sums _ _ 0 inside));
+          (c.residue_of-value.ensures.value ∙ ap (λ x. x % c.loop-column.self-inside.modulus) (c.index.ensures ∙ get_or_default sums _ _ 0 inside));
     }
 
 pub returns-clause-clear : goal.returns-clause-clear
