@@ -4,7 +4,7 @@ ghost use Rattle.std.specs.Prelude.{◌≡◌, ◌<◌, ◌≤◌, ◌+◌, leng
 ghost use Rattle.sparse_rows.specs.Rows.{AreBelow, AreRising};
 
 use residue_words::Modulus;
-use sparse_rows::{LARGEST_SIZE, List, Rows, RowsBuilder, Sparse};
+use sparse_rows::{EntryRoom, LARGEST_SIZE, List, Rows, RowsBuilder, Sparse};
 use std::alloc::{AllocError, Global};
 use std::test::Fail;
 
@@ -269,6 +269,56 @@ fn filled_rows_and_occupied_columns(rt: HostRuntime) -> Result<(), Fail> {
         places(rt.alloc(), &x, FAR_FILLED, FAR_OCCUPIED)?,
         (true, true, Some(1_000_000_000))
     );
+    Ok(())
+}
+
+// All columns have an entry after two rows, or the last one in the last row alone, or never.
+const EARLY: &[(u32, u32, u64)] = &[(0, 0, 1), (0, 2, 1), (1, 1, 1), (2, 0, 1), (3, 2, 1)];
+
+const LATE: &[(u32, u32, u64)] = &[(0, 0, 1), (0, 1, 1), (1, 1, 1), (2, 0, 1), (3, 2, 1)];
+
+const NEVER: &[(u32, u32, u64)] = &[(0, 0, 1), (0, 1, 1), (1, 1, 1), (2, 0, 1), (3, 1, 1)];
+
+// Whether these columns have an entry in the matrix of four rows and three columns.
+fn occupies_of(alloc: Global, triples: &[(u32, u32, u64)], wanted: &[u32]) -> Result<bool, Fail> {
+    let rows = built(alloc, 4, 3, triples)?;
+    Ok(occupies(alloc, &rows, wanted)?)
+}
+
+#[test]
+fn occupied_columns_are_found_in_any_row(rt: HostRuntime) -> Result<(), Fail> {
+    let alloc = rt.alloc();
+    let early = occupies_of(alloc, EARLY, &[0, 1, 2])?;
+    let late = occupies_of(alloc, LATE, &[0, 1, 2])?;
+    let never = occupies_of(alloc, NEVER, &[0, 1])?;
+    assert_eq!(rt; (early, late, never), (true, true, true));
+    Ok(())
+}
+
+// The matrix of two equal rows of two entries, in memory for four of which so many were written to.
+fn written(alloc: Global, before: usize, ahead: usize) -> Result<Rows, AllocError> {
+    let p = Modulus::new(7);
+    let mut room = EntryRoom::new(alloc, 4)?;
+    room.write(before);
+    let mut rows = Rows::in_room(alloc, p, 3, 2, room)?;
+    let mut row = Sparse::with_room(alloc, 3, p, 2)?;
+    row.push(0, 5)?;
+    row.push(2, 6)?;
+    rows.append(&row)?;
+    rows.write_ahead(ahead);
+    rows.append(&row)?;
+    Ok(rows)
+}
+
+const WRITTEN: &[(u32, u32, u64)] = &[(0, 0, 5), (0, 2, 6), (1, 0, 5), (1, 2, 6)];
+
+#[test]
+fn memory_that_was_written_to_holds_what_is_appended(rt: HostRuntime) -> Result<(), Fail> {
+    let alloc = rt.alloc();
+    for (before, ahead) in [(0, 0), (1, 1), (4, 2), (usize::MAX, usize::MAX)] {
+        let rows = written(alloc, before, ahead)?;
+        assert_eq!(rt; lists(alloc, &rows, WRITTEN)?, true, "{before} and {ahead}");
+    }
     Ok(())
 }
 
