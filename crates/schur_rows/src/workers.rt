@@ -24,7 +24,7 @@ use triangular_solve::Work;
 const PARTS: usize = 8;
 
 // Where there is room for more entries than these, one worker joins those of a stage while the next one is made.
-const STAGE_ENTRIES: usize = 1 << 19;
+const STAGE_ENTRIES: usize = 1 << 18;
 
 // But there are no more stages than these.
 const MOST_STAGES: usize = 8;
@@ -201,17 +201,15 @@ fn join_and_go_on(
         deal.entry.from (cut_at deal.entry stage.begun) made.new) }
 {
     join_parts(alloc, deal, stage.joined, stage.begun, parts, made)?;
-    made.rows.write_ahead(entries_of(deal, stage));
+    made.rows.write_ahead(entries_to_come(made, stage));
     let own = parts_of_worker(alloc, deal, stage.end, next)?;
     Ok(own)
 }
 
-// About how many entries the parts of a stage have: half of what there is room for, as samples tell it.
-fn entries_of(deal: Deal, stage: Stage) -> usize {
-    let height = deal.to.saturating_sub(deal.from);
-    let entries = share_of_rows(deal.pass.reducer.rows(), deal.pass.total, height) / 2;
-    let parts = stage.end.saturating_sub(stage.begun);
-    (entries / deal.count.max(1)).saturating_mul(parts)
+// About how many entries the parts of a stage have, as the parts before it tell; none where there are none before.
+fn entries_to_come(made: &SchurRows, stage: Stage) -> usize {
+    let each = made.rows.entries() / stage.begun.max(1) as u64;
+    (each as usize).saturating_mul(stage.end.saturating_sub(stage.begun))
 }
 
 // The parts below `end` that so many workers make.
