@@ -177,19 +177,19 @@ fn sums_at(
     }
 }
 
-// The entries of the rows at the eight columns from `start` on, one row behind the other, and zeros behind.
-fn tile_of(rows: &[Dense<u32>], start: usize) -> [[u32; TILE_COLUMNS]; PANEL]
+// Puts the entries of the rows at the eight columns from `start` on in a tile, one row behind the other. What
+// stands behind them stays, since a tile that was made for each call took as long as the entries.
+fn fill_tile(rows: &[Dense<u32>], start: usize, tile: &mut [[u32; TILE_COLUMNS]; PANEL])
     requires high { length rows.now ≤ PANEL }
     requires wide { (k : ℕ) → k < length rows.now → start + TILE_COLUMNS ≤ length (block_row rows.now k) }
-    ensures long { length result ≡ PANEL }
-    ensures tile { IsTile start rows.now result }
-    ensures rest { (k l : ℕ) → length rows.now ≤ k → entry_of result k l ≡ 0 }
+    requires long { length tile.old ≡ PANEL }
+    ensures long { length tile.new ≡ PANEL }
+    ensures filled { IsTile start rows.now tile.new }
+    ensures kept { (k : ℕ) → length rows.now ≤ k → block_row tile.new k ≡ block_row tile.old k }
 {
-    let mut tile = [[0u32; TILE_COLUMNS]; PANEL];
     for k in 0..rows.len() {
         tile[k] = rows[k].eight_at(start);
     }
-    tile
 }
 
 // The residues of eight entries and sums, given by four and four.
@@ -247,40 +247,43 @@ fn add_run(
     }
 }
 
-// The entries of the rows of a block at the eight columns from `start` on, with the sums of the products with a
-// tile of so many rows added, as many products at a time as a sum takes. The entries are read before any product,
-// all at once: the rows lie far apart in memory, and a processor waits for many of them at a time.
-fn entries_with_products(
+// Makes the entries those of the rows of a block at the eight columns from `start` on, with the sums of the
+// products with a tile of so many rows added, as many products at a time as a sum takes. The rows are read before
+// any product, all at once: they lie far apart in memory, and a processor waits for many of them at a time.
+fn fill_entries(
+    entries: &mut [[u32; TILE_COLUMNS]; PANEL],
     rows: &[Dense<u32>],
     by: &[[u64; PANEL]; BLOCK_ROWS],
     tile: &[[u32; TILE_COLUMNS]; PANEL],
     height: usize,
     start: usize,
-    width: usize,
     folding: &Folding,
-) -> [[u32; TILE_COLUMNS]; PANEL]
+)
+    requires entries { length entries.old ≡ PANEL }
+    requires left { (t l : ℕ) → t < BLOCK_ROWS → l < TILE_COLUMNS → entry_of entries.old t l < folding.now.p }
     requires few { length rows.now ≤ BLOCK_ROWS }
-    requires residues { AreVectors folding.now.p width rows.now }
+    requires wide { (t : ℕ) → t < length rows.now → start + TILE_COLUMNS ≤ length (block_row rows.now t) }
+    requires residues { (t l : ℕ) → t < length rows.now → l < TILE_COLUMNS
+        → entry_of rows.now t (start + l) < folding.now.p }
     requires high { height ≤ PANEL }
     requires long { length tile.now ≡ PANEL }
     requires tile { (k l : ℕ) → k < height → l < TILE_COLUMNS → entry_of tile.now k l < folding.now.p }
     requires coefficients { (t k : ℕ) → t < BLOCK_ROWS → entry_of by.now t k < folding.now.p }
-    requires inside { start + TILE_COLUMNS ≤ width }
-    ensures long { length result ≡ PANEL }
-    ensures residues { (t l : ℕ) → t < BLOCK_ROWS → l < TILE_COLUMNS → entry_of result t l < folding.now.p }
-    ensures added { (t l : ℕ) → t < length rows.now → l < TILE_COLUMNS → entry_of result t l
+    ensures long { length entries.new ≡ PANEL }
+    ensures residues { (t l : ℕ) → t < BLOCK_ROWS → l < TILE_COLUMNS
+        → entry_of entries.new t l < folding.now.p }
+    ensures added { (t l : ℕ) → t < length rows.now → l < TILE_COLUMNS → entry_of entries.new t l
         ≡ (entry_of rows.now t (start + l) + products_of by.now tile.now (run_of 0 height) t l)
         % folding.now.p }
 {
-    let mut entries = tile_of(rows, start);
+    fill_tile(rows, start, entries);
     let mut first = 0;
     while first < height {
         let count = folding.most.min(height - first);
         let run = Run { first, count };
-        add_run(&mut entries, rows.len(), by, tile, run, folding);
+        add_run(entries, rows.len(), by, tile, run, folding);
         first += count;
     }
-    entries
 }
 
 // Writes the entries, row by row, at these columns, of which there are at most eight.
@@ -288,18 +291,17 @@ fn write_entries(
     rows: &mut [Dense<u32>],
     entries: &[[u32; TILE_COLUMNS]; PANEL],
     columns: Columns,
-    width: usize,
     p: &Modulus,
 )
     requires modulus { p.now < LANE_BOUND }
     requires few { length rows.old ≤ PANEL }
-    requires wide { (t : ℕ) → t < length rows.old → length (block_row rows.old t) ≡ width }
+    requires wide { (t : ℕ) → t < length rows.old
+        → columns.start + TILE_COLUMNS ≤ length (block_row rows.old t) }
     requires long { length entries.now ≡ PANEL }
     requires residues { (t l : ℕ) → t < length rows.old → l < TILE_COLUMNS
         → entry_of entries.now t l < p.now }
     requires order { columns.start ≤ columns.end }
     requires narrow { columns.end ≤ columns.start + TILE_COLUMNS }
-    requires inside { columns.start + TILE_COLUMNS ≤ width }
     ensures { (t : ℕ) → t < length rows.old
         → IsWritten columns (block_row entries.now t) (block_row rows.old t) (block_row rows.new t) }
 {
@@ -309,30 +311,36 @@ fn write_entries(
 }
 
 // Adds the sums of the products with a tile of so many rows to the rows of a block at its columns, or at the
-// first of them.
+// first of them. The entries are room to work in, in which residues stand before and after.
 fn add_columns(
     rows: &mut [Dense<u32>],
+    entries: &mut [[u32; TILE_COLUMNS]; PANEL],
     by: &[[u64; PANEL]; BLOCK_ROWS],
     tile: &[[u32; TILE_COLUMNS]; PANEL],
     height: usize,
     columns: Columns,
-    width: usize,
     folding: &Folding,
 )
     requires few { length rows.old ≤ BLOCK_ROWS }
-    requires residues { AreVectors folding.now.p width rows.old }
+    requires wide { (t : ℕ) → t < length rows.old
+        → columns.start + TILE_COLUMNS ≤ length (block_row rows.old t) }
+    requires residues { (t l : ℕ) → t < length rows.old → l < TILE_COLUMNS
+        → entry_of rows.old t (columns.start + l) < folding.now.p }
+    requires entries { length entries.old ≡ PANEL }
+    requires left { (t l : ℕ) → t < BLOCK_ROWS → l < TILE_COLUMNS → entry_of entries.old t l < folding.now.p }
     requires high { height ≤ PANEL }
     requires long { length tile.now ≡ PANEL }
     requires tile { (k l : ℕ) → k < height → l < TILE_COLUMNS → entry_of tile.now k l < folding.now.p }
     requires coefficients { (t k : ℕ) → t < BLOCK_ROWS → entry_of by.now t k < folding.now.p }
     requires order { columns.start ≤ columns.end }
     requires narrow { columns.end ≤ columns.start + TILE_COLUMNS }
-    requires inside { columns.start + TILE_COLUMNS ≤ width }
-    ensures { AddsToEach folding.now.p columns
+    ensures entries { length entries.new ≡ PANEL }
+    ensures left { (t l : ℕ) → t < BLOCK_ROWS → l < TILE_COLUMNS → entry_of entries.new t l < folding.now.p }
+    ensures added { AddsToEach folding.now.p columns
         (tile_products by.now tile.now (run_of 0 height) columns.start) rows.old rows.new }
 {
-    let entries = entries_with_products(rows, by, tile, height, columns.start, width, folding);
-    write_entries(rows, &entries, columns, width, &folding.p);
+    fill_entries(entries, rows, by, tile, height, columns.start, folding);
+    write_entries(rows, entries, columns, &folding.p);
 }
 
 // Adds the sums of products to the rows of a block, of entries before `columns.end`. The units are copied tile by tile, so that what
@@ -354,12 +362,14 @@ pub(crate) fn add_products(
     ensures { AddsToEach folding.now.p (columns_of 0 columns.end)
         (products_of by.now units.now (run_of 0 (length units.now))) rows.old rows.new }
 {
+    let mut tile = [[0u32; TILE_COLUMNS]; PANEL];
+    let mut entries = [[0u32; TILE_COLUMNS]; PANEL];
     let mut end = columns.end;
     while end > columns.start {
         let start = end.saturating_sub(TILE_COLUMNS);
-        let tile = tile_of(units, start);
+        fill_tile(units, start, &mut tile);
         let here = Columns { start, end };
-        add_columns(rows, by, &tile, units.len(), here, columns.end, folding);
+        add_columns(rows, &mut entries, by, &tile, units.len(), here, folding);
         end = start;
     }
 }

@@ -5,14 +5,14 @@ use Rattle.dense_finish.proofs.AddingEach.{adds_written}
 use Rattle.dense_finish.proofs.products.add_columns.Goals as goal
 
 pub write_entries-requires-clause-residues : goal.write_entries-requires-clause-residues
-write_entries-requires-clause-residues c = λ t k l lk. c.entries_with_products-entries.ensures.residues t k (omega (arith, c.requires.few)) lk
+write_entries-requires-clause-residues c = λ t k l lk. c.fill_entries.ensures.residues t k (omega (arith, c.requires.few)) lk
 
-pub returns : goal.returns
-returns c = record {
+pub returns-clause-added : goal.returns-clause-added
+returns-clause-added c = record {
   long = c.write_entries.auto.rows;
   each = λ t l. adds_written (c.write_entries.ensures t l) (λ j from less.
       let start = c.args.columns.start in
       let place : start + (j - start) ≡ j = omega arith in
-      c.entries_with_products-entries.ensures.added t (j - start) l (omega (arith, c.requires.narrow))
+      c.fill_entries.ensures.added t (j - start) l (omega (arith, c.requires.narrow))
       ∙ ap (λ x. (entry_of c.args.rows.now t x + tile_products c.args.by.now c.args.tile.now (run_of 0 c.args.height) start t j) % c.args.folding.now.p) place);
 }

@@ -1,23 +1,45 @@
-use Rattle.std.proofs.Common.{◌+◌, arith, length}
+use Rattle.std.proofs.Common.{◌+◌, arith, length, refl}
 use Rattle.dense_finish.specs.Block.{block_row}
-use Rattle.dense_finish.proofs.AddingEach.{adds_before, adds_none, adds_nothing, each_equal, products_tile, products_zero}
+use Rattle.dense_finish.proofs.AddingEach.{adds_before, adds_none, adds_nothing, adds_vectors, each_equal, products_tile, products_zero}
+use Rattle.dense_finish.proofs.ProductSums.{zeros_at}
 use Rattle.dense_finish.proofs.products.add_products.Goals as goal
 
 pub loop-end-init : goal.loop-end-init
-loop-end-init c = record { within = omega arith; added = adds_none {end = c.args.columns.end} c.args.rows.now }
+loop-end-init c =
+    let f = c.args.folding.now in
+    record {
+      within = omega arith;
+      long = refl;
+      entries = refl;
+      left = λ t l lt ll. omega (arith, zeros_at 64 8 t l, f.one.residue, f.one_factor, f.one_modulus);
+      added = adds_none {end = c.args.columns.end} c.args.rows.now;
+    }
+
+pub add_columns-requires-clause-wide : goal.add_columns-requires-clause-wide
+add_columns-requires-clause-wide c = λ t l.
+    let vectors = adds_vectors c.requires.residues c.loop-end.invariant.added in
+    omega (arith, (vectors t l).len, c.loop-end.invariant.within, c.requires.wide)
+
+pub add_columns-requires-clause-residues : goal.add_columns-requires-clause-residues
+add_columns-requires-clause-residues c = λ t k l lk.
+    let vectors = adds_vectors c.requires.residues c.loop-end.invariant.added in
+    (vectors t l).residues (c.saturating_sub-start.result + k) (omega (arith, c.loop-end.invariant.within, c.requires.wide))
 
 pub add_columns-requires-clause-tile : goal.add_columns-requires-clause-tile
 add_columns-requires-clause-tile c = λ k l lk ll.
     let start = c.saturating_sub-start.result in
-    omega (arith, c.tile_of-tile.ensures.tile k l lk ll, (c.requires.units k lk).residues (start + l) (omega (arith, c.loop-end.invariant.within, c.requires.wide)))
+    omega (arith, c.fill_tile.ensures.filled k l lk ll, (c.requires.units k lk).residues (start + l) (omega (arith, c.loop-end.invariant.within, c.requires.wide)))
 
 pub loop-end-preserved : goal.loop-end-preserved
 loop-end-preserved c =
     let start = c.saturating_sub-start.result in
     record {
       within = omega (arith, c.loop-end.invariant.within);
+      long = c.fill_tile.ensures.long;
+      entries = c.add_columns.ensures.entries;
+      left = c.add_columns.ensures.left;
       added = adds_before (omega arith) c.loop-end.invariant.within c.loop-end.invariant.added
-          (each_equal (λ t j from less. products_tile (block_row c.args.by.now t) c.args.units.now c.tile_of-tile.result start (length c.args.units.now) j c.tile_of-tile.ensures.tile (omega arith) from (omega arith)) c.add_columns.ensures);
+          (each_equal (λ t j from less. products_tile (block_row c.args.by.now t) c.args.units.now c.fill_tile.new.tile start (length c.args.units.now) j c.fill_tile.ensures.filled (omega arith) from (omega arith)) c.add_columns.ensures.added);
     }
 
 pub returns : goal.returns

@@ -15,7 +15,7 @@ pub write-requires-clause-inside : goal.write-requires-clause-inside
 write-requires-clause-inside c =
     let t = c.loop-t.t in
     let here = read_row c.loop-t.rows t c.index-rows-t.result (omega (arith, c.loop-t.auto.rows, c.loop-t-test.true)) ∙ c.loop-t.invariant.ahead t (omega arith) in
-    omega (arith, ap length here, c.requires.wide t c.loop-t-test.true, c.requires.inside)
+    omega (arith, ap length here, c.requires.wide t c.loop-t-test.true)
 
 pub loop-t-preserved : goal.loop-t-preserved
 loop-t-preserved c =

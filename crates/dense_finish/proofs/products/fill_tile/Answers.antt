@@ -2,11 +2,10 @@ use Rattle.std.proofs.Common.{ℕ, [], ◌≡◌, ◌<◌, ◌+◌, ◌∙◌, a
 use Rattle.std.proofs.lemmas.List.{get_or-set_other, get_or-set_same}
 use Rattle.dense_finish.specs.Block.{entry_of}
 use Rattle.dense_finish.proofs.BlockRows.{read_row}
-use Rattle.dense_finish.proofs.ProductSums.{zeros_at}
-use Rattle.dense_finish.proofs.products.tile_of.Goals as goal
+use Rattle.dense_finish.proofs.products.fill_tile.Goals as goal
 
 pub loop-k-init : goal.loop-k-init
-loop-k-init c = record { long = refl; filled = λ k j l. absurd (omega arith); rest = λ k j l. zeros_at 64 8 k j }
+loop-k-init c = record { long = c.requires.long; filled = λ k j l. absurd (omega arith); kept = λ k l. refl }
 
 pub loop-k-preserved : goal.loop-k-preserved
 loop-k-preserved c =
@@ -21,7 +20,10 @@ loop-k-preserved c =
     let all = below_more (λ t. (j : ℕ) → j < 8 → entry_of (set tile k v) t j ≡ entry_of rows t (start + j)) k
     (λ t l j lj. ap (λ u. slice_index u j) (get_or-set_other tile k t v [] (omega arith)) ∙ c.loop-k.invariant.filled t j l lj)
     (λ j lj. ap (λ u. slice_index u j) (get_or-set_same tile k v [] low) ∙ here j lj) in
-    record { long = length-set tile k v ∙ c.loop-k.invariant.long; filled = λ t j l lj. all t l j lj; rest = λ t j l. ap (λ u. slice_index u j) (get_or-set_other tile k t v [] (omega arith)) ∙ c.loop-k.invariant.rest t j (omega arith) }
+    record { long = length-set tile k v ∙ c.loop-k.invariant.long; filled = λ t j l lj. all t l j lj; kept = λ t l. get_or-set_other tile k t v [] (omega arith) ∙ c.loop-k.invariant.kept t (omega arith) }
 
-pub returns-clause-tile : goal.returns-clause-tile
-returns-clause-tile c = λ k j l lj. c.loop-k.invariant.filled k j (omega arith) lj
+pub returns-clause-filled : goal.returns-clause-filled
+returns-clause-filled c = λ k j l lj. c.loop-k.invariant.filled k j (omega arith) lj
+
+pub returns-clause-kept : goal.returns-clause-kept
+returns-clause-kept c = λ k l. c.loop-k.invariant.kept k (omega arith)

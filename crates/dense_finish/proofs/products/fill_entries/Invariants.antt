@@ -1,7 +1,7 @@
 use Rattle.std.proofs.Common.{ℕ, ◌≡◌, ◌<◌, ◌≤◌, ◌+◌, ◌-◌, ◌%◌, length}
 use Rattle.dense_finish.specs.Block.{entry_of}
 use Rattle.dense_finish.specs.Products.{products_of, run_of}
-use Rattle.dense_finish.proofs.products.entries_with_products.Given as goal
+use Rattle.dense_finish.proofs.products.fill_entries.Given as goal
 
 abbrev pub invariant-loop-first : goal.invariant-loop-first
 invariant-loop-first l = record {

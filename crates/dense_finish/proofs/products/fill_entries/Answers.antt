@@ -1,29 +1,27 @@
-use Rattle.std.proofs.Common.{ℕ, ◌≡◌, ◌<◌, ◌+◌, ◌%◌, ◌∙◌, inl, inr, ap, arith, length, mod-eq_of_lt, sym}
+use Rattle.std.proofs.Common.{ℕ, ◌≡◌, ◌<◌, ◌+◌, ◌%◌, ◌∙◌, inl, inr, ap, arith, length, mod-eq_of_lt, slice_index, sym}
 use Rattle.std.proofs.lemmas.Bool.{cases_lt}
 use Rattle.dense_finish.specs.Block.{block_row, entry_of}
 use Rattle.dense_finish.specs.Products.{products_of, run_of}
 use Rattle.dense_finish.proofs.AddingEach.{plus_then, products_small, products_split}
 use Rattle.dense_finish.proofs.ProductSums.{products_none}
-use Rattle.dense_finish.proofs.products.entries_with_products.Goals as goal
+use Rattle.dense_finish.proofs.products.fill_entries.Goals as goal
 
 pub loop-first-init : goal.loop-first-init
 loop-first-init c =
-    let f = c.args.folding.now in
-    let p : ℕ = f.p in
+    let p : ℕ = c.args.folding.now.p in
     let rows = c.args.rows.now in
     let start = c.args.start in
-    let small : (t k : ℕ) → t < length rows → k < 8 → entry_of rows t (start + k) < p = λ t k l lk. (c.requires.residues t l).residues (start + k) (omega (arith, c.requires.inside)) in
     record {
       within = omega arith;
-      long = c.tile_of-entries.ensures.long;
+      long = c.fill_tile.ensures.long;
       residues = λ t k l lk. elim (cases_lt t (length rows)) [
-        | inl inside ↦ omega (arith, c.tile_of-entries.ensures.tile t k inside lk, small t k inside lk)
-        | inr past ↦ omega (arith, c.tile_of-entries.ensures.rest t k past, f.one.residue, f.one_factor, f.one_modulus)
+        | inl inside ↦ omega (arith, c.fill_tile.ensures.filled t k inside lk, c.requires.residues t k inside lk)
+        | inr past ↦ omega (arith, ap (λ v. slice_index v k) (c.fill_tile.ensures.kept t past), c.requires.left t k l lk)
       ];
       added = λ t k l lk.
           let x = entry_of rows t (start + k) in
           let plain : x + products_of c.args.by.now c.args.tile.now (run_of 0 0) t k ≡ x = omega (arith, products_none (block_row c.args.by.now t) c.args.tile.now 0 k) in
-          c.tile_of-entries.ensures.tile t k l lk ∙ sym (ap (λ y. y % p) plain ∙ mod-eq_of_lt (small t k l lk));
+          c.fill_tile.ensures.filled t k l lk ∙ sym (ap (λ y. y % p) plain ∙ mod-eq_of_lt (c.requires.residues t k l lk));
     }
 
 pub add_run-requires-clause-small : goal.add_run-requires-clause-small
