@@ -10,6 +10,8 @@ use std::alloc::{AllocError, Global};
 #[derive(Drop)]
 pub(crate) struct LeftRoom {
     room: EntryRoom,
+    // How many entries there is room for.
+    most: usize,
     // How many entries the rows that are done may have.
     entries: usize,
 }
@@ -19,6 +21,7 @@ impl LeftRoom {
     pub(crate) fn none(alloc: Global) -> LeftRoom {
         LeftRoom {
             room: EntryRoom::none(alloc),
+            most: 0,
             entries: 0,
         }
     }
@@ -27,15 +30,21 @@ impl LeftRoom {
     // all is asked for only where there are none.
     pub(crate) fn of<W: Residue>(alloc: Global, block: &Block<W>) -> Result<LeftRoom, AllocError> {
         let rows = block.rows.len();
-        let entries = if rows == block.height as usize {
+        let most = if rows == block.height as usize {
             room_for(rows, rows.min(block.columns.len()))
         } else {
             rows
         };
         Ok(LeftRoom {
-            room: EntryRoom::new(alloc, entries)?,
+            room: EntryRoom::new(alloc, most)?,
+            most,
             entries: 0,
         })
+    }
+
+    // Whether there is room for no entry.
+    pub(crate) fn is_none(&self) -> bool {
+        self.most == 0
     }
 
     // Counts the entries of so many rows more, each at so many pivots.

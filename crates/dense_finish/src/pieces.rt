@@ -87,6 +87,9 @@ impl<'a> Elimination<'a> {
         requires ready { AreReducible self.now.p found.now rows.now }
         ensures { AreReducedPieces self.now.p found.now.panel rows.now result.0 }
     {
+        if left.is_none() {
+            return (self.pieces_by(rt, found, rows, next, rooms), left);
+        }
         let mut write = || left.write();
         let mut make = || -> Vec<Piece<W>>
             requires { W.serves self.now.p × AreReducible self.now.p found.now rows.now }
