@@ -201,7 +201,8 @@ fn join_and_go_on(
         deal.entry.from (cut_at deal.entry stage.begun) made.new) }
 {
     join_parts(alloc, deal, stage.joined, stage.begun, parts, made)?;
-    made.rows.write_ahead(entries_to_come(made, stage));
+    let to_come = entries_to_come(made, stage);
+    made.rows.write_ahead(to_come);
     let own = parts_of_worker(alloc, deal, stage.end, next)?;
     Ok(own)
 }
