@@ -104,8 +104,9 @@ impl Rows {
         self.stored.write_ahead(entries);
     }
 
-    // Appends the row that these columns and values stand for. After an `Err` the matrix is as before.
-    pub(crate) fn append_slices(&mut self, cols: &[u32], vals: &[u64]) -> Result<(), AllocError>
+    /// Appends the row with these values at these columns, in the time of one copy of them; none is 0. Where memory is wanted the
+    /// matrix is as before.
+    pub fn append_entries(&mut self, cols: &[u32], vals: &[u64]) -> Result<(), AllocError>
         requires height_small { self.old.matrix.height < LARGEST_SIZE }
         requires sparse { IsSparse self.old.modulus self.old.matrix.width cols.now vals.now }
         ensures modulus { self.new.modulus ≡ self.old.modulus }
@@ -139,7 +140,7 @@ impl Rows {
         ensures matrix { OnOk result (self.new.matrix ≡ with_row self.old.matrix row.now.row) }
         ensures err { OnErr result (self.new.matrix ≡ self.old.matrix) }
     {
-        self.append_slices(row.cols(), row.vals())
+        self.append_entries(row.cols(), row.vals())
     }
 
     /// Appends the rows of another matrix, in the time of its entries and, where each of its rows is stored, its height: where each
@@ -172,7 +173,7 @@ impl Rows {
         let mut next = 0;
         while let Some(i) = from.next_filled(next) {
             self.append_zeros(i - next)?;
-            self.append_slices(from.cols(i), from.vals(i))?;
+            self.append_entries(from.cols(i), from.vals(i))?;
             next = i + 1;
         }
         self.append_zeros(height - next)?;
@@ -522,7 +523,7 @@ impl Rows {
             room,
         )?;
         for i in rows {
-            made.append_slices(self.cols(*i), self.vals(*i))?;
+            made.append_entries(self.cols(*i), self.vals(*i))?;
         }
         Ok(made)
     }

@@ -23,8 +23,8 @@ loop-i-preserved c =
     rw (c.cols.ensures.support, c.vals.ensures.values, width) (spread_support B.matrix.width (row B.matrix c.in-Some.i) (sound.each c.in-Some.i c.in-Some.ensures.below).len) in
     record {
       low = omega (arith, c.in-Some.ensures.below);
-      modulus = c.append_slices.ensures.modulus ∙ c.append_zeros.ensures.modulus ∙ c.loop-i.invariant.modulus;
-      stacked = appended_more c.args.self.now.matrix sound c.requires.width c.loop-i.invariant.stacked c.in_ok-append_zeros.ensures.matrix new c.in_ok-append_slices.ensures.matrix c.in-Some.ensures;
+      modulus = c.append_entries.ensures.modulus ∙ c.append_zeros.ensures.modulus ∙ c.loop-i.invariant.modulus;
+      stacked = appended_more c.args.self.now.matrix sound c.requires.width c.loop-i.invariant.stacked c.in_ok-append_zeros.ensures.matrix new c.in_ok-append_entries.ensures.matrix c.in-Some.ensures;
     }
 
 pub returns-clause-matrix : goal.returns-clause-matrix

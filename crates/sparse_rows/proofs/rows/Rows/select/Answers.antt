@@ -18,7 +18,7 @@ loop-i-preserved c =
     let new : spread c.loop-i.made.matrix.width c.cols.result.now c.vals.result.now ≡ row A.matrix i =
     rw (c.cols.ensures.support, c.vals.ensures.values, width) (spread_support A.matrix.width (row A.matrix i) (sound.each i low).len) in
     record {
-      modulus = c.append_slices.ensures.modulus ∙ c.loop-i.invariant.modulus;
-      matrix = c.in_ok-append_slices.ensures.matrix ∙ ap₂ with_row c.loop-i.invariant.matrix new ∙ selected_more A.matrix (take c.loop-i.i-index c.args.rows.now) i
+      modulus = c.append_entries.ensures.modulus ∙ c.loop-i.invariant.modulus;
+      matrix = c.in_ok-append_entries.ensures.matrix ∙ ap₂ with_row c.loop-i.invariant.matrix new ∙ selected_more A.matrix (take c.loop-i.i-index c.args.rows.now) i
           ∙ ap (selected A.matrix) (sym (take_more c.args.rows.now c.loop-i.i-index 0 c.loop-i-test.true));
     }

@@ -1,6 +1,6 @@
 use Rattle.std.proofs.Common.{◌∙◌, ◌++◌, [], ◌∷◌, ap, arith}
 use Rattle.sparse_rows.proofs.Expanding.{empty_length, filled_length, listed_few, listed_push, listed_skip, placed_height}
-use Rattle.sparse_rows.proofs.rows.Rows.append_slices.Goals as goal
+use Rattle.sparse_rows.proofs.rows.Rows.append_entries.Goals as goal
 
 pub returns-then-is_empty-clause-matrix : goal.returns-then-is_empty-clause-matrix
 returns-then-is_empty-clause-matrix c =
