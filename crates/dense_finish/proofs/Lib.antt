@@ -5,6 +5,7 @@ pub mod BlockRows
 pub mod Blocks
 pub mod Dividing
 pub mod Filling
+pub mod FullRows
 pub mod Gathering
 pub mod Growing
 pub mod Indexing

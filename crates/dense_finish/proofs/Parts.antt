@@ -3,7 +3,7 @@ use Rattle.std.proofs.Common.{ℕ, ◌≡◌, ◌+◌, ◌-◌, ◌*◌, ◌%◌
 use Rattle.std.proofs.Math.ListN.{get_or-append}
 use Rattle.std.proofs.Math.Seq.{get_or-append_right, take-append_seam}
 use Rattle.std.proofs.lemmas.Bool.{cases_lt}
-use Rattle.std.proofs.lemmas.List.{drop-map, get_or-drop, get_or-take, length-drop, length-map, length-take, map-append, take-map, take_all}
+use Rattle.std.proofs.lemmas.List.{drop-map, get_or-drop, get_or-map, get_or-take, length-drop, length-map, length-take, map-append, take-map, take_all}
 use Rattle.residue_words.specs.Matrix.{IsVector, list_of}
 use Rattle.residue_words.proofs.Vectors.{at_list_of, length_list_of, list_equal}
 use Rattle.dense_finish.specs.Multiples.{IsChangedFrom, plus_at, plus_multiple}
@@ -21,6 +21,10 @@ length_ending from xs = length-take (length xs - from) (drop from xs) ∙ omega 
 
 pub at_ending : {X : Type 0} (f : X → ℕ) (from : ℕ) (xs : List X) (k : ℕ) → slice_index (map f (ending from xs)) k ≡ slice_index (map f xs) (from + k)
 at_ending f from xs k = ap (λ l. slice_index l k) (ending_is f from xs) ∙ get_or-drop from (map f xs) k 0
+
+-- what an item that was read stands for
+pub read_is : {X : Type 0} (f : X → ℕ) (xs : List X) (k : ℕ) (x : X) → k < length xs → x ≡ slice_index_or xs k x → f x ≡ slice_index (map f xs) k
+read_is f xs k x l read = ap f read ∙ sym (get_or-map f xs k x 0 l)
 
 -- a list whose front stays, and whose end is `out`
 pub at_front : {X : Type 0} (from : ℕ) (xs out rest : List X) (j : ℕ) (d : X) → from ≤ length xs → j < from → slice_index_or (take from xs ++ (out ++ rest)) j d ≡ slice_index_or xs j d

@@ -1,6 +1,6 @@
 -- Values that are put into a zero row, at ascending places.
-use Rattle.std.proofs.Common.{ℕ, ◌≡◌, ◌+◌, ◌<◌, ◌≤◌, inl, inr, List, length, slice_index, slice_set, sym, ap, ◌∙◌, arith}
-use Rattle.std.proofs.lemmas.Bool.{cases_eq}
+use Rattle.std.proofs.Common.{ℕ, ◌≡◌, ◌+◌, ◌-◌, ◌<◌, ◌≤◌, inl, inr, List, length, slice_index, slice_set, sym, ap, ◌∙◌, arith}
+use Rattle.std.proofs.lemmas.Bool.{cases_eq, cases_lt}
 use Rattle.std.proofs.lemmas.List.{get_or-set_same, get_or-set_other, length-set}
 use Rattle.residue_words.specs.Matrix.{zeros}
 use Rattle.residue_words.proofs.Vectors.{at_zeros, length_list_of}
@@ -46,4 +46,27 @@ put_over {n} {m} name value {v} inside rising is h = record {
     | inr d ↦ h.put k (omega arith)
   ];
   others = λ y l no. h.others y l (λ k lk. no k (omega arith));
+}
+
+-- the first places hold zeros, and those behind them what was put
+pub put_from : {n m : ℕ} (from : ℕ) (name value : ℕ → ℕ) {v : List ℕ} → ((k t : ℕ) → k < t → t < from + m → name k < name t) → ((k : ℕ) → k < from → name k < n) →
+    ((k : ℕ) → k < from → value k ≡ 0) → IsPut n m (λ k. name (from + k)) (λ k. value (from + k)) v → IsPut n (from + m) name value v
+put_from {n} {m} from name value {v} rising inside none h = record {
+  long = h.long;
+  put = λ k l. elim (cases_lt k from) [
+    | inl less ↦ h.others (name k) (inside k less) (λ j lj same. omega (arith, rising k (from + j) (omega arith) (omega arith))) ∙ sym (none k less)
+    | inr past ↦
+        let back : from + (k - from) ≡ k = omega arith in
+        ap (λ t. slice_index v (name t)) (sym back) ∙ h.put (k - from) (omega arith) ∙ ap value back
+  ];
+  others = λ x l no. h.others x l (λ k lk. no (from + k) (omega arith));
+}
+
+-- the same places and values, told otherwise
+pub put_same : {n m : ℕ} {name value : ℕ → ℕ} (other other_value : ℕ → ℕ) {v : List ℕ} → ((k : ℕ) → k < m → name k ≡ other k) → ((k : ℕ) → k < m → value k ≡ other_value k) →
+    IsPut n m name value v → IsPut n m other other_value v
+put_same other other_value {v} names values h = record {
+  long = h.long;
+  put = λ k l. ap (slice_index v) (sym (names k l)) ∙ h.put k l ∙ values k l;
+  others = λ x l no. h.others x l (λ k lk same. no k lk (sym (names k lk) ∙ same));
 }

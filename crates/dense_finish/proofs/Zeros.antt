@@ -1,6 +1,6 @@
 -- Rows of zeros, and entries that are looked at and are 0.
-use Rattle.std.proofs.Common.{ℕ, ◌≡◌, ◌<◌, ◌≤◌, ◌+◌, ◌-◌, Bool, true, false, not, eqb, ◌||◌, ◌&&◌, inl, inr, List, [], ◌++◌, map, replicate, slice_index, slice_index_or, take, sym, ap, ap₂, ◌∙◌, arith}
-use Rattle.std.proofs.lemmas.Bool.{and_cases, cases_eq, eqb-true, not-false, or_parts}
+use Rattle.std.proofs.Common.{ℕ, ◌≡◌, ◌≢◌, ◌<◌, ◌≤◌, ◌+◌, ◌-◌, Bool, true, false, not, eqb, ◌||◌, ◌&&◌, inl, inr, List, [], ◌++◌, map, replicate, slice_index, slice_index_or, take, sym, ap, ap₂, ◌∙◌, arith}
+use Rattle.std.proofs.lemmas.Bool.{and_cases, cases_eq, eqb-false, eqb-true, not-false, or_parts}
 use Rattle.std.proofs.lemmas.List.{get_or-map, get_or-replicate, length-map, length-replicate, take_all}
 use Rattle.residue_words.specs.Matrix.{zeros}
 use Rattle.residue_words.proofs.Vectors.{at_zeros, length_list_of, list_equal}
@@ -23,6 +23,16 @@ zero_more {any} {start} {j} {x} v is before e t le l =
     let both = or_parts any (not (eqb x 0)) e in
     elim (cases_eq t j) [
       | inl same ↦ ap (slice_index v) same ∙ sym is ∙ eqb-true x 0 (not-false (eqb x 0) both.1)
+      | inr d ↦ before both.0 t le (omega arith)
+    ]
+
+-- or none that is 0
+pub positive_more : {any : Bool} {start j x : ℕ} (v : List ℕ) → x ≡ slice_index v j → (any ≡ false → (t : ℕ) → start ≤ t → t < j → 0 < slice_index v t) → (any || eqb x 0) ≡ false →
+    (t : ℕ) → start ≤ t → t < j + 1 → 0 < slice_index v t
+positive_more {any} {start} {j} {x} v is before e t le l =
+    let both = or_parts any (eqb x 0) e in
+    elim (cases_eq t j) [
+      | inl same ↦ let some : x ≢ 0 = eqb-false x 0 both.1 in omega (arith, ap (slice_index v) same)
       | inr d ↦ before both.0 t le (omega arith)
     ]
 

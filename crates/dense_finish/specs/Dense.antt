@@ -2,7 +2,8 @@
 use Rattle.std.specs.Prelude.{◌≡◌, ◌≢◌, ◌<◌, ◌≤◌, ◌+◌, ◌*◌, ◌%◌, ℕ, Bool, true, false, List, length, slice_index, slice_index_or}
 use Rattle.residue_words.specs.Matrix.{IsVector}
 use Rattle.residue_words.specs.Residues.{IsPrime}
-use Rattle.sparse_rows.specs.Stored.{entry_at}
+use Rattle.sparse_rows.specs.Rows.{ResidueMatrix}
+use Rattle.sparse_rows.specs.Stored.{entry_at, with_row}
 use Rattle.dense_finish.specs.Splitting.{IsTaken}
 
 -- the entries, at these columns, of the row of these columns and values
@@ -69,6 +70,22 @@ Scatters n columns v row = IsPut n (length columns) (slice_index columns) (slice
 -- a row of n entries that begins with those of v that stand at these columns
 abbrev pub Gathers : ℕ → List ℕ → List ℕ → List ℕ → Type 0
 Gathers n columns v row = IsPut n (length columns) (λ k. k) (λ k. slice_index v (slice_index columns k)) row
+
+-- `new` is `old` with one row more, which has the first m values at these places and 0 at all others
+pub record AppendsPut (m : ℕ) (place value : ℕ → ℕ) (old new : ResidueMatrix) : Type 0 where
+  pub modulus : new.modulus ≡ old.modulus
+  pub row : List ℕ
+  pub put : IsPut old.matrix.width m place value row
+  pub matrix : new.matrix ≡ with_row old.matrix row
+
+-- the entries of v at these columns
+abbrev pub AppendsScattered : List ℕ → List ℕ → ResidueMatrix → ResidueMatrix → Type 0
+AppendsScattered columns v old new = AppendsPut (length columns) (slice_index columns) (slice_index v) old new
+
+-- those of v that stand at these columns, one beside the other
+abbrev pub AppendsGathered : List ℕ → List ℕ → ResidueMatrix → ResidueMatrix → Type 0
+AppendsGathered columns v old new =
+    AppendsPut (length columns) (λ k. k) (λ k. slice_index v (slice_index columns k)) old new
 
 -- w is v, with zeros at the first r of these columns
 pub record IsCleared (p r : ℕ) (column : ℕ → ℕ) (v w : List ℕ) : Type 0 where

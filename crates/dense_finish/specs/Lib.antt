@@ -6,5 +6,6 @@ pub mod Panel
 pub mod Pieces
 pub mod Pivots
 pub mod Products
+pub mod RowRoom
 pub mod Splitting
 pub mod Units

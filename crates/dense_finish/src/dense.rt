@@ -1,5 +1,5 @@
 // One dense row.
-ghost use Rattle.std.specs.Prelude.{◌≡◌, ◌≢◌, ◌<◌, ◌≤◌, ◌+◌, ◌-◌, ℕ, length, map, slice_index, slice_set, false, IfOk, OnOk, IfSome, IfNone};
+ghost use Rattle.std.specs.Prelude.{◌≡◌, ◌≢◌, ◌<◌, ◌≤◌, ◌+◌, ◌-◌, ℕ, drop, length, map, slice_index, slice_set, false, IfOk, OnOk, IfSome, IfNone};
 ghost use Rattle.residue_words.specs.Matrix.{IsVector, zeros};
 ghost use Rattle.sparse_rows.specs.Rows.{AreRising};
 ghost use Rattle.sparse_rows.specs.declared.rows.TheConstants.{LARGEST_SIZE};
@@ -366,6 +366,41 @@ impl<W: Residue> Dense<W> {
         any
     }
 
+    // Whether an entry from `start` on is 0. It looks at all of them, by vectors.
+    pub(crate) fn has_zero(&self, start: usize) -> bool
+        ensures { result ≡ false → (j : ℕ) → start ≤ j → j < length self.now → 0 < slice_index self.now j }
+    {
+        let mut any = false;
+        for j in start..self.places.len() {
+            any |= self.get(j) == 0;
+        }
+        any
+    }
+
+    // The entries from `from` on.
+    pub(crate) fn entries_from(&self, alloc: Global, from: usize) -> Result<Vec<u64>, AllocError>
+        requires { from ≤ length self.now }
+        ensures { IfOk result (λ entries. entries.items ≡ drop from self.now) }
+    {
+        let places = &self.places[from..];
+        let mut entries = Vec::with_capacity(alloc, places.len())?;
+        entries.resize(places.len(), 0)?;
+        write_all(places, &mut entries);
+        Ok(entries)
+    }
+
+    // Writes the entries at these columns to the first places of `to`, and tells whether one of them is 0.
+    pub(crate) fn write_at(&self, columns: &[u32], to: &mut [u64]) -> bool
+        requires inside { AreBelow (length self.now) columns.now }
+        requires room { length columns.now ≤ length to.old }
+        ensures long { length to.new ≡ length to.old }
+        ensures entries { (k : ℕ) → k < length columns.now
+            → slice_index to.new k ≡ slice_index self.now (slice_index columns.now k) }
+        ensures positive { result ≡ false → (k : ℕ) → k < length columns.now → 0 < slice_index to.new k }
+    {
+        write_named(&self.places, columns, to)
+    }
+
     // Sets the zero row `to` to the entries, the j-th at `columns[j]`. Those before `from` are 0.
     pub(crate) fn scatter(
         &self,
@@ -463,6 +498,34 @@ fn clear_all<W: Residue>(places: &mut [W], p: &Modulus)
     for k in 0..places.len() {
         places[k] = W::of(0, p);
     }
+}
+
+// Writes residues as numbers. They come as slices, which no write of a number can move, so that vectors serve.
+fn write_all<W: Residue>(residues: &[W], to: &mut [u64])
+    requires lengths { length to.old ≡ length residues.now }
+    ensures { to.new ≡ map W.value residues.now }
+{
+    for k in 0..residues.len() {
+        to[k] = residues[k].get();
+    }
+}
+
+// Writes those in these places to the first ones of `to`, and tells whether one of them is 0.
+fn write_named<W: Residue>(residues: &[W], places: &[u32], to: &mut [u64]) -> bool
+    requires inside { AreBelow (length residues.now) places.now }
+    requires room { length places.now ≤ length to.old }
+    ensures long { length to.new ≡ length to.old }
+    ensures named { (k : ℕ) → k < length places.now
+        → slice_index to.new k ≡ slice_index (map W.value residues.now) (slice_index places.now k) }
+    ensures positive { result ≡ false → (k : ℕ) → k < length places.now → 0 < slice_index to.new k }
+{
+    let mut any = false;
+    for k in 0..places.len() {
+        let v = residues[places[k] as usize].get();
+        to[k] = v;
+        any |= v == 0;
+    }
+    any
 }
 
 // Whether a pivot stands at one of the columns from `from` on. It looks at all of them, which takes less time than to stop at the

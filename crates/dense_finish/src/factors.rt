@@ -11,8 +11,9 @@ use crate::block::Block;
 use crate::left_room::LeftRoom;
 use crate::pivots::Pivots;
 use crate::residue::Residue;
+use crate::row_room::RowRoom;
 use residue_words::plain::Pair;
-use sparse_rows::{List, Rows, Sparse};
+use sparse_rows::{List, Rows};
 use std::alloc::{AllocError, Global};
 
 /// Factors of a matrix A of m rows and n columns: `l` of m rows and as many columns as there are pivots, and `u` of as many rows and n columns.
@@ -45,14 +46,12 @@ pub(crate) fn left_factor<W: Residue>(
     let width = pivots.columns.len() as u32;
     let room = room.into_entries();
     let mut left = Rows::in_room(alloc, block.p, width, block.height, room)?;
-    let mut row = Sparse::new(alloc, width, block.p);
+    let mut row_room = RowRoom::new(alloc, width, &block.p)?;
     let mut count = 0;
     for t in 0..block.rows.len() {
         pad(&mut left, block.rows[t])?;
         count = count_up_to(t, &pivots.rows, count);
-        row.clear();
-        block.entries[t].gather(&pivots.columns[..count], &mut row)?;
-        left.append(&row)?;
+        row_room.append_to(&mut left, &block.entries[t], &pivots.columns[..count])?;
     }
     pad(&mut left, block.height)?;
     Ok(left)

@@ -18,6 +18,7 @@ mod residue;
 mod right_factor;
 mod room;
 mod row_addition;
+mod row_room;
 
 pub use elimination::finish;
 pub use factors::Factors;

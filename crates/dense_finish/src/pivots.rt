@@ -4,6 +4,7 @@ ghost use Rattle.residue_words.specs.Matrix.{IsVector};
 ghost use Rattle.sparse_rows.specs.Rows.{AreRising};
 ghost use Rattle.sparse_rows.specs.declared.rows.TheConstants.{LARGEST_SIZE};
 ghost use Rattle.sparse_rows.specs.Rows.{AreBelow};
+ghost use Rattle.dense_finish.specs.Dense.{AppendsScattered};
 
 use crate::dense::Dense;
 use crate::residue::Residue;
@@ -77,10 +78,7 @@ impl Pivots {
         requires rising { AreRising columns.now }
         ensures { OnOk result (AddsPivot columns.now (pivot_at i c row.now) self.old self.new) }
     {
-        let room = columns.len() - c;
-        let mut entries = Sparse::with_room(alloc, self.u.width(), *p, room)?;
-        row.scatter(columns, c, &mut entries)?;
-        self.u.append(&entries)?;
+        append_row(alloc, &mut self.u, row, columns, c, p)?;
         self.rows.push(i)?;
         self.columns.push(c as u32)?;
         self.taken[c] = true;
@@ -109,4 +107,75 @@ impl Pivots {
         }
         Ok(places)
     }
+}
+
+// Appends the row with these entries at the columns, of which those before `from` are 0.
+fn append_row<W: Residue>(
+    alloc: Global,
+    u: &mut Rows,
+    row: &Dense<W>,
+    columns: &[u32],
+    from: usize,
+    p: &Modulus,
+) -> Result<(), AllocError>
+    requires low { u.old.matrix.height < LARGEST_SIZE }
+    requires modulus { u.old.modulus ≡ p.now }
+    requires start { from ≤ length columns.now }
+    requires residues { IsVector p.now (length columns.now) row.now }
+    requires before { (j : ℕ) → j < from → slice_index row.now j ≡ 0 }
+    requires inside { AreBelow u.old.matrix.width columns.now }
+    requires rising { AreRising columns.now }
+    ensures { OnOk result (AppendsScattered columns.now row.now u.old u.new) }
+{
+    if row.has_zero(from) {
+        append_scattered(alloc, u, row, columns, from, p)
+    } else {
+        append_full(alloc, u, row, columns, from)
+    }
+}
+
+// The same entry by entry, since some are 0.
+fn append_scattered<W: Residue>(
+    alloc: Global,
+    u: &mut Rows,
+    row: &Dense<W>,
+    columns: &[u32],
+    from: usize,
+    p: &Modulus,
+) -> Result<(), AllocError>
+    requires low { u.old.matrix.height < LARGEST_SIZE }
+    requires modulus { u.old.modulus ≡ p.now }
+    requires start { from ≤ length columns.now }
+    requires residues { IsVector p.now (length columns.now) row.now }
+    requires before { (j : ℕ) → j < from → slice_index row.now j ≡ 0 }
+    requires inside { AreBelow u.old.matrix.width columns.now }
+    requires rising { AreRising columns.now }
+    ensures { OnOk result (AppendsScattered columns.now row.now u.old u.new) }
+{
+    let mut entries = Sparse::with_room(alloc, u.width(), *p, columns.len() - from)?;
+    row.scatter(columns, from, &mut entries)?;
+    u.append(&entries)?;
+    Ok(())
+}
+
+// The same at once, since none from `from` on is 0.
+fn append_full<W: Residue>(
+    alloc: Global,
+    u: &mut Rows,
+    row: &Dense<W>,
+    columns: &[u32],
+    from: usize,
+) -> Result<(), AllocError>
+    requires low { u.old.matrix.height < LARGEST_SIZE }
+    requires start { from ≤ length columns.now }
+    requires residues { IsVector u.old.modulus (length columns.now) row.now }
+    requires before { (j : ℕ) → j < from → slice_index row.now j ≡ 0 }
+    requires behind { (j : ℕ) → from ≤ j → j < length row.now → 0 < slice_index row.now j }
+    requires inside { AreBelow u.old.matrix.width columns.now }
+    requires rising { AreRising columns.now }
+    ensures { OnOk result (AppendsScattered columns.now row.now u.old u.new) }
+{
+    let entries = row.entries_from(alloc, from)?;
+    u.append_entries(&columns[from..], &entries)?;
+    Ok(())
 }

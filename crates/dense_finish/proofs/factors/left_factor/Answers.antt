@@ -2,8 +2,7 @@ use Rattle.std.proofs.Common.{ℕ, ◌≡◌, ◌<◌, ◌≤◌, ◌-◌, ◌�
 use Rattle.std.proofs.lemmas.Bool.{cases_eq}
 use Rattle.std.proofs.lemmas.List.{get_or-take, get_or_default, length-take}
 use Rattle.sparse_rows.specs.Rows.{AreRising}
-use Rattle.sparse_rows.proofs.Loops.{length_zeros}
-use Rattle.residue_words.specs.Matrix.{IsVector, zeros}
+use Rattle.residue_words.specs.Matrix.{IsVector}
 use Rattle.dense_finish.specs.Block.{DenseBlock, block_row, entry_of}
 use Rattle.dense_finish.proofs.Gathering.{IsLeftSoFar, gathered_all, left_all, left_filled, left_none, left_zeros}
 use Rattle.dense_finish.proofs.BlockRows.{read_row}
@@ -31,8 +30,7 @@ loop-t-init g c =
       left = left_none c.args.block.now.rows c.args.pivots.now.columns.items c.args.block.now.entries (c.in_ok-left.ensures.modulus ∙ modulus) (rw width at c.in_ok-left.ensures.matrix);
       inside = omega arith;
       rest = λ k a l. omega arith;
-      modulus = c.new-row.ensures.modulus ∙ modulus;
-      long = ap length c.new-row.ensures.row ∙ length_zeros c.len-width.result ∙ width;
+      room = rw (modulus, width) at c.in_ok-row_room.ensures;
       below = omega (arith, ap (λ A. A.height) c.in_ok-left.ensures.matrix);
     }
 
@@ -52,37 +50,36 @@ pad-requires-clause-small g c =
     let some : t < length b.rows = omega (arith, c.block.inside.rows.ok.0, ap length same) in
     omega (arith, index_read b.rows t c.index.result.now same some c.index.ensures, c.requires.dense.rows_below t some, c.requires.dense.low)
 
-pub gather-requires-clause-long : goal.gather-requires-clause-long
-gather-requires-clause-long g c κs within =
-    let columns = c.deref-in-loop-t.result.now in
+pub append_to-requires-clause-room : goal.append_to-requires-clause-room
+append_to-requires-clause-room g c κs within =
+    rw (c.pad.ensures.modulus ∙ c.loop-t.invariant.left.modulus, ap (λ A. A.width) c.in_ok-pad.ensures.matrix ∙ c.loop-t.invariant.left.width) c.loop-t.invariant.room
+
+pub append_to-requires-clause-narrow : goal.append_to-requires-clause-narrow
+append_to-requires-clause-narrow g c κs within =
     omega (
       arith,
-      ap length c.clear.ensures.row,
-      length_zeros (length c.loop-t.row.row),
-      c.loop-t.invariant.long,
+      ap (λ A. A.width) c.in_ok-pad.ensures.matrix,
+      c.loop-t.invariant.left.width,
       ap length c.deref-in-loop-t.ensures.value,
-      length-take c.count_up_to-count.result columns,
+      length-take c.count_up_to-count.result c.deref-in-loop-t.result.now,
     )
 
-pub gather-requires-clause-few : goal.gather-requires-clause-few
-gather-requires-clause-few g c κs within =
+pub append_to-requires-clause-few : goal.append_to-requires-clause-few
+append_to-requires-clause-few g c κs within =
     omega (arith, ap length c.deref-in-loop-t.ensures.value, length-take c.count_up_to-count.result c.deref-in-loop-t.result.now, c.requires.pivots.few, c.requires.dense.rows_few)
 
-pub gather-requires-clause-residues : goal.gather-requires-clause-residues
-gather-requires-clause-residues g c κs within =
+pub append_to-requires-clause-residues : goal.append_to-requires-clause-residues
+append_to-requires-clause-residues g c κs within =
     let b = c.args.block.now in
     let t = c.loop-t.t in
     let inside : t < length b.entries = omega (arith, c.block.inside.rows.ok.0, ap (λ (b : DenseBlock). length b.rows) c.block.view_is, c.requires.dense.long) in
     let read = row_read b.entries t c.index-in-loop-t.result.now (ap (λ (b : DenseBlock). b.entries) c.block.view_is) inside c.index-in-loop-t.ensures in
     let vector = c.requires.dense.residues t inside in
     let own : IsVector b.modulus (length (block_row b.entries t)) (block_row b.entries t) = subst (λ n. IsVector b.modulus n (block_row b.entries t)) (sym vector.len) vector in
-    rw (c.clear.ensures.modulus, c.loop-t.invariant.modulus, read) own
+    rw (c.pad.ensures.modulus ∙ c.loop-t.invariant.left.modulus, read) own
 
-pub gather-requires-clause-zero : goal.gather-requires-clause-zero
-gather-requires-clause-zero g c κs within = c.clear.ensures.row ∙ ap zeros (sym (ap length c.clear.ensures.row ∙ length_zeros _))
-
-pub gather-requires-clause-inside : goal.gather-requires-clause-inside
-gather-requires-clause-inside g c κs within =
+pub append_to-requires-clause-inside : goal.append_to-requires-clause-inside
+append_to-requires-clause-inside g c κs within =
     let b = c.args.block.now in
     let t = c.loop-t.t in
     let inside : t < length b.entries = omega (arith, c.block.inside.rows.ok.0, ap (λ (b : DenseBlock). length b.rows) c.block.view_is, c.requires.dense.long) in
@@ -93,8 +90,8 @@ gather-requires-clause-inside g c κs within =
     let less : k < count = omega (arith, length-take count columns) in
     omega (arith, ap length read, (c.requires.dense.residues t inside).len, get_or-take count columns k 0 less, c.requires.pivots.columns k (omega (arith, length-take count columns))))
 
-pub append-requires-clause-height_small : goal.append-requires-clause-height_small
-append-requires-clause-height_small g c =
+pub append_to-requires-clause-low : goal.append_to-requires-clause-low
+append_to-requires-clause-low g c κs within =
     let b = c.args.block.now in
     let t = c.loop-t.t in
     let same = ap (λ (b : DenseBlock). b.rows) c.block.view_is in
@@ -107,15 +104,6 @@ append-requires-clause-height_small g c =
       c.loop-t.invariant.left.coming t (omega arith) some,
       c.requires.dense.low,
     )
-
-pub append-requires-clause-modulus : goal.append-requires-clause-modulus
-append-requires-clause-modulus g c =
-    c.gather.ensures.modulus ∙ c.clear.ensures.modulus ∙ c.loop-t.invariant.modulus ∙ sym (c.pad.ensures.modulus ∙ c.loop-t.invariant.left.modulus)
-
-pub append-requires-clause-width : goal.append-requires-clause-width
-append-requires-clause-width g c =
-    c.in_ok-gather.ensures.row.long ∙ ap length c.clear.ensures.row ∙ length_zeros _ ∙ c.loop-t.invariant.long
-    ∙ sym (ap (λ A. A.width) c.in_ok-pad.ensures.matrix ∙ c.loop-t.invariant.left.width)
 
 pub loop-t-preserved : goal.loop-t-preserved
 loop-t-preserved g c =
@@ -137,22 +125,22 @@ loop-t-preserved g c =
     let row-is = row_read b.entries t c.index-in-loop-t.result.now (ap (λ (b : DenseBlock). b.entries) c.block.view_is) inside c.index-in-loop-t.ensures in
     let pivots = c.requires.pivots in
     let count = c.count_up_to-count in
-    let wide = ap length c.clear.ensures.row ∙ length_zeros _ ∙ c.loop-t.invariant.long in
+    let added = c.in_ok-append_to.ensures.row in
+    let wide = ap (λ A. A.width) c.in_ok-pad.ensures.matrix ∙ left.width in
     let few : count.result ≤ length columns = omega (arith, count.ensures.inside, ap length c.deref.ensures.value, pivots.long) in
     let rest = rw c.deref.ensures.value at count.ensures.rest in
-    let read : (k : ℕ) → k < length columns → slice_index c.gather.new.to.row k ≡ entry_of b.entries t (slice_index columns k) =
-    gathered_all (block_row b.entries t) columns count.result few wide (rw (c.deref-in-loop-t.ensures.value, row-is) at c.in_ok-gather.ensures.row) (λ k a l. pivots.after t k l (rest k a (omega (arith, pivots.long)))) in
-    let vector : IsVector p (length columns) c.gather.new.to.row = record {
-      len = c.in_ok-gather.ensures.row.long ∙ wide;
+    let read : (k : ℕ) → k < length columns → slice_index added.row k ≡ entry_of b.entries t (slice_index columns k) =
+    gathered_all (block_row b.entries t) columns count.result few wide (rw (c.deref-in-loop-t.ensures.value, row-is) at added.put) (λ k a l. pivots.after t k l (rest k a (omega (arith, pivots.long)))) in
+    let vector : IsVector p (length columns) added.row = record {
+      len = added.put.long ∙ wide;
       residues = λ k l. omega (arith, read k l, (c.requires.dense.residues t inside).residues (slice_index columns k) (c.requires.pivots.columns k l));
     } in
     record {
-      left = left_filled padded c.requires.dense.rows_rising vector c.append.ensures.modulus c.in_ok-append.ensures.matrix some at read;
+      left = left_filled padded c.requires.dense.rows_rising vector added.modulus added.matrix some at read;
       inside = omega (arith, count.ensures.inside, ap length c.deref.ensures.value);
       rest = λ k a l. omega (arith, rest k a l);
-      modulus = c.gather.ensures.modulus ∙ c.clear.ensures.modulus ∙ c.loop-t.invariant.modulus;
-      long = vector.len;
-      below = omega (arith, ap (λ A. A.height) c.in_ok-append.ensures.matrix, at, c.requires.dense.rows_below t some);
+      room = rw (c.pad.ensures.modulus ∙ left.modulus, wide) at c.in_ok-append_to.ensures.room;
+      below = omega (arith, ap (λ A. A.height) added.matrix, at, c.requires.dense.rows_below t some);
     }
 
 pub returns-clause-residues : goal.returns-clause-residues

@@ -1,28 +1,15 @@
-use Rattle.std.proofs.Common.{◌∙◌, ap, arith, length, subst, sym, refl}
-use Rattle.residue_words.specs.Matrix.{zeros}
-use Rattle.residue_words.proofs.Vectors.{length_list_of}
-use Rattle.dense_finish.specs.Dense.{Scatters}
+use Rattle.std.proofs.Common.{refl}
 use Rattle.dense_finish.proofs.pivots.Pivots.push.Goals as goal
 
-pub scatter-requires-clause-zero : goal.scatter-requires-clause-zero
-scatter-requires-clause-zero g c κs within = c.in_ok-entries.ensures.row ∙ ap zeros (sym (ap length c.in_ok-entries.ensures.row ∙ length_list_of c.width.result (λ j. 0)))
-
-pub scatter-requires-clause-inside : goal.scatter-requires-clause-inside
-scatter-requires-clause-inside g c κs within = λ j l.
-    omega (arith, c.requires.inside j l, ap length c.in_ok-entries.ensures.row, length_list_of c.width.result (λ j. 0), c.width.ensures.value)
-
-pub append-requires-clause-width : goal.append-requires-clause-width
-append-requires-clause-width g c =
-    c.in_ok-scatter.ensures.row.long ∙ ap length c.in_ok-entries.ensures.row ∙ length_list_of c.width.result (λ j. 0) ∙ c.width.ensures.value
-
 pub returns : goal.returns
-returns g c = record {
-  rows = c.in_ok-push.ensures.items;
-  columns = c.in_ok-push-2.ensures.items;
-  taken = refl;
-  modulus = c.append.ensures.modulus;
-  row = c.scatter.new.to.row;
-  put = subst (λ n. Scatters n c.args.columns.now c.args.row.now c.scatter.new.to.row)
-      (ap length c.in_ok-entries.ensures.row ∙ length_list_of c.width.result (λ j. 0) ∙ c.width.ensures.value) c.in_ok-scatter.ensures.row;
-  matrix = c.in_ok-append.ensures.matrix;
-}
+returns g c =
+    let added = c.in_ok-append_row.ensures in
+    record {
+      rows = c.in_ok-push.ensures.items;
+      columns = c.in_ok-push-2.ensures.items;
+      taken = refl;
+      modulus = added.modulus;
+      row = added.row;
+      put = added.put;
+      matrix = added.matrix;
+    }
