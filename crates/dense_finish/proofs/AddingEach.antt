@@ -1,5 +1,5 @@
 -- Sums added to rows, some columns or some products at a time.
-use Rattle.std.proofs.Common.{ℕ, List, [], ◌∷◌, zero, suc, ◌≡◌, ◌+◌, ◌-◌, ◌*◌, ◌%◌, ◌<◌, ◌≤◌, below_more, inl, inr, length, length-set, set, slice_index, subst, sym, refl, ap, ◌∙◌, arith, mod-eq_of_lt, mod-lt, mul-le-mul_left, mul-le-mul_right, mul-zero}
+use Rattle.std.proofs.Common.{ℕ, List, [], ◌≡◌, ◌+◌, ◌-◌, ◌*◌, ◌%◌, ◌<◌, ◌≤◌, below_more, inl, inr, length, length-set, set, slice_index, subst, sym, refl, ap, ◌∙◌, arith, mod-eq_of_lt, mod-lt, mul-le-mul_left, mul-le-mul_right, mul-zero}
 use Rattle.std.proofs.lemmas.Bool.{cases_lt}
 use Rattle.std.proofs.lemmas.List.{get_or-set_other, get_or-set_same}
 use Rattle.residue_words.specs.Matrix.{IsVector}
@@ -122,17 +122,10 @@ products_small p most c rows run j room few left right =
     let more : run.count * (p * p) ≤ most * (p * p) = mul-le-mul_right (p * p) few in
     omega arith
 
--- the residues of eight entries and sums, given by four and four
-pub plus_eight : (p : ℕ) (old left right v : List ℕ) (f : ℕ → ℕ) {x : List ℕ} → x ≡ old → ((k : ℕ) → k < 4 → slice_index v k ≡ (slice_index x k + slice_index left k) % p) →
-    ((k : ℕ) → k < 4 → slice_index v (4 + k) ≡ (slice_index x (4 + k) + slice_index right k) % p) → ((k : ℕ) → k < 4 → slice_index left k ≡ f (0 + k)) →
-    ((k : ℕ) → k < 4 → slice_index right k ≡ f (4 + k)) → (k : ℕ) → k < 8 → slice_index v k ≡ (slice_index old k + f k) % p
-plus_eight p old left right v f same front back low high k l = elim (cases_lt k 4) [
-  | inl less ↦ let plain : 0 + k ≡ k = omega arith in front k less ∙ (λ i. (slice_index (same i) k + (low k less ∙ ap f plain) i) % p)
-  | inr more ↦
-      let place : 4 + (k - 4) ≡ k = omega arith in
-      let inside : k - 4 < 4 = omega arith in
-      ap (slice_index v) (sym place) ∙ back (k - 4) inside ∙ (λ i. (slice_index (same i) (place i) + (high (k - 4) inside ∙ ap f place) i) % p)
-]
+-- the residues of eight entries and sums
+pub plus_eight : (p : ℕ) (old sums v : List ℕ) (f : ℕ → ℕ) {x : List ℕ} → x ≡ old → ((k : ℕ) → k < 8 → slice_index v k ≡ (slice_index x k + slice_index sums k) % p) →
+    ((k : ℕ) → k < 8 → slice_index sums k ≡ f k) → (k : ℕ) → k < 8 → slice_index v k ≡ (slice_index old k + f k) % p
+plus_eight p old sums v f same all is k l = all k l ∙ (λ i. (slice_index (same i) k + is k l i) % p)
 
 -- equal sums, each of the rows
 pub each_equal : {p : ℕ} {columns : Columns} {f g : ℕ → ℕ → ℕ} {old new : List (List ℕ)} → ((t j : ℕ) → columns.start ≤ j → j < columns.end → f t j ≡ g t j) → AddsToEach p columns f old new → AddsToEach p columns g old new
@@ -146,15 +139,6 @@ products_tile c rows tile start n j is few from less =
     (λ i l.
     let place : start + (j - start) ≡ j = omega arith in
     ap (λ y. slice_index c (0 + i) * y) (is (0 + i) (j - start) (omega arith) (omega arith) ∙ ap (entry_of rows (0 + i)) place))
-
--- four entries side by side
-pub four_lanes : (row : List ℕ) (at k : ℕ) → k < 4 →
-    slice_index (slice_index row at ∷ slice_index row (at + 1) ∷ slice_index row (at + 2) ∷ slice_index row (at + 3) ∷ []) k ≡ slice_index row (at + k)
-four_lanes row at zero l = let plain : at ≡ at + 0 = omega arith in ap (slice_index row) plain
-four_lanes row at (suc zero) l = refl
-four_lanes row at (suc (suc zero)) l = refl
-four_lanes row at (suc (suc (suc zero))) l = refl
-four_lanes row at (suc (suc (suc (suc k)))) l = absurd (omega arith)
 
 -- what holds of the first n rows, holds of one more and of four more that are put behind them
 row_more : (P : ℕ → List ℕ → Type 0) (xs : List (List ℕ)) (n : ℕ) (v : List ℕ) → n < length xs → ((t : ℕ) → t < n → P t (block_row xs t)) → P n v → (t : ℕ) → t < n + 1 → P t (block_row (set xs n v) t)

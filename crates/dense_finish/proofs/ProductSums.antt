@@ -1,18 +1,19 @@
--- Sums of products, split and made residues.
-use Rattle.std.proofs.Common.{ℕ, List, ◌≡◌, ◌+◌, ◌-◌, ◌*◌, ◌/◌, ◌%◌, ◌<◌, ◌≤◌, zero, suc, inl, inr, length, length-set, replicate, slice_index, slice_set, subst, sym, refl, ap, ◌∙◌, arith}
-use Rattle.std.specs.Simd.Lanes.{put_chunk}
+-- Sums of products, split and made residues, and a coefficient in all lanes.
+use Rattle.std.proofs.Common.{ℕ, List, ◌∷◌, ◌≡◌, ◌+◌, ◌-◌, ◌*◌, ◌/◌, ◌%◌, ◌^◌, ◌<◌, ◌≤◌, zero, suc, div-add-mod', div-lt_iff_lt-mul, pow-add, pow-suc, inl, inr, length, length-set, replicate, slice_index, slice_set, subst, sym, refl, ap, ◌∙◌, arith}
+use Rattle.std.specs.Simd.Lanes.{digits_l, number_l, put_chunk, zip2}
 use Rattle.std.proofs.lemmas.Simd.{get_or-put_chunk_above, get_or-put_chunk_at, get_or-put_chunk_below, length-put_chunk}
 use Rattle.std.proofs.Math.Nat.{mul_comm}
 use Rattle.std.proofs.lemmas.Bool.{cases_eq}
 use Rattle.std.proofs.lemmas.List.{get_or-set_other, get_or-set_same}
 use Rattle.std.proofs.lemmas.Nat.{mul-mod_first}
-use native.Mathlib.Nat.{mod-mod}
+use native.Mathlib.Nat.{mod-mod, pow-zero}
 use Rattle.residue_words.specs.Residues.{sum_below}
 use Rattle.residue_words.proofs.Residues.{add_same}
 use Rattle.residue_words.proofs.Sums.{sum_equal, sum_more, sum_none, sum_split}
 use Rattle.dense_finish.specs.Block.{block_row, entry_of}
 use Rattle.dense_finish.specs.Products.{AreSmall, IsWritten, columns_of, products, products_of, run_of}
 use Rattle.dense_finish.specs.declared.products.Run.{Run}
+use Rattle.dense_finish.proofs.Vectors.{highs, raised}
 
 -- the residue of x and s, by the halves of s
 pub folded : (p x s y z : ℕ) → y ≡ (x + 1 * (s % 4294967296)) % p → z ≡ (y + 4294967296 % p * (s / 4294967296)) % p → z ≡ (x + s) % p
@@ -93,3 +94,47 @@ products_units c units s j g long same =
     let plain : 0 + i ≡ i = omega arith in
     ap (λ k. slice_index c k * entry_of units k j) plain ∙ ap (λ x. x * entry_of units i j) (same i (omega arith)))
     ∙ ap (λ n. sum_below n (λ k. g k * entry_of units k j)) long
+
+-- a number that is written in digits and read again
+read_again : (p n x : ℕ) → 0 < p → x < p ^ n → number_l p (digits_l p n x) ≡ x
+read_again p zero x some l = omega (arith, pow-zero p)
+read_again p (suc n) x some l =
+    let less : x / p < p ^ n = (div-lt_iff_lt-mul some).1 (rw (← pow-suc p n) l) in
+    rw (read_again p n (x / p) some less) (omega (arith, div-add-mod' x p))
+
+-- lanes of 32 bits that are all c, two of them read as one
+abbrev pub doubled : ℕ → ℕ
+doubled zero = zero
+doubled (suc n) = suc (suc (doubled n))
+
+paired_lanes : (n c : ℕ) → c < 4294967296 → digits_l 18446744073709551616 n (number_l 4294967296 (replicate (doubled n) c)) ≡ replicate n (c + 4294967296 * c)
+paired_lanes zero c l = refl
+paired_lanes (suc n) c l =
+    let rest = number_l 4294967296 (replicate (doubled n) c) in
+    let first : (c + 4294967296 * (c + 4294967296 * rest)) % 18446744073709551616 ≡ c + 4294967296 * c = omega arith in
+    let others : (c + 4294967296 * (c + 4294967296 * rest)) / 18446744073709551616 ≡ rest = omega arith in
+    (λ i. (first i) ∷ digits_l 18446744073709551616 n (others i)) ∙ ap (λ xs. (c + 4294967296 * c) ∷ xs) (paired_lanes n c l)
+
+paired_below : (n c : ℕ) → c < 4294967296 → number_l 4294967296 (replicate (doubled n) c) < 256 ^ (8 * n)
+paired_below zero c l = omega (arith, pow-zero 256)
+paired_below (suc n) c l =
+    let longer : 8 * suc n ≡ 8 * n + 8 = omega arith in
+    let more : 256 ^ (8 * suc n) ≡ 256 ^ (8 * n) * 18446744073709551616 = ap (λ k. 256 ^ k) longer ∙ pow-add 256 (8 * n) 8 in
+    omega (arith, more, paired_below n c l)
+
+-- an operator on two splats
+splat_splat : (f : ℕ → ℕ → ℕ) (n a b : ℕ) → zip2 f (replicate n a) (replicate n b) ≡ replicate n (f a b)
+splat_splat f zero a b = refl
+splat_splat f (suc n) a b = ap (λ xs. (f a b) ∷ xs) (splat_splat f n a b)
+
+-- a number in all halves of the lanes, and the upper ones cleared
+pub wide_lanes : (n c : ℕ) → c < 4294967296 →
+    highs n (raised n (digits_l 18446744073709551616 n (number_l 256 (digits_l 256 (8 * n) (number_l 4294967296 (replicate (doubled n) c)))))) ≡ replicate n c
+wide_lanes n c l =
+    let both = read_again 256 (8 * n) (number_l 4294967296 (replicate (doubled n) c)) (omega arith) (paired_below n c l) in
+    let low : (c + 4294967296 * c) * 4294967296 % 18446744073709551616 / 4294967296 ≡ c = omega arith in
+    ap (λ x. highs n (raised n (digits_l 18446744073709551616 n x))) both
+    ∙ ap (λ xs. highs n (raised n xs)) (paired_lanes n c l)
+    ∙ ap (highs n) (splat_splat (λ x s. x * 2 ^ s % 18446744073709551616) n (c + 4294967296 * c) 32)
+    ∙ splat_splat (λ x s. x / 2 ^ s) n ((c + 4294967296 * c) * 4294967296 % 18446744073709551616) 32
+    ∙ ap (replicate n) low

@@ -3,7 +3,7 @@ ghost use Rattle.dense_finish.specs.Block.{AreVectors, block_row, entry_of};
 ghost use Rattle.dense_finish.specs.Products.{AddsToEach, AreSmall, IsTile, IsWritten, columns_of, products_of, run_of, tile_products};
 ghost use Rattle.dense_finish.specs.declared.panel.TheConstants.{PANEL};
 ghost use Rattle.residue_words.specs.declared.shoup.TheConstants.{LANE_BOUND};
-ghost use Rattle.std.specs.Prelude.{◌≡◌, ◌<◌, ◌≤◌, ◌+◌, ◌-◌, ◌*◌, ◌%◌, ◌/◌, ℕ, length, slice_index};
+ghost use Rattle.std.specs.Prelude.{◌≡◌, ◌<◌, ◌≤◌, ◌+◌, ◌-◌, ◌*◌, ◌%◌, ◌/◌, ℕ, length, replicate, slice_index};
 
 use crate::dense::Dense;
 use crate::multiplier::Multiplier;
@@ -20,22 +20,23 @@ pub(crate) const TILE_COLUMNS: usize = 8;
 // How many rows the products are added to while a tile's columns of the other factor are at hand: a multiple of a tile's rows.
 pub(crate) const BLOCK_ROWS: usize = 32;
 
-// The lanes with the products of others and a number added.
+// A number in all lanes, widened. It is put into both halves of each lane and the upper ones are cleared, so that
+// the compiler loads it into all lanes at once: of a number that is widened first it makes three steps, since two
+// products take it.
 #[inline(always)]
-fn plus_products(sums: u64x4, y: u64x4, c: u32) -> u64x4
-    requires { (k : ℕ) → k < 4 → slice_index sums k + slice_index y k * c < 18446744073709551616 }
-    ensures { (k : ℕ) → k < 4 → slice_index result k ≡ slice_index sums k + slice_index y k * c }
+fn wide_splat(c: u32) -> u64x8
+    ensures { result ≡ replicate 8 c }
 {
-    sums + y * u64x4::splat(u64::from(c))
+    (u64x8::from_le_bytes(u32x16::splat(c).to_le_bytes()) << 32) >> 32
 }
 
-// Eight lanes of four and four.
+// The lanes with the products of others and a number added.
 #[inline(always)]
-fn joined(left: u64x4, right: u64x4) -> u64x8
-    ensures left { (k : ℕ) → k < 4 → slice_index result k ≡ slice_index left k }
-    ensures right { (k : ℕ) → k < 4 → slice_index result (4 + k) ≡ slice_index right k }
+fn plus_products(sums: u64x8, y: u64x8, c: u32) -> u64x8
+    requires { (k : ℕ) → k < 8 → slice_index sums k + slice_index y k * c < 18446744073709551616 }
+    ensures { (k : ℕ) → k < 8 → slice_index result k ≡ slice_index sums k + slice_index y k * c }
 {
-    left.shuffle(right, [0, 1, 2, 3, 4, 5, 6, 7])
+    sums + y * wide_splat(c)
 }
 
 // The lanes modulo 2^32.
@@ -118,52 +119,49 @@ pub(crate) fn write_lanes(row: &mut [u32], at: usize, values: u32x8)
     values.copy_to_slice(&mut row[at..]);
 }
 
-// The sums of products of four rows of coefficients at four columns.
+// The sums of products of four rows of coefficients at the columns of a tile.
 #[derive(Clone, Copy)]
 struct Sums {
-    first: u64x4,
-    second: u64x4,
-    third: u64x4,
-    fourth: u64x4,
+    first: u64x8,
+    second: u64x8,
+    third: u64x8,
+    fourth: u64x8,
 }
 
-// The four entries from `at` on, widened.
+// The entries of a tile's row, widened.
 #[inline(always)]
-fn lanes(row: &[u32; TILE_COLUMNS], at: usize) -> u64x4
-    requires inside { at + 4 ≤ TILE_COLUMNS }
-    ensures { (k : ℕ) → k < 4 → slice_index result k ≡ slice_index row.now (at + k) }
+fn lanes(row: &[u32; TILE_COLUMNS]) -> u64x8
+    ensures { (k : ℕ) → k < TILE_COLUMNS → slice_index result k ≡ slice_index row.now k }
 {
-    u32x4::from_array([row[at], row[at + 1], row[at + 2], row[at + 3]]).cast::<u64>()
+    u32x8::from_array(*row).cast::<u64>()
 }
 
-// The sums of the products of four rows of coefficients, from `row` on, at four columns of a tile, from `at` on.
+// The sums of the products of four rows of coefficients, from `row` on, at the columns of a tile.
 #[inline(always)]
-fn sums_at(
+fn sums_of(
     by: &[[u64; PANEL]; BLOCK_ROWS],
     row: usize,
     tile: &[[u32; TILE_COLUMNS]; PANEL],
     run: Run,
-    at: usize,
 ) -> Sums
     requires four { row + TILE_ROWS ≤ BLOCK_ROWS }
     requires small { AreSmall by.now tile.now run }
-    requires inside { at + 4 ≤ TILE_COLUMNS }
-    ensures first { (k : ℕ) → k < 4 → slice_index result.first k
-        ≡ products_of by.now tile.now run row (at + k) }
-    ensures second { (k : ℕ) → k < 4 → slice_index result.second k
-        ≡ products_of by.now tile.now run (row + 1) (at + k) }
-    ensures third { (k : ℕ) → k < 4 → slice_index result.third k
-        ≡ products_of by.now tile.now run (row + 2) (at + k) }
-    ensures fourth { (k : ℕ) → k < 4 → slice_index result.fourth k
-        ≡ products_of by.now tile.now run (row + 3) (at + k) }
+    ensures first { (k : ℕ) → k < TILE_COLUMNS → slice_index result.first k
+        ≡ products_of by.now tile.now run row k }
+    ensures second { (k : ℕ) → k < TILE_COLUMNS → slice_index result.second k
+        ≡ products_of by.now tile.now run (row + 1) k }
+    ensures third { (k : ℕ) → k < TILE_COLUMNS → slice_index result.third k
+        ≡ products_of by.now tile.now run (row + 2) k }
+    ensures fourth { (k : ℕ) → k < TILE_COLUMNS → slice_index result.fourth k
+        ≡ products_of by.now tile.now run (row + 3) k }
 {
-    let mut first = u64x4::splat(0);
+    let mut first = u64x8::splat(0);
     let mut second = first;
     let mut third = first;
     let mut fourth = first;
     for i in 0..run.count {
         let k = run.first + i;
-        let y = lanes(&tile[k], at);
+        let y = lanes(&tile[k]);
         first = plus_products(first, y, by[row][k] as u32);
         second = plus_products(second, y, by[row + 1][k] as u32);
         third = plus_products(third, y, by[row + 2][k] as u32);
@@ -192,23 +190,14 @@ fn fill_tile(rows: &[Dense<u32>], start: usize, tile: &mut [[u32; TILE_COLUMNS];
     }
 }
 
-// The residues of eight entries and sums, given by four and four.
+// The residues of eight entries and sums.
 #[inline(always)]
-fn plus_joined(
-    entries: &[u32; TILE_COLUMNS],
-    left: u64x4,
-    right: u64x4,
-    folding: &Folding,
-) -> [u32; TILE_COLUMNS]
+fn plus_sums(entries: &[u32; TILE_COLUMNS], sums: u64x8, folding: &Folding) -> [u32; TILE_COLUMNS]
     requires { (k : ℕ) → k < TILE_COLUMNS → slice_index entries.now k < folding.now.p }
-    ensures left { (k : ℕ) → k < 4 → slice_index result k
-        ≡ (slice_index entries.now k + slice_index left k) % folding.now.p }
-    ensures right { (k : ℕ) → k < 4 → slice_index result (4 + k)
-        ≡ (slice_index entries.now (4 + k) + slice_index right k) % folding.now.p }
+    ensures { (k : ℕ) → k < TILE_COLUMNS → slice_index result k
+        ≡ (slice_index entries.now k + slice_index sums k) % folding.now.p }
 {
-    folding
-        .plus(u32x8::from_array(*entries), joined(left, right))
-        .to_array()
+    folding.plus(u32x8::from_array(*entries), sums).to_array()
 }
 
 // Adds the sums of a run's products to the entries of so many rows at a tile's columns, four rows at a time.
@@ -233,12 +222,11 @@ fn add_run(
 {
     let mut row = 0;
     while row < height {
-        let left = sums_at(by, row, tile, run, 0);
-        let right = sums_at(by, row, tile, run, 4);
-        let first = plus_joined(&entries[row], left.first, right.first, folding);
-        let second = plus_joined(&entries[row + 1], left.second, right.second, folding);
-        let third = plus_joined(&entries[row + 2], left.third, right.third, folding);
-        let fourth = plus_joined(&entries[row + 3], left.fourth, right.fourth, folding);
+        let sums = sums_of(by, row, tile, run);
+        let first = plus_sums(&entries[row], sums.first, folding);
+        let second = plus_sums(&entries[row + 1], sums.second, folding);
+        let third = plus_sums(&entries[row + 2], sums.third, folding);
+        let fourth = plus_sums(&entries[row + 3], sums.fourth, folding);
         entries[row] = first;
         entries[row + 1] = second;
         entries[row + 2] = third;

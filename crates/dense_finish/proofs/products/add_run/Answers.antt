@@ -8,17 +8,17 @@ use Rattle.dense_finish.proofs.products.add_run.Goals as goal
 pub loop-row-init : goal.loop-row-init
 loop-row-init c = record { fours = refl; long = c.requires.long; residues = c.requires.residues; done = λ t k l lk. absurd (omega arith); ahead = λ t l. refl }
 
-pub plus_joined-first-requires : goal.plus_joined-first-requires
-plus_joined-first-requires c = λ k l. c.loop-row.invariant.residues c.loop-row.row k (omega (arith, c.requires.few)) l
+pub plus_sums-first-requires : goal.plus_sums-first-requires
+plus_sums-first-requires c = λ k l. c.loop-row.invariant.residues c.loop-row.row k (omega (arith, c.requires.few)) l
 
-pub plus_joined-second-requires : goal.plus_joined-second-requires
-plus_joined-second-requires c = λ k l. c.loop-row.invariant.residues (c.loop-row.row + 1) k (omega (arith, c.loop-row.invariant.fours, c.requires.few)) l
+pub plus_sums-second-requires : goal.plus_sums-second-requires
+plus_sums-second-requires c = λ k l. c.loop-row.invariant.residues (c.loop-row.row + 1) k (omega (arith, c.loop-row.invariant.fours, c.requires.few)) l
 
-pub plus_joined-third-requires : goal.plus_joined-third-requires
-plus_joined-third-requires c = λ k l. c.loop-row.invariant.residues (c.loop-row.row + 2) k (omega (arith, c.loop-row.invariant.fours, c.requires.few)) l
+pub plus_sums-third-requires : goal.plus_sums-third-requires
+plus_sums-third-requires c = λ k l. c.loop-row.invariant.residues (c.loop-row.row + 2) k (omega (arith, c.loop-row.invariant.fours, c.requires.few)) l
 
-pub plus_joined-fourth-requires : goal.plus_joined-fourth-requires
-plus_joined-fourth-requires c = λ k l. c.loop-row.invariant.residues (c.loop-row.row + 3) k (omega (arith, c.loop-row.invariant.fours, c.requires.few)) l
+pub plus_sums-fourth-requires : goal.plus_sums-fourth-requires
+plus_sums-fourth-requires c = λ k l. c.loop-row.invariant.residues (c.loop-row.row + 3) k (omega (arith, c.loop-row.invariant.fours, c.requires.few)) l
 
 pub loop-row-preserved : goal.loop-row-preserved
 loop-row-preserved c =
@@ -28,12 +28,11 @@ loop-row-preserved c =
     let f : ℕ → ℕ → ℕ = products_of c.args.by.now c.args.tile.now c.args.run in
     let row : ℕ = c.loop-row.row in
     let low : row + 4 ≤ 32 = omega (arith, c.loop-row.invariant.fours, c.requires.few) in
-    let left = c.sums_at-left in
-    let right = c.sums_at-right in
-    let v1 = c.plus_joined-first in
-    let v2 = c.plus_joined-second in
-    let v3 = c.plus_joined-third in
-    let v4 = c.plus_joined-fourth in
+    let sums = c.sums_of-sums in
+    let v1 = c.plus_sums-first in
+    let v2 = c.plus_sums-second in
+    let v3 = c.plus_sums-third in
+    let v4 = c.plus_sums-fourth in
     let one = set entries row v1.result in
     let two = set one (row + 1) v2.result in
     let three = set two (row + 2) v3.result in
@@ -41,10 +40,10 @@ loop-row-preserved c =
     let done : (t : ℕ) → t < row + 4 → (k : ℕ) → k < 8 → slice_index (block_row four t) k ≡ (entry_of olds t k + f t k) % p =
     four_more (λ t v. (k : ℕ) → k < 8 → slice_index v k ≡ (entry_of olds t k + f t k) % p) entries row v1.result v2.result v3.result v4.result (omega (arith, c.loop-row.invariant.long))
     (λ t l k lk. c.loop-row.invariant.done t k l lk)
-    (plus_eight p (block_row olds row) left.result.first right.result.first v1.result (f row) (c.loop-row.invariant.ahead row (omega arith)) v1.ensures.left v1.ensures.right left.ensures.first right.ensures.first)
-    (plus_eight p (block_row olds (row + 1)) left.result.second right.result.second v2.result (f (row + 1)) (c.loop-row.invariant.ahead (row + 1) (omega arith)) v2.ensures.left v2.ensures.right left.ensures.second right.ensures.second)
-    (plus_eight p (block_row olds (row + 2)) left.result.third right.result.third v3.result (f (row + 2)) (c.loop-row.invariant.ahead (row + 2) (omega arith)) v3.ensures.left v3.ensures.right left.ensures.third right.ensures.third)
-    (plus_eight p (block_row olds (row + 3)) left.result.fourth right.result.fourth v4.result (f (row + 3)) (c.loop-row.invariant.ahead (row + 3) (omega arith)) v4.ensures.left v4.ensures.right left.ensures.fourth right.ensures.fourth) in
+    (plus_eight p (block_row olds row) sums.result.first v1.result (f row) (c.loop-row.invariant.ahead row (omega arith)) v1.ensures sums.ensures.first)
+    (plus_eight p (block_row olds (row + 1)) sums.result.second v2.result (f (row + 1)) (c.loop-row.invariant.ahead (row + 1) (omega arith)) v2.ensures sums.ensures.second)
+    (plus_eight p (block_row olds (row + 2)) sums.result.third v3.result (f (row + 2)) (c.loop-row.invariant.ahead (row + 2) (omega arith)) v3.ensures sums.ensures.third)
+    (plus_eight p (block_row olds (row + 3)) sums.result.fourth v4.result (f (row + 3)) (c.loop-row.invariant.ahead (row + 3) (omega arith)) v4.ensures sums.ensures.fourth) in
     let kept : (t : ℕ) → row + 4 ≤ t → block_row four t ≡ block_row entries t = λ t le. four_kept entries row v1.result v2.result v3.result v4.result t le in
     let positive : 0 < p = omega (arith, c.loop-row.invariant.residues 0 0 (omega arith) (omega arith)) in
     record {
