@@ -17,6 +17,7 @@ pub mod ProductSums
 pub mod Progress
 pub mod Putting
 pub mod ReducedPieces
+pub mod SharedPieces
 pub mod Splitting
 pub mod Stages
 pub mod TakingOut

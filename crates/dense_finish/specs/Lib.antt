@@ -7,5 +7,6 @@ pub mod Pieces
 pub mod Pivots
 pub mod Products
 pub mod RowRoom
+pub mod SharedPieces
 pub mod Splitting
 pub mod Units

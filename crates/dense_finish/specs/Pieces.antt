@@ -11,6 +11,12 @@ pub record NumberedRows : Type 0 where
   pub number : ℕ
   pub rows : List (List ℕ)
 
+-- a piece of these rows
+pub record IsPieceOf (rows : List (List ℕ)) (piece : NumberedRows) : Type 0 where
+  pub inside : piece.number * PIECE_ROWS < length rows
+  pub long : length piece.rows ≡ min PIECE_ROWS (length rows - piece.number * PIECE_ROWS)
+  pub each : (t : ℕ) → t < length piece.rows → block_row piece.rows t ≡ block_row rows (piece.number * PIECE_ROWS + t)
+
 -- rows of which the panel's pivots can be taken out
 pub record AreReducible (p : ℕ) (found : FoundPanel) (rows : List (List ℕ)) : Type 0 where
   pub vectors : AreVectors p found.panel.width rows

@@ -1,5 +1,5 @@
 // One dense row.
-ghost use Rattle.std.specs.Prelude.{◌≡◌, ◌≢◌, ◌<◌, ◌≤◌, ◌+◌, ◌-◌, ℕ, drop, length, map, slice_index, slice_set, false, IfOk, OnOk, IfSome, IfNone};
+ghost use Rattle.std.specs.Prelude.{◌≡◌, ◌≢◌, ◌<◌, ◌≤◌, ◌+◌, ◌-◌, ℕ, [], drop, length, map, slice_index, slice_set, false, IfOk, OnOk, IfSome, IfNone};
 ghost use Rattle.residue_words.specs.Matrix.{IsVector, zeros};
 ghost use Rattle.sparse_rows.specs.Rows.{AreRising};
 ghost use Rattle.sparse_rows.specs.declared.rows.TheConstants.{LARGEST_SIZE};
@@ -49,6 +49,15 @@ impl<W: Residue> Dense<W> {
         let mut places = Vec::with_capacity(alloc, n)?;
         places.resize(n, W::of(0, p))?;
         Ok(Dense { places })
+    }
+
+    // A row of no residues, which takes no memory.
+    pub(crate) fn none(alloc: Global) -> Dense<W>
+        ensures { result ≡ [] }
+    {
+        Dense {
+            places: Vec::new(alloc),
+        }
     }
 
     // The entries, at the block's columns, of the row that `cols` and `vals` stand for.

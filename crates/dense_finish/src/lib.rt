@@ -19,6 +19,7 @@ mod right_factor;
 mod room;
 mod row_addition;
 mod row_room;
+mod shared_pieces;
 
 pub use elimination::finish;
 pub use factors::Factors;

@@ -7,7 +7,6 @@ use crate::dense::Dense;
 use crate::elimination::{Elimination, RowRange};
 use crate::found::Found;
 use crate::left_room::LeftRoom;
-use crate::products::BLOCK_ROWS;
 use crate::reducing::Reducing;
 use crate::residue::Residue;
 use crate::room::Room;
@@ -19,13 +18,13 @@ use std::thread;
 use std::thread::{Threads, join_mut};
 
 // How many rows a worker takes at a time.
-const PIECE_ROWS: usize = BLOCK_ROWS;
+const PIECE_ROWS: usize = 16;
 
 // What is left of the rows of a piece. Contracts see it as `NumberedRows`.
 #[derive(Drop)]
 pub(crate) struct Piece<W: Residue> {
-    number: usize,
-    rows: Vec<Dense<W>>,
+    pub(crate) number: usize,
+    pub(crate) rows: Vec<Dense<W>>,
 }
 
 impl<W: Residue> Model for Piece<W> {
@@ -45,7 +44,7 @@ pub(crate) fn count_of_pieces(height: usize) -> usize
 }
 
 // The rows of one of them.
-fn rows_of_piece(number: usize, height: usize) -> RowRange
+pub(crate) fn rows_of_piece(number: usize, height: usize) -> RowRange
     requires inside { number * PIECE_ROWS ≤ height }
     ensures start { result.start ≡ number * PIECE_ROWS }
     ensures end { result.end ≡ result.start + min PIECE_ROWS (height - result.start) }
