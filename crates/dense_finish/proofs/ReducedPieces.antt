@@ -1,60 +1,73 @@
--- Pieces of rows, taken out of a block and put back reduced.
-use Rattle.std.proofs.Common.{ℕ, ◌≡◌, ◌≢◌, ◌+◌, ◌*◌, ◌-◌, ◌<◌, ◌≤◌, ◌∙◌, Bool, true, false, cond, inl, inr, List, ◌++◌, Option, None, Some, IfSome, All, Contains, drop, length, length-drop, min, slice_index_or, take, ap, arith, subst, sym}
+-- Pieces of rows, reduced and put in their places.
+use Rattle.std.proofs.Common.{ℕ, ◌≡◌, ◌≢◌, ◌+◌, ◌*◌, ◌-◌, ◌<◌, ◌≤◌, ◌∙◌, Bool, true, false, cond, inl, inr, IfOk, List, ◌++◌, All, Err, Ok, Result, Contains, drop, length, length-drop, min, slice_index_or, take, ap, arith, subst, sym}
 use Rattle.std.proofs.lemmas.Bool.{cases_eq, cases_lt}
 use Rattle.std.proofs.lemmas.List.{get_or_default, length-take-le}
-use Rattle.std.proofs.lemmas.List.Elements.{All-append, All-contains}
+use Rattle.std.proofs.lemmas.List.Elements.{All-append, All-contains, All-weaker}
 use borrow.Rule.Slice.PartMut.{put_mid}
+use Rattle.residue_words.specs.Matrix.{IsVector}
 use Rattle.dense_finish.specs.Block.{block_row}
 use Rattle.dense_finish.specs.Panel.{PanelReduces, PanelReducesEach, PanelRows}
-use Rattle.dense_finish.specs.Pieces.{IsReducedPiece, NumberedRows}
+use Rattle.dense_finish.specs.Pieces.{ArePut, AreReducible, FillsItsPlace, IsInPieces, IsPieceOf, IsReducedPiece, NumberedRows}
+use Rattle.dense_finish.specs.Units.{FoundPanel}
 use Rattle.dense_finish.specs.declared.pieces.TheConstants.{PIECE_ROWS}
-use Rattle.dense_finish.proofs.BlockRows.{part_row, put_row_at, put_row_behind, put_row_below}
+use Rattle.dense_finish.proofs.BlockRows.{put_row_at, put_row_below}
 
 -- k rows from a on
-part_long : (a k : ℕ) (rows : List (List ℕ)) → a + k ≤ length rows → length (take k (drop a rows)) ≡ k
+pub part_long : (a k : ℕ) (rows : List (List ℕ)) → a + k ≤ length rows → length (take k (drop a rows)) ≡ k
 part_long a k rows within = length-take-le k (drop a rows) (omega (arith, length-drop a rows))
 
--- a block of which the rows from a on are as they were
-module _ (olds rows : List (List ℕ)) (a k : ℕ) (long : length rows ≡ length olds) (within : a + k ≤ length rows) (ahead : (t : ℕ) → a ≤ t → block_row rows t ≡ block_row olds t) where
-  all : length (take k (drop a rows)) ≡ k
-  all = part_long a k rows within
+-- a piece has as many rows as its place
+pub piece_long : (piece : NumberedRows) (height a k : ℕ) → a ≡ piece.number * PIECE_ROWS → k ≡ min PIECE_ROWS (height - a) → FillsItsPlace height piece → length piece.rows ≡ k
+piece_long piece height a k start size fills = fills ∙ ap (λ a. min PIECE_ROWS (height - a)) (sym start) ∙ sym size
 
-  old : (t : ℕ) → t < k → block_row (take k (drop a rows)) t ≡ block_row olds (a + t)
-  old t l = part_row a k rows t l ∙ ahead (a + t) (omega arith)
+-- the rows up to the end of a piece that is put
+pub piece_put : {pieces : List NumberedRows} {piece : NumberedRows} (rows : List (List ℕ)) (a k : ℕ) → Contains pieces piece → a ≡ piece.number * PIECE_ROWS → a + k ≤ length rows → length piece.rows ≡ k →
+    ((t : ℕ) → t < a → IsInPieces pieces t (block_row rows t)) → (t : ℕ) → t < a + k → IsInPieces pieces t (block_row (put_mid a k rows piece.rows) t)
+piece_put {pieces} {piece} rows a k there start within long done t l = elim (cases_lt t a) [
+  | inl before ↦ subst (IsInPieces pieces t) (sym (put_row_below a k rows piece.rows t (omega arith) before)) (done t before)
+  | inr behind ↦
+      let back : a + (t - a) ≡ t = omega arith in
+      record {
+        piece = piece;
+        there = there;
+        place = t - a;
+        inside = omega arith;
+        at = omega (arith, start);
+        same = ap (block_row (put_mid a k rows piece.rows)) (sym back) ∙ put_row_at a k rows piece.rows (t - a) (omega arith) (omega arith);
+      }
+]
 
-  -- a piece of the block fits there
-  piece_fits : {p : ℕ} {panel : PanelRows} (piece : NumberedRows) → a ≡ piece.number * PIECE_ROWS → k ≡ min PIECE_ROWS (length rows - a) → IsReducedPiece p panel olds piece → length piece.rows ≡ length (take k (drop a rows))
-  piece_fits piece start size made = made.long ∙ ap (λ a. min PIECE_ROWS (length olds - a)) (sym start) ∙ ap (λ n. min PIECE_ROWS (n - a)) (sym long) ∙ sym size ∙ sym all
+-- a piece of reducible rows is reducible, and what is left of it is that of the rows
+pub piece_reducible : {p : ℕ} {found : FoundPanel} {block : List (List ℕ)} {piece : NumberedRows} → IsPieceOf block piece → AreReducible p found block → AreReducible p found piece.rows
+piece_reducible {p} {found} {block} {piece} of_block ready = record {
+  vectors = λ t l.
+      let less : piece.number * PIECE_ROWS + t < length block = omega (arith, of_block.long, of_block.inside) in
+      subst (IsVector p found.panel.width) (sym (of_block.each t l)) (ready.vectors (piece.number * PIECE_ROWS + t) less);
+  pivots = ready.pivots;
+  units = ready.units;
+}
 
-  piece_reduces : {p : ℕ} {panel : PanelRows} (piece : NumberedRows) → a ≡ piece.number * PIECE_ROWS → k ≡ min PIECE_ROWS (length rows - a) → IsReducedPiece p panel olds piece → PanelReducesEach p panel (take k (drop a rows)) piece.rows
-  piece_reduces {p} {panel} piece start size made = λ t l.
-      let less : t < k = omega (arith, all) in
-      let here : block_row (take k (drop a rows)) t ≡ block_row olds (piece.number * PIECE_ROWS + t) = old t less ∙ ap (λ a. block_row olds (a + t)) start in
-      subst (λ v. PanelReduces p panel v (block_row piece.rows t)) (sym here) (made.reduced t (omega (arith, piece_fits piece start size made)))
+pub piece_reduced : {p : ℕ} {panel : PanelRows} {block : List (List ℕ)} (piece left : NumberedRows) → IsPieceOf block piece → left.number ≡ piece.number → length left.rows ≡ length piece.rows →
+    PanelReducesEach p panel piece.rows left.rows → IsReducedPiece p panel block left
+piece_reduced {p} {panel} {block} piece left of_block number long reduced = record {
+  long = long ∙ of_block.long ∙ ap (λ n. min PIECE_ROWS (length block - n * PIECE_ROWS)) (sym number);
+  reduced = λ t l.
+      let less : t < length piece.rows = omega (arith, long) in
+      let old : block_row piece.rows t ≡ block_row block (left.number * PIECE_ROWS + t) = of_block.each t less ∙ ap (λ n. block_row block (n * PIECE_ROWS + t)) (sym number) in
+      subst (λ v. PanelReduces p panel v (block_row left.rows t)) old (reduced t less);
+}
 
-  -- of the pieces of the block the one that is taken
-  pub taken_reduces : {p : ℕ} {panel : PanelRows} (number : ℕ) (pieces : List NumberedRows) (taken : Option NumberedRows) → a ≡ number * PIECE_ROWS → k ≡ min PIECE_ROWS (length rows - a) →
-      All (IsReducedPiece p panel olds) pieces → IfSome taken (Contains pieces) → IfSome taken (λ piece. piece.number ≡ number) → IfSome taken (λ piece. PanelReducesEach p panel (take k (drop a rows)) piece.rows)
-  taken_reduces number pieces None start size each here same = tt
-  taken_reduces {p} {panel} number pieces (Some piece) start size each here same =
-      piece_reduces piece (start ∙ ap (λ n. n * PIECE_ROWS) (sym same)) size (All-contains (IsReducedPiece p panel olds) pieces piece each here)
+-- pieces of a block fill their places, and put there they are what is left of the block
+pub pieces_fill : {p : ℕ} {panel : PanelRows} {block : List (List ℕ)} (height : ℕ) (pieces : List NumberedRows) → height ≡ length block → All (IsReducedPiece p panel block) pieces → All (FillsItsPlace height) pieces
+pieces_fill {p} {panel} {block} height pieces same each = All-weaker (IsReducedPiece p panel block) (FillsItsPlace height) (λ piece made. made.long ∙ ap (λ n. min PIECE_ROWS (n - piece.number * PIECE_ROWS)) (sym same)) pieces each
 
-  -- what these rows become, put back
-  module _ (P : List ℕ → List ℕ → Type 0) (part : List (List ℕ)) (same : length part ≡ length (take k (drop a rows)))
-      (each : (t : ℕ) → t < length (take k (drop a rows)) → P (block_row (take k (drop a rows)) t) (block_row part t)) where
-    pub part_done : ((t : ℕ) → t < a → P (block_row olds t) (block_row rows t)) → (t : ℕ) → t < a + k → P (block_row olds t) (block_row (put_mid a k rows part) t)
-    part_done done t l = elim (cases_lt t a) [
-      | inl before ↦ subst (P (block_row olds t)) (sym (put_row_below a k rows part t (omega arith) before)) (done t before)
-      | inr behind ↦
-          let place : a + (t - a) ≡ t = omega arith in
-          let less : t - a < k = omega arith in
-          let here = old (t - a) less ∙ ap (block_row olds) place in
-          let now = sym (put_row_at a k rows part (t - a) (omega arith) (omega (arith, all))) ∙ ap (block_row (put_mid a k rows part)) place in
-          subst (P (block_row olds t)) now (subst (λ v. P v (block_row part (t - a))) here (each (t - a) (omega (arith, all))))
-    ]
-
-    pub part_ahead : (t : ℕ) → a + k ≤ t → block_row (put_mid a k rows part) t ≡ block_row olds t
-    part_ahead t le = put_row_behind a k rows part t (omega arith) (same ∙ all) le ∙ ahead t (omega arith)
+pub put_reduced : {p : ℕ} {panel : PanelRows} {block : List (List ℕ)} (pieces : List NumberedRows) (rows : List (List ℕ)) → All (IsReducedPiece p panel block) pieces → length rows ≡ length block → ArePut pieces rows →
+    PanelReducesEach p panel block rows
+put_reduced {p} {panel} {block} pieces rows each long put = λ t l.
+    let row = put t (omega (arith, long)) in
+    let made = All-contains (IsReducedPiece p panel block) pieces row.piece each row.there in
+    subst (PanelReduces p panel (block_row block t)) (sym row.same)
+    (subst (λ s. PanelReduces p panel (block_row block s) (block_row row.piece.rows row.place)) (sym row.at) (made.reduced row.place row.inside))
 
 -- what holds of each item, holds where one is taken out and the last put in its place, and where others are put behind or not
 pub swapped_out : {X : Type 0} (n : ℕ) (xs ys : List X) (i : ℕ) → n ≡ length xs → length ys + 1 ≡ n → ((d : X) → i + 1 < n → slice_index_or ys i d ≡ slice_index_or xs (n - 1) d) →
@@ -72,3 +85,8 @@ swapped_out n xs ys i all long last others k d l = elim (cases_eq k i) [
 pub appended_or_not : {X : Type 0} (P : X → Type 0) (put : Bool) (xs ys zs : List X) → zs ≡ cond put (xs ++ ys) xs → All P xs → All P ys → All P zs
 appended_or_not P true xs ys zs e first second = subst (All P) (sym e) (All-append P xs ys first second)
 appended_or_not P false xs ys zs e first second = subst (All P) (sym e) first
+
+-- two clauses of a call that succeeds
+pub both_clauses : {T E : Type 0} (r : Result T E) (P Q R : T → Type 0) → ((x : T) → P x → Q x → R x) → IfOk r P → IfOk r Q → IfOk r R
+both_clauses (Ok x) P Q R f first second = f x first second
+both_clauses (Err y) P Q R f first second = tt

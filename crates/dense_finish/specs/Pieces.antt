@@ -1,5 +1,5 @@
 -- Pieces of the rows behind a panel, which workers reduce.
-use Rattle.std.specs.Prelude.{◌≡◌, ◌<◌, ◌+◌, ◌*◌, ◌-◌, ℕ, List, Vec, All, length, min}
+use Rattle.std.specs.Prelude.{◌≡◌, ◌<◌, ◌+◌, ◌*◌, ◌-◌, ℕ, List, Vec, All, Contains, length, min}
 use Rattle.std.specs.declared.alloc.Global.{Global}
 use Rattle.dense_finish.specs.Block.{AreVectors, block_row}
 use Rattle.dense_finish.specs.Panel.{ArePivots, PanelReduces, PanelRows}
@@ -15,13 +15,31 @@ pub record NumberedRows : Type 0 where
 pub record IsPieceOf (rows : List (List ℕ)) (piece : NumberedRows) : Type 0 where
   pub inside : piece.number * PIECE_ROWS < length rows
   pub long : length piece.rows ≡ min PIECE_ROWS (length rows - piece.number * PIECE_ROWS)
-  pub each : (t : ℕ) → t < length piece.rows → block_row piece.rows t ≡ block_row rows (piece.number * PIECE_ROWS + t)
+  pub each : (t : ℕ) → t < length piece.rows →
+      block_row piece.rows t ≡ block_row rows (piece.number * PIECE_ROWS + t)
 
 -- rows of which the panel's pivots can be taken out
 pub record AreReducible (p : ℕ) (found : FoundPanel) (rows : List (List ℕ)) : Type 0 where
   pub vectors : AreVectors p found.panel.width rows
   pub pivots : ArePivots p found.panel
   pub units : HasUnits p found
+
+-- as many rows as this piece has of a block of this height
+abbrev pub FillsItsPlace : ℕ → NumberedRows → Type 0
+FillsItsPlace height piece = length piece.rows ≡ min PIECE_ROWS (height - piece.number * PIECE_ROWS)
+
+-- v is in one of the pieces and is the block's row t
+pub record IsInPieces (pieces : List NumberedRows) (t : ℕ) (v : List ℕ) : Type 0 where
+  pub piece : NumberedRows
+  pub there : Contains pieces piece
+  pub place : ℕ
+  pub inside : place < length piece.rows
+  pub at : t ≡ piece.number * PIECE_ROWS + place
+  pub same : v ≡ block_row piece.rows place
+
+-- each row is that of a piece
+abbrev pub ArePut : List NumberedRows → List (List ℕ) → Type 0
+ArePut pieces rows = (t : ℕ) → t < length rows → IsInPieces pieces t (block_row rows t)
 
 -- what the panel leaves of a piece of the block
 pub record IsReducedPiece (p : ℕ) (panel : PanelRows) (block : List (List ℕ)) (piece : NumberedRows) : Type 0 where
@@ -32,3 +50,13 @@ pub record IsReducedPiece (p : ℕ) (panel : PanelRows) (block : List (List ℕ)
 -- pieces that a worker made
 abbrev pub AreReducedPieces : ℕ → PanelRows → List (List ℕ) → Vec NumberedRows Global → Type 0
 AreReducedPieces p panel block share = All (IsReducedPiece p panel block) share.items
+
+-- pieces that workers made, and shares of them, where all workers know the same block
+abbrev pub AreReducedBy : ℕ → PanelRows → Vec (List (List ℕ)) Global → Vec NumberedRows Global → Type 0
+AreReducedBy p panel known pieces = (block : List (List ℕ)) → All (λ rows. rows ≡ block) known.items →
+    AreReducedPieces p panel block pieces
+
+abbrev pub AreSharesOf : ℕ → PanelRows → Vec (List (List ℕ)) Global → Vec (Vec NumberedRows Global) Global →
+    Type 0
+AreSharesOf p panel known shares = (block : List (List ℕ)) → All (λ rows. rows ≡ block) known.items →
+    All (AreReducedPieces p panel block) shares.items

@@ -88,23 +88,6 @@ impl<W: Residue> Dense<W> {
         Ok(row)
     }
 
-    // The same row, in memory of its own.
-    pub(crate) fn copy(&self, alloc: Global) -> Result<Dense<W>, AllocError>
-        ensures { IfOk result (λ row. row ≡ self.now) }
-    {
-        let places = Vec::from_slice(alloc, &self.places)?;
-        Ok(Dense { places })
-    }
-
-    // The same row, in the memory of another.
-    pub(crate) fn copy_into(&self, mut room: Dense<W>) -> Result<Dense<W>, AllocError>
-        ensures { IfOk result (λ row. row ≡ self.now) }
-    {
-        room.places.clear();
-        room.places.extend_from_slice(&self.places)?;
-        Ok(room)
-    }
-
     // How many residues.
     pub(crate) fn len(&self) -> usize
         ensures { result ≡ length self.now }

@@ -1,12 +1,12 @@
 // The factors of a matrix by dense elimination.
-ghost use Rattle.std.specs.Prelude.{◌<◌, ◌≤◌, length, IfOk, OnOk};
+ghost use Rattle.std.specs.Prelude.{◌<◌, ◌≤◌, All, length, IfOk, OnOk};
 ghost use Rattle.residue_words.specs.Matrix.{IsVector};
 ghost use Rattle.residue_words.specs.Residues.{IsPrime};
 ghost use Rattle.sparse_rows.specs.Rows.{AreRising};
 ghost use Rattle.sparse_rows.specs.declared.rows.TheConstants.{LARGEST_SIZE};
 ghost use Rattle.dense_finish.specs.Block.{AreLastRowsOf, AreRowsOf, AreVectors, IsDense};
 ghost use Rattle.dense_finish.specs.Panel.{PanelReducesEach};
-ghost use Rattle.dense_finish.specs.Pieces.{AreReducible, AreReducedPieces};
+ghost use Rattle.dense_finish.specs.Pieces.{AreReducedBy, AreReducible, AreReducedPieces};
 ghost use Rattle.dense_finish.specs.Dense.{IsFirstFree, IsPivotOf, KeepsCoefficients};
 ghost use Rattle.dense_finish.specs.Factors.{IsFactored};
 ghost use Rattle.sparse_rows.specs.Rows.{AreBelow};
@@ -18,16 +18,15 @@ use crate::factors::{Factors, left_factor};
 use crate::found::Found;
 use crate::left_room::LeftRoom;
 use crate::panel::{PANEL, Panel, zeros_before};
-use crate::pieces::{Piece, count_of_pieces};
+use crate::pieces::{Piece, put_pieces};
 use crate::pivots::Pivots;
 use crate::reducing::Reducing;
 use crate::residue::Residue;
 use crate::right_factor::RightFactor;
-use crate::room::Room;
+use crate::shared_pieces::{Taker, queue_of};
 use residue_words::{LANE_BOUND, Modulus};
 use sparse_rows::Rows;
 use std::alloc::{AllocError, Global};
-use std::mem::replace;
 use std::sync::atomic::AtomicU64;
 use std::thread::{Threads, join_mut};
 
@@ -85,9 +84,9 @@ fn finish_in<R: Threads + Sync, W: Reducing>(
     ensures { IfOk result (IsFactored rows.now.modulus rows.now.matrix) }
 {
     let mut block = Block::<W>::of(rt, alloc, rows, workers)?;
-    let mut room = Room::with_left(alloc, &block)?;
-    let pivots = block.eliminate(rt, alloc, workers, &mut room)?;
-    let l = left_factor(alloc, &block, &pivots, room.left)?;
+    let mut left = LeftRoom::of(alloc, &block)?;
+    let pivots = block.eliminate(rt, alloc, workers, &mut left)?;
+    let l = left_factor(alloc, &block, &pivots, left)?;
     let RightFactor { pivots, u } = pivots.into_right_factor(alloc, &block)?;
     Ok(Factors { pivots, l, u })
 }
@@ -100,7 +99,7 @@ impl<W: Reducing> Block<W> {
         rt: &R,
         alloc: Global,
         workers: usize,
-        room: &mut Room<W>,
+        left: &mut LeftRoom,
     ) -> Result<Pivots, AllocError>
         requires modulus { W.serves self.old.modulus }
         requires some { 1 ≤ workers }
@@ -113,7 +112,7 @@ impl<W: Reducing> Block<W> {
             p: self.p,
             workers,
         };
-        elimination.eliminate(rt, self.width, &mut self.entries, room)
+        elimination.eliminate(rt, self.width, &mut self.entries, left)
     }
 }
 
@@ -124,7 +123,7 @@ impl<'a> Elimination<'a> {
         rt: &R,
         width: u32,
         block: &mut [Dense<W>],
-        room: &mut Room<W>,
+        left: &mut LeftRoom,
     ) -> Result<Pivots, AllocError>
         requires modulus { W.serves self.now.p }
         requires some { 1 ≤ self.now.workers }
@@ -146,13 +145,29 @@ impl<'a> Elimination<'a> {
         while done < block.len() {
             let rows = RowRange {
                 start: done,
-                end: block.len().min(done + PANEL),
+                end: self.panel_end(done, block.len()),
             };
-            found = self.next_panel(rt, &found, rows, &mut pivots, block, room)?;
-            room.count_left(rows.end - rows.start, pivots.rows.len());
+            found = self.next_panel(rt, &found, rows, &mut pivots, block, left)?;
+            left.count(rows.end - rows.start, pivots.rows.len());
             done = rows.end;
         }
         Ok(pivots)
+    }
+
+    // Where a panel ends that begins at this row of so many. With several workers the first has few rows, since until its pivots are
+    // found there is nothing for the others to do.
+    fn panel_end(&self, start: usize, height: usize) -> usize
+        requires some { start < height }
+        requires low { height ≤ LARGEST_SIZE }
+        ensures some { start < result }
+        ensures inside { result ≤ height }
+    {
+        let most = if start == 0 && self.workers > 1 {
+            PART
+        } else {
+            PANEL
+        };
+        height.min(start + most)
     }
 
     // Takes a panel's pivots out of the rows from the first on, and finds those of these rows meanwhile.
@@ -163,7 +178,7 @@ impl<'a> Elimination<'a> {
         rows: RowRange,
         pivots: &mut Pivots,
         block: &mut [Dense<W>],
-        room: &mut Room<W>,
+        left: &mut LeftRoom,
     ) -> Result<Found<W>, AllocError>
         requires modulus { W.serves self.now.p }
         requires some { 1 ≤ self.now.workers }
@@ -175,37 +190,11 @@ impl<'a> Elimination<'a> {
             (panel_stage pivots.new next block.new rows.end)) }
     {
         let (own, others) = block.split_at_mut(rows.end);
-        self.find_split(rt, found, rows, pivots, own, others, room)
-    }
-
-    // The same where the rows behind these are given apart, by the workers that there are work for.
-    fn find_split<R: Threads + Sync, W: Reducing>(
-        &self,
-        rt: &R,
-        found: &Found<W>,
-        rows: RowRange,
-        pivots: &mut Pivots,
-        own: &mut [Dense<W>],
-        others: &mut [Dense<W>],
-        room: &mut Room<W>,
-    ) -> Result<Found<W>, AllocError>
-        requires modulus { W.serves self.now.p }
-        requires some { 1 ≤ self.now.workers }
-        requires rows { AreLastRowsOf own.old rows }
-        requires ready { CanGoOn self.now.p self.now.columns.now
-            (panel_stage pivots.old found.now own.old rows.start) }
-        requires others { AreVectors self.now.p found.now.panel.width others.old }
-        ensures own { IfOk result (λ next. FindsPanel self.now.p self.now.columns.now
-            (panel_stage pivots.old found.now own.old rows.start)
-            (panel_stage pivots.new next own.new rows.end)) }
-        ensures others { PanelReducesEach self.now.p found.now.panel others.old others.new }
-    {
-        if self.workers == 1 || found.panel.is_empty() {
+        if self.workers == 1 || found.panel.is_empty() || others.is_empty() {
             found.reduce_behind(others, 0, &self.p);
-            self.reduce_and_find(found, rows, pivots, own)
-        } else {
-            self.find_beside(rt, found, rows, pivots, own, others, room)
+            return self.reduce_and_find(found, rows, pivots, own);
         }
+        self.find_beside(rt, found, rows, pivots, own, others, left)
     }
 
     // Takes a panel's pivots out of its own rows from the first on, and finds those of these rows, while the other workers take the
@@ -218,10 +207,11 @@ impl<'a> Elimination<'a> {
         pivots: &mut Pivots,
         own: &mut [Dense<W>],
         others: &mut [Dense<W>],
-        room: &mut Room<W>,
+        left: &mut LeftRoom,
     ) -> Result<Found<W>, AllocError>
         requires modulus { W.serves self.now.p }
-        requires some { 2 ≤ self.now.workers }
+        requires several { 2 ≤ self.now.workers }
+        requires some { 0 < length others.old }
         requires rows { AreLastRowsOf own.old rows }
         requires ready { CanGoOn self.now.p self.now.columns.now
             (panel_stage pivots.old found.now own.old rows.start) }
@@ -229,47 +219,63 @@ impl<'a> Elimination<'a> {
         ensures own { IfOk result (λ next. FindsPanel self.now.p self.now.columns.now
             (panel_stage pivots.old found.now own.old rows.start)
             (panel_stage pivots.new next own.new rows.end)) }
-        ensures others { PanelReducesEach self.now.p found.now.panel others.old others.new }
+        ensures others { IfOk result (λ _.
+            PanelReducesEach self.now.p found.now.panel others.old others.new) }
     {
-        let next = AtomicU64::new(0);
-        let helpers = (self.workers - 1).min(count_of_pieces(others.len()));
-        let mut rooms = room.split(self.alloc, helpers);
-        let mut left = room.take_left(self.alloc);
-        let behind: &[Dense<W>] = others;
+        let (queue, pass) = queue_of(self.alloc, others)?;
+        let begun = AtomicU64::new(0);
+        let taker = Taker::new(&queue, &begun, pass);
+        let (next, pieces) = self.find_and_reduce(rt, found, rows, pivots, own, taker, left)?;
+        put_pieces(pieces, others)?;
+        Ok(next)
+    }
+
+    // The same where the other rows are in a queue, at which the taker stands: what is left of them are the pieces.
+    fn find_and_reduce<R: Threads + Sync, W: Reducing>(
+        &self,
+        rt: &R,
+        found: &Found<W>,
+        rows: RowRange,
+        pivots: &mut Pivots,
+        own: &mut [Dense<W>],
+        mut taker: Taker<W>,
+        left: &mut LeftRoom,
+    ) -> Result<(Found<W>, Vec<Piece<W>>), AllocError>
+        requires modulus { W.serves self.now.p }
+        requires several { 2 ≤ self.now.workers }
+        requires rows { AreLastRowsOf own.old rows }
+        requires ready { CanGoOn self.now.p self.now.columns.now
+            (panel_stage pivots.old found.now own.old rows.start) }
+        requires others { AreReducible self.now.p found.now taker }
+        ensures own { IfOk result (λ made. FindsPanel self.now.p self.now.columns.now
+            (panel_stage pivots.old found.now own.old rows.start)
+            (panel_stage pivots.new made.0 own.new rows.end)) }
+        ensures others { IfOk result (λ made.
+            AreReducedPieces self.now.p found.now.panel taker.entry made.1) }
+    {
+        // In a list too, as the borrow checker covers no closure that is lent a taker itself.
+        let mut own_taker = taker.others(self.alloc, 1)?;
+        let helpers = (self.workers - 1).min(taker.count());
+        let mut takers = taker.others(self.alloc, helpers)?;
         let mut find = || -> (Result<Found<W>, AllocError>, Vec<Piece<W>>)
-            requires { W.serves self.now.p × AreReducible self.now.p found.now behind.now
+            requires { W.serves self.now.p × All (AreReducible self.now.p found.now) own_taker.items
                 × AreLastRowsOf own.now rows × CanGoOn self.now.p self.now.columns.now
                 (panel_stage pivots.now found.now own.now rows.start) }
-            ensures { AreReducedPieces self.entry.now.p found.entry.now.panel behind.entry.now result.1
+            ensures { AreReducedBy self.entry.now.p found.entry.now.panel own_taker.entry result.1
                 × IfOk result.0 (λ next. FindsPanel self.entry.now.p self.entry.now.columns.now
                 (panel_stage pivots.entry.now found.entry.now own.entry.now rows.start)
                 (panel_stage pivots.exit.now next own.exit.now rows.end)) }
         {
-            let next_panel = self.reduce_and_find(found, rows, pivots, own);
-            (
-                next_panel,
-                self.pieces_of_worker(found, behind, &next, room),
-            )
+            let next = self.reduce_and_find(found, rows, pivots, own);
+            (next, self.pieces_by(rt, found, &mut own_taker))
         };
-        let mut help = || -> (Vec<Piece<W>>, LeftRoom)
-            requires { W.serves self.now.p × AreReducible self.now.p found.now behind.now }
-            ensures { AreReducedPieces self.entry.now.p found.entry.now.panel behind.entry.now result.0 }
-        {
-            self.pieces_and_left(
-                rt,
-                found,
-                behind,
-                &next,
-                replace(&mut rooms, Vec::new(self.alloc)),
-                replace(&mut left, LeftRoom::none(self.alloc)),
-            )
-        };
-        let ((mut more, written), (next_panel, mut pieces)) = join_mut(rt, &mut help, &mut find);
-        room.put_left(written);
-        // Pieces that there is no room for are made in place.
-        let _ = pieces.append(&mut more);
-        self.put_pieces(found, pieces, others, room);
-        next_panel
+        let mut help = || -> Vec<Piece<W>>
+            requires { W.serves self.now.p × All (AreReducible self.now.p found.now) takers.items }
+            ensures { AreReducedBy self.entry.now.p found.entry.now.panel takers.entry result }
+        { self.pieces_and_left(rt, found, &mut takers, left) };
+        let (mut more, (next, mut pieces)) = join_mut(rt, &mut help, &mut find);
+        pieces.append(&mut more)?;
+        Ok((next?, pieces))
     }
 
     // Takes a panel's pivots out of the last rows, and finds those of these rows.

@@ -16,7 +16,6 @@ mod products;
 mod reducing;
 mod residue;
 mod right_factor;
-mod room;
 mod row_addition;
 mod row_room;
 mod shared_pieces;

@@ -1,7 +1,7 @@
 // The rows behind a panel, reduced by several workers: piece by piece, as they become free.
-ghost use Rattle.std.specs.Prelude.{◌≡◌, ◌<◌, ◌≤◌, ◌+◌, ◌*◌, ◌-◌, ℕ, All, Contains, length, min, IfOk, IfSome};
+ghost use Rattle.std.specs.Prelude.{◌≡◌, ◌<◌, ◌≤◌, ◌+◌, ◌*◌, ◌-◌, ℕ, All, Contains, length, min, IfOk, IfSome, OnOk};
 ghost use Rattle.dense_finish.specs.Panel.{PanelReducesEach};
-ghost use Rattle.dense_finish.specs.Pieces.{AreReducible, IsReducedPiece, AreReducedPieces};
+ghost use Rattle.dense_finish.specs.Pieces.{ArePut, AreReducedBy, AreReducible, AreReducedPieces, AreSharesOf, FillsItsPlace, IsReducedPiece};
 
 use crate::dense::Dense;
 use crate::elimination::{Elimination, RowRange};
@@ -9,18 +9,17 @@ use crate::found::Found;
 use crate::left_room::LeftRoom;
 use crate::reducing::Reducing;
 use crate::residue::Residue;
-use crate::room::Room;
+use crate::shared_pieces::Taker;
 use std::alloc::{AllocError, Global};
 use std::marker::Model;
 use std::mem::replace;
-use std::sync::atomic::{AtomicU64, Ordering};
 use std::thread;
 use std::thread::{Threads, join_mut};
 
 // How many rows a worker takes at a time.
 const PIECE_ROWS: usize = 16;
 
-// What is left of the rows of a piece. Contracts see it as `NumberedRows`.
+// Some rows one behind the other, and which piece of a block they are. Contracts see them as `NumberedRows`.
 #[derive(Drop)]
 pub(crate) struct Piece<W: Residue> {
     pub(crate) number: usize,
@@ -71,150 +70,124 @@ fn take_piece<W: Residue>(pieces: &mut Vec<Piece<W>>, number: usize) -> Option<P
     None
 }
 
+// Puts the rows of these pieces in their places. A piece is missing only where memory was wanted.
+pub(crate) fn put_pieces<W: Residue>(
+    mut pieces: Vec<Piece<W>>,
+    rows: &mut [Dense<W>],
+) -> Result<(), AllocError>
+    requires { All (FillsItsPlace (length rows.old)) pieces.items }
+    ensures { OnOk result (ArePut pieces.items rows.new) }
+{
+    for number in 0..count_of_pieces(rows.len()) {
+        let Some(mut piece) = take_piece(&mut pieces, number) else {
+            return Err(AllocError);
+        };
+        let range = rows_of_piece(number, rows.len());
+        rows[range.start..range.end].swap_with_slice(&mut piece.rows);
+    }
+    Ok(())
+}
+
 impl<'a> Elimination<'a> {
-    // The pieces that workers make, each in a room of its own, while one more thread writes to the memory of the left factor.
+    // The pieces that these workers reduce, while one more thread writes to the memory of the left factor.
     pub(crate) fn pieces_and_left<R: Threads + Sync, W: Reducing>(
         &self,
         rt: &R,
         found: &Found<W>,
-        rows: &[Dense<W>],
-        next: &AtomicU64,
-        mut rooms: Vec<Room<W>>,
-        mut left: LeftRoom,
-    ) -> (Vec<Piece<W>>, LeftRoom)
+        takers: &mut Vec<Taker<W>>,
+        left: &mut LeftRoom,
+    ) -> Vec<Piece<W>>
         requires modulus { W.serves self.now.p }
-        requires ready { AreReducible self.now.p found.now rows.now }
-        ensures { AreReducedPieces self.now.p found.now.panel rows.now result.0 }
+        requires ready { All (AreReducible self.now.p found.now) takers.old.items }
+        ensures { AreReducedBy self.now.p found.now.panel takers.old result }
     {
+        // In a list of its own, as the borrow checker covers no closure that is lent its caller's.
+        let mut takers = replace(takers, Vec::new(self.alloc));
         if left.is_none() {
-            return (self.pieces_by(rt, found, rows, next, rooms), left);
+            return self.pieces_by(rt, found, &mut takers);
         }
         let mut write = || left.write();
-        let mut make = || -> Vec<Piece<W>>
-            requires { W.serves self.now.p × AreReducible self.now.p found.now rows.now }
-            ensures { AreReducedPieces self.entry.now.p found.entry.now.panel rows.entry.now result }
-        {
-            self.pieces_by(
-                rt,
-                found,
-                rows,
-                next,
-                replace(&mut rooms, Vec::new(self.alloc)),
-            )
-        };
-        let (_, pieces) = join_mut(rt, &mut write, &mut make);
-        (pieces, left)
+        let mut reduce = || -> Vec<Piece<W>>
+            requires { W.serves self.now.p × All (AreReducible self.now.p found.now) takers.items }
+            ensures { AreReducedBy self.entry.now.p found.entry.now.panel takers.entry result }
+        { self.pieces_by(rt, found, &mut takers) };
+        let (_, pieces) = join_mut(rt, &mut write, &mut reduce);
+        pieces
     }
 
-    // The pieces that workers make, each in a room of its own.
-    fn pieces_by<R: Threads + Sync, W: Reducing>(
+    // The pieces that these workers reduce. Those that there is no memory for in a list of them are missed in the end.
+    pub(crate) fn pieces_by<R: Threads + Sync, W: Reducing>(
         &self,
         rt: &R,
         found: &Found<W>,
-        rows: &[Dense<W>],
-        next: &AtomicU64,
-        rooms: Vec<Room<W>>,
+        takers: &mut Vec<Taker<W>>,
     ) -> Vec<Piece<W>>
         requires modulus { W.serves self.now.p }
-        requires ready { AreReducible self.now.p found.now rows.now }
-        ensures { AreReducedPieces self.now.p found.now.panel rows.now result }
+        requires ready { All (AreReducible self.now.p found.now) takers.old.items }
+        ensures { AreReducedBy self.now.p found.now.panel takers.old result }
     {
         let mut pieces = Vec::new(self.alloc);
-        let Ok(mut shares) = self.shares(rt, found, rows, next, rooms) else {
+        let Ok(mut shares) = self.shares(rt, found, replace(takers, Vec::new(self.alloc))) else {
             return pieces;
         };
         while let Some(mut share) = shares.pop() {
-            // Pieces that there is no room for are made in place.
             let _ = pieces.append(&mut share);
         }
         pieces
     }
 
-    // What each of them makes.
+    // What each of them reduces.
     fn shares<R: Threads + Sync, W: Reducing>(
         &self,
         rt: &R,
         found: &Found<W>,
-        rows: &[Dense<W>],
-        next: &AtomicU64,
-        rooms: Vec<Room<W>>,
+        takers: Vec<Taker<W>>,
     ) -> Result<Vec<Vec<Piece<W>>>, AllocError>
         requires modulus { W.serves self.now.p }
-        requires ready { AreReducible self.now.p found.now rows.now }
-        ensures { IfOk result (λ shares.
-            All (AreReducedPieces self.now.p found.now.panel rows.now) shares.items) }
+        requires ready { All (AreReducible self.now.p found.now) takers.items }
+        ensures { IfOk result (AreSharesOf self.now.p found.now.panel takers.entry) }
     {
         thread::map_vec(
             rt,
-            rooms,
-            &|mut room: Room<W>| -> Vec<Piece<W>>
-                requires { W.serves self.now.p × AreReducible self.now.p found.now rows.now }
-                ensures { AreReducedPieces self.entry.now.p found.entry.now.panel rows.entry.now result }
-            { self.pieces_of_worker(found, rows, next, &mut room) },
+            takers,
+            &|mut taker: Taker<W>| -> Vec<Piece<W>>
+                requires { W.serves self.now.p × AreReducible self.now.p found.now taker }
+                ensures { AreReducedPieces self.entry.now.p found.entry.now.panel taker.entry result }
+            { self.pieces_of_worker(found, &mut taker) },
         )
     }
 
-    // The pieces that one worker makes: it takes the next one as long as there is one and memory for it.
-    pub(crate) fn pieces_of_worker<W: Reducing>(
-        &self,
-        found: &Found<W>,
-        rows: &[Dense<W>],
-        next: &AtomicU64,
-        room: &mut Room<W>,
-    ) -> Vec<Piece<W>>
+    // The pieces that one worker reduces: it takes the next one as long as there is one and memory for a list of them.
+    fn pieces_of_worker<W: Reducing>(&self, found: &Found<W>, taker: &mut Taker<W>) -> Vec<Piece<W>>
         requires modulus { W.serves self.now.p }
-        requires ready { AreReducible self.now.p found.now rows.now }
-        ensures { AreReducedPieces self.now.p found.now.panel rows.now result }
+        requires ready { AreReducible self.now.p found.now taker.old }
+        ensures same { taker.new ≡ taker.old }
+        ensures pieces { AreReducedPieces self.now.p found.now.panel taker.old result }
     {
         let mut pieces = Vec::new(self.alloc);
         // No worker can take more.
-        for _ in 0..count_of_pieces(rows.len()) {
-            let Some(piece) = self.next_piece(found, rows, next, room) else {
-                return pieces;
-            };
-            if pieces.push(piece).is_err() {
+        for _ in 0..taker.count() {
+            if pieces.reserve(1).is_err() {
                 return pieces;
             }
+            let Some(piece) = self.next_piece(found, taker) else {
+                return pieces;
+            };
+            let _ = pieces.push(piece);
         }
         pieces
     }
 
-    // The next piece, if there is one and memory for it.
-    fn next_piece<W: Reducing>(
-        &self,
-        found: &Found<W>,
-        rows: &[Dense<W>],
-        next: &AtomicU64,
-        room: &mut Room<W>,
-    ) -> Option<Piece<W>>
+    // The next piece, if there is one, with the panel's pivots taken out of its rows.
+    fn next_piece<W: Reducing>(&self, found: &Found<W>, taker: &mut Taker<W>) -> Option<Piece<W>>
         requires modulus { W.serves self.now.p }
-        requires ready { AreReducible self.now.p found.now rows.now }
-        ensures { IfSome result (IsReducedPiece self.now.p found.now.panel rows.now) }
+        requires ready { AreReducible self.now.p found.now taker.old }
+        ensures same { taker.new ≡ taker.old }
+        ensures piece { IfSome result (IsReducedPiece self.now.p found.now.panel taker.old) }
     {
-        let number = next.fetch_add(1, Ordering::SeqCst) as usize;
-        if number >= count_of_pieces(rows.len()) {
-            return None;
-        }
-        self.reduced_piece(found, rows, number, room).ok()
-    }
-
-    // What a panel leaves of the piece of this number.
-    fn reduced_piece<W: Reducing>(
-        &self,
-        found: &Found<W>,
-        rows: &[Dense<W>],
-        number: usize,
-        room: &mut Room<W>,
-    ) -> Result<Piece<W>, AllocError>
-        requires modulus { W.serves self.now.p }
-        requires ready { AreReducible self.now.p found.now rows.now }
-        requires inside { number * PIECE_ROWS ≤ length rows.now }
-        ensures { IfOk result (IsReducedPiece self.now.p found.now.panel rows.now) }
-    {
-        let range = rows_of_piece(number, rows.len());
-        let mut left = room.copies(self.alloc, &rows[range.start..range.end])?;
-        self.take_out(found, &mut left);
-        Ok(Piece { number, rows: left })
+        let mut piece = taker.take()?;
+        self.take_out(found, &mut piece.rows);
+        Some(piece)
     }
 
     // Takes a panel's pivots out of each row.
@@ -224,49 +197,5 @@ impl<'a> Elimination<'a> {
         ensures { PanelReducesEach self.now.p found.now.panel rows.old rows.new }
     {
         W::take_out(&found.panel, &found.units, found.first, rows, &self.p);
-    }
-
-    // Makes each of these rows what a panel leaves of it, by the pieces that workers made. What the rows were is room for others.
-    pub(crate) fn put_pieces<W: Reducing>(
-        &self,
-        found: &Found<W>,
-        mut pieces: Vec<Piece<W>>,
-        rows: &mut [Dense<W>],
-        room: &mut Room<W>,
-    )
-        requires modulus { W.serves self.now.p }
-        requires ready { AreReducible self.now.p found.now rows.old }
-        requires pieces { AreReducedPieces self.now.p found.now.panel rows.old pieces }
-        ensures { PanelReducesEach self.now.p found.now.panel rows.old rows.new }
-    {
-        for number in 0..count_of_pieces(rows.len()) {
-            let piece = take_piece(&mut pieces, number);
-            let range = rows_of_piece(number, rows.len());
-            self.put_piece(found, piece, &mut rows[range.start..range.end], room);
-        }
-    }
-
-    // The same of the rows of one piece. That a worker has made it follows from no contract: where it is missing, its rows are
-    // reduced in place.
-    fn put_piece<W: Reducing>(
-        &self,
-        found: &Found<W>,
-        piece: Option<Piece<W>>,
-        rows: &mut [Dense<W>],
-        room: &mut Room<W>,
-    )
-        requires modulus { W.serves self.now.p }
-        requires ready { AreReducible self.now.p found.now rows.old }
-        requires long { IfSome piece (λ piece. length piece.rows ≡ length rows.old) }
-        requires reduced { IfSome piece (λ piece.
-            PanelReducesEach self.now.p found.now.panel rows.old piece.rows) }
-        ensures { PanelReducesEach self.now.p found.now.panel rows.old rows.new }
-    {
-        if let Some(mut piece) = piece {
-            rows.swap_with_slice(&mut piece.rows);
-            room.keep(piece.rows);
-        } else {
-            self.take_out(found, rows);
-        }
     }
 }

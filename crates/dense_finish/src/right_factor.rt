@@ -3,10 +3,10 @@ ghost use Rattle.std.specs.Prelude.{◌≤◌, IfOk};
 ghost use Rattle.dense_finish.specs.Factors.{IsRightFactored};
 
 use crate::block::Block;
+use crate::left_room::LeftRoom;
 use crate::pivots::Pivots;
 use crate::reducing::Reducing;
 use crate::residue::Residue;
-use crate::room::Room;
 use residue_words::LANE_BOUND;
 use residue_words::plain::Pair;
 use sparse_rows::{List, Rows};
@@ -54,8 +54,8 @@ fn finish_right_in<R: Threads + Sync, W: Reducing>(
 {
     let mut block = Block::<W>::of(rt, alloc, &rows, workers)?;
     drop(rows);
-    let mut room = Room::none(alloc);
-    let pivots = block.eliminate(rt, alloc, workers, &mut room)?;
+    let mut left = LeftRoom::none(alloc);
+    let pivots = block.eliminate(rt, alloc, workers, &mut left)?;
     pivots.into_right_factor(alloc, &block)
 }
 

@@ -1,14 +1,27 @@
-use Rattle.std.proofs.Common.{All, rules}
-use Rattle.std.specs.Result.{is_ok}
-use Rattle.dense_finish.specs.Pieces.{IsReducedPiece}
-use Rattle.dense_finish.proofs.ReducedPieces.{appended_or_not}
+use Rattle.std.proofs.Common.{◌≡◌, ◌∙◌, List, ℕ, All, subst, sym}
+use Rattle.dense_finish.specs.Pieces.{AreReducible, IsReducedPiece}
+use Rattle.dense_finish.proofs.ReducedPieces.{pieces_fill, put_reduced}
 use Rattle.dense_finish.proofs.elimination.Elimination.find_beside.Goals as goal
 
-pub put_pieces-requires-clause-pieces : goal.put_pieces-requires-clause-pieces
-put_pieces-requires-clause-pieces g c κs within =
-    let P = IsReducedPiece c.args.self.now.p c.args.found.now.panel c.args.others.now in
-    let own = c.join_mut-more.result.1.1.items in
-    let more = c.join_mut-more.result.0.0.items in
-    let first : All P own = search rules in
-    let second : All P more = search rules in
-    appended_or_not P (is_ok c.append.result) own more c.append.new.self.items c.append.ensures.items first second
+pub find_and_reduce-requires-clause-others : goal.find_and_reduce-requires-clause-others
+find_and_reduce-requires-clause-others g c κs within =
+    let same : c.new-taker.result ≡ c.args.others.now = c.new-taker.ensures ∙ c.in_ok-queue.ensures.rows in
+    let ready : AreReducible c.args.self.now.p c.args.found.now c.args.others.now = search in
+    subst (AreReducible c.args.self.now.p c.args.found.now) (sym same) ready
+
+pub put_pieces-requires : goal.put_pieces-requires
+put_pieces-requires g c =
+    let P = IsReducedPiece c.args.self.now.p c.args.found.now.panel in
+    let same : c.new-taker.result ≡ c.args.others.now = c.new-taker.ensures ∙ c.in_ok-queue.ensures.rows in
+    let pieces = c.in_ok-next.pieces.items in
+    let each : All (P c.args.others.now) pieces = subst (λ (rows : List (List ℕ)). All (P rows) pieces) same c.in_ok-next.ensures.others in
+    let fill = pieces_fill _ pieces c.queue_of.ensures.long each in
+    search
+
+pub returns-clause-others : goal.returns-clause-others
+returns-clause-others g c =
+    let P = IsReducedPiece c.args.self.now.p c.args.found.now.panel in
+    let same : c.new-taker.result ≡ c.args.others.now = c.new-taker.ensures ∙ c.in_ok-queue.ensures.rows in
+    let pieces = c.in_ok-next.pieces.items in
+    let each : All (P c.args.others.now) pieces = subst (λ (rows : List (List ℕ)). All (P rows) pieces) same c.in_ok-next.ensures.others in
+    put_reduced pieces c.put_pieces.new.rows each (c.put_pieces.auto.rows ∙ c.queue_of.ensures.long) c.in_ok-put_pieces.ensures

@@ -1,11 +1,11 @@
-use Rattle.std.proofs.Common.{All, length}
-use Rattle.dense_finish.specs.Pieces.{AreReducedPieces}
+use Rattle.std.proofs.Common.{length}
+use Rattle.dense_finish.specs.Pieces.{AreReducedBy, AreSharesOf}
 use Rattle.dense_finish.proofs.elimination.Elimination.pieces_by.Given as goal
 
 abbrev pub invariant-loop-share : goal.invariant-loop-share
 invariant-loop-share g l = record {
-  shares : All (AreReducedPieces l.self.p l.found.panel l.rows) l.shares.items;
-  pieces : AreReducedPieces l.self.p l.found.panel l.rows l.pieces;
+  shares : AreSharesOf l.self.p l.found.panel l.fn.takers l.shares;
+  pieces : AreReducedBy l.self.p l.found.panel l.fn.takers l.pieces;
 }
 
 abbrev pub decreases-loop-share : goal.decreases-loop-share
