@@ -1,11 +1,12 @@
 -- A dense row that is filled from a sparse one.
-use Rattle.std.proofs.Common.{ℕ, ◌≡◌, ◌≢◌, ◌+◌, ◌<◌, ◌≤◌, inl, inr, List, [], ◌∷◌, ◌++◌, length, slice_index, slice_set, take, sym, ap, ap₂, ◌∙◌, arith}
+use Rattle.std.proofs.Common.{ℕ, zero, suc, ◌≡◌, ◌≢◌, ◌+◌, ◌-◌, ◌<◌, ◌≤◌, inl, inr, List, [], ◌∷◌, ◌++◌, length, slice_index, slice_set, take, sym, ap, ap₂, ◌∙◌, arith}
 use Rattle.std.proofs.lemmas.Bool.{cases_eq, cases_lt}
 use Rattle.std.proofs.lemmas.List.{get_or-set_same, get_or-set_other, get_or-take, length-take, take_all, take_more}
 use Rattle.residue_words.specs.Matrix.{Matrix, IsVector, entry, row, zeros}
 use Rattle.residue_words.proofs.Vectors.{at_zeros}
-use Rattle.sparse_rows.specs.Rows.{AreOccupied, nonzeros, support}
+use Rattle.sparse_rows.specs.Rows.{AreOccupied, AreRising, nonzeros, support}
 use Rattle.sparse_rows.specs.Stored.{entry_at}
+use Rattle.sparse_rows.proofs.Renaming.{rising_order}
 use Rattle.sparse_rows.proofs.Spread.{entry_here, entry_push_other, entry_push_same, entry_support}
 use Rattle.dense_finish.proofs.Indexing.{stands_at}
 use Rattle.dense_finish.proofs.TakingOut.{vector_set}
@@ -65,3 +66,29 @@ column_known A columns i h li cols vals cols-is vals-is even ascending positive 
     let value : entry A i (slice_index cols k) ≡ slice_index vals k =
     sym (entry_support (row A i) (slice_index cols k)) ∙ ap₂ (λ cs vs. entry_at cs vs (slice_index cols k)) (sym cols-is) (sym vals-is) ∙ entry_here cols vals even ascending k l in
     stands_at columns (slice_index cols k) (h.enough.all i (slice_index cols k) li (below k l) (λ z. omega (arith, positive k (omega arith))))
+
+-- a row whose columns stand among the names, and which has as many
+module _ (names cols : List ℕ) (full : length cols ≡ length names) (ascending : AreRising cols) (rising : AreRising names)
+    (known : (k : ℕ) → k < length cols → (j : ℕ) × (j < length names) × (slice_index names j ≡ slice_index cols k)) where
+  at_least : (k j : ℕ) → k < length cols → j < length names → slice_index names j ≡ slice_index cols k → k ≤ j
+  at_least zero j l inside at = omega arith
+  at_least (suc k) j l inside at =
+      let w = known k (omega arith) in
+      let less : w.0 < j = rising_order names rising w.0 j w.1 inside (omega (arith, w.2, at, ascending k (suc k) (omega arith) l)) in
+      omega (arith, at_least k w.0 (omega arith) w.1 w.2, less)
+
+  at_most : (rest k j : ℕ) → k + rest + 1 ≡ length cols → j < length names → slice_index names j ≡ slice_index cols k → j ≤ k
+  at_most zero k j e inside at = omega arith
+  at_most (suc rest) k j e inside at =
+      let l : k + 1 < length cols = omega arith in
+      let w = known (k + 1) l in
+      let less : j < w.0 = rising_order names rising j w.0 inside w.1 (omega (arith, w.2, at, ascending k (k + 1) (omega arith) l)) in
+      omega (arith, at_most rest (k + 1) w.0 (omega arith) w.1 w.2, less)
+
+  -- so it has an entry at each of them, in order
+  pub full_entries : (vals : List ℕ) → length vals ≡ length cols → (j : ℕ) → j < length names → slice_index vals j ≡ entry_at cols vals (slice_index names j)
+  full_entries vals same j l =
+      let inside : j < length cols = omega arith in
+      let w = known j inside in
+      let here : w.0 ≡ j = omega (arith, at_least j w.0 inside w.1 w.2, at_most (length cols - j - 1) j w.0 (omega arith) w.1 w.2) in
+      sym (ap (entry_at cols vals) (ap (slice_index names) (sym here) ∙ w.2) ∙ entry_here cols vals (sym same) ascending j inside)

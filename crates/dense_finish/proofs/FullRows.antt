@@ -87,10 +87,10 @@ pub record AreFullAt (p n : ℕ) (columns v values : List ℕ) : Type 0 where
 abbrev first_places : ℕ → ℕ → List ℕ
 first_places m n = take m (range_with_len 0 n)
 
-length_places : (m n : ℕ) → m ≤ n → length (first_places m n) ≡ m
+pub length_places : (m n : ℕ) → m ≤ n → length (take m (range_with_len 0 n)) ≡ m
 length_places m n le = length-take-le m (range_with_len 0 n) (omega (arith, length-range_with_len 0 n))
 
-at_places : (m n k : ℕ) → m ≤ n → k < m → slice_index (first_places m n) k ≡ k
+pub at_places : (m n k : ℕ) → m ≤ n → k < m → slice_index (take m (range_with_len 0 n)) k ≡ k
 at_places m n k le l = get_or-take m (range_with_len 0 n) k 0 l ∙ get_or-range_with_len 0 n k 0 (omega arith) ∙ omega arith
 
 pub gathered_sparse : {p n : ℕ} {columns v values : List ℕ} → AreFullAt p n columns v values → IsSparse p n (take (length columns) (range_with_len 0 n)) (take (length columns) values)

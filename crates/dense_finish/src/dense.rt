@@ -79,6 +79,11 @@ impl<W: Residue> Dense<W> {
         ensures entries { IfOk result (AreEntriesAt cols.now vals.now columns.now) }
     {
         let mut row = Dense::zeros(alloc, columns.len(), p)?;
+        // A full row has an entry at each column, in order.
+        if cols.len() == columns.len() {
+            row.set_all(vals, p);
+            return Ok(row);
+        }
         let mut near = 0;
         for k in 0..cols.len() {
             let j = place_of(columns, cols[k], near);
@@ -111,6 +116,16 @@ impl<W: Residue> Dense<W> {
         ensures { self.new ≡ slice_set self.old j v }
     {
         self.places[j] = W::of(v, p);
+    }
+
+    // Sets all residues to these.
+    fn set_all(&mut self, vals: &[u64], p: &Modulus)
+        requires modulus { W.serves p.now }
+        requires long { length vals.now ≡ length self.old }
+        requires residues { (k : ℕ) → k < length vals.now → slice_index vals.now k < p.now }
+        ensures { self.new ≡ vals.now }
+    {
+        write_residues(vals, &mut self.places, p);
     }
 
     // Adds a y, where y is 0 before `from`.
@@ -393,6 +408,17 @@ impl<W: Residue> Dense<W> {
         write_named(&self.places, columns, to)
     }
 
+    // Writes the first entries, so many, to the first places of `to`, and tells whether one of them is 0.
+    pub(crate) fn write_first(&self, count: usize, to: &mut [u64]) -> bool
+        requires inside { count ≤ length self.now }
+        requires room { count ≤ length to.old }
+        ensures long { length to.new ≡ length to.old }
+        ensures entries { (k : ℕ) → k < count → slice_index to.new k ≡ slice_index self.now k }
+        ensures positive { result ≡ false → (k : ℕ) → k < count → 0 < slice_index to.new k }
+    {
+        write_front(&self.places[..count], to)
+    }
+
     // Sets the zero row `to` to the entries, the j-th at `columns[j]`. Those before `from` are 0.
     pub(crate) fn scatter(
         &self,
@@ -502,6 +528,35 @@ fn write_all<W: Residue>(residues: &[W], to: &mut [u64])
     }
 }
 
+// Writes numbers as residues, in the same way.
+fn write_residues<W: Residue>(numbers: &[u64], to: &mut [W], p: &Modulus)
+    requires modulus { W.serves p.now }
+    requires lengths { length to.old ≡ length numbers.now }
+    requires residues { (k : ℕ) → k < length numbers.now → slice_index numbers.now k < p.now }
+    ensures { map W.value to.new ≡ numbers.now }
+{
+    for k in 0..numbers.len() {
+        to[k] = W::of(numbers[k], p);
+    }
+}
+
+// Writes residues as numbers to the first places of `to`, in the same way, and tells whether one of them is 0.
+fn write_front<W: Residue>(residues: &[W], to: &mut [u64]) -> bool
+    requires room { length residues.now ≤ length to.old }
+    ensures long { length to.new ≡ length to.old }
+    ensures written { (k : ℕ) → k < length residues.now
+        → slice_index to.new k ≡ slice_index (map W.value residues.now) k }
+    ensures positive { result ≡ false → (k : ℕ) → k < length residues.now → 0 < slice_index to.new k }
+{
+    let mut any = false;
+    for k in 0..residues.len() {
+        let v = residues[k].get();
+        to[k] = v;
+        any |= v == 0;
+    }
+    any
+}
+
 // Writes those in these places to the first ones of `to`, and tells whether one of them is 0.
 fn write_named<W: Residue>(residues: &[W], places: &[u32], to: &mut [u64]) -> bool
     requires inside { AreBelow (length residues.now) places.now }
@@ -532,7 +587,7 @@ fn has_pivot(taken: &[bool], from: usize) -> bool
     any
 }
 
-// Where a column stands among these: at `near`, as in a full row, or elsewhere.
+// Where a column stands among these: at `near`, as in a full stretch of a row, or elsewhere.
 fn place_of(columns: &[u32], column: u32, near: usize) -> usize
     requires rising { AreRising columns.now }
     requires known { (j : ℕ) × (j < length columns.now) × (slice_index columns.now j ≡ column) }

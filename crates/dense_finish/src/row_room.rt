@@ -1,5 +1,5 @@
 // Rows of a left factor.
-ghost use Rattle.std.specs.Prelude.{◌≡◌, ◌<◌, ◌≤◌, length, IfOk, OnOk};
+ghost use Rattle.std.specs.Prelude.{◌≡◌, ◌<◌, ◌≤◌, ℕ, false, length, slice_index, IfOk, OnOk};
 ghost use Rattle.std.specs.List.{range_with_len};
 ghost use Rattle.residue_words.specs.Matrix.{IsVector};
 ghost use Rattle.sparse_rows.specs.Rows.{AreBelow};
@@ -55,7 +55,7 @@ impl RowRoom {
         ensures row { OnOk result (AppendsGathered columns.now row.now left.old left.new) }
     {
         let count = columns.len();
-        if row.write_at(columns, &mut self.values) {
+        if write_coefficients(row, columns, &self.places[..count], &mut self.values) {
             return append_gathered(&mut self.sparse, left, row, columns);
         }
         left.append_entries(&self.places[..count], &self.values[..count])?;
@@ -85,6 +85,29 @@ fn append_gathered<W: Residue>(
     row.gather(columns, sparse)?;
     left.append(sparse)?;
     Ok(())
+}
+
+// Writes the row's entries at these columns to the first values, and tells whether one of them is 0. The columns are often the
+// first ones, in order, as where all rows are full: then the entries are read in one run. `places` are 0, 1, 2, .., as many.
+fn write_coefficients<W: Residue>(
+    row: &Dense<W>,
+    columns: &[u32],
+    places: &[u32],
+    to: &mut [u64],
+) -> bool
+    requires inside { AreBelow (length row.now) columns.now }
+    requires room { length columns.now ≤ length to.old }
+    requires many { length places.now ≡ length columns.now }
+    requires places { (k : ℕ) → k < length places.now → slice_index places.now k ≡ k }
+    ensures long { length to.new ≡ length to.old }
+    ensures entries { (k : ℕ) → k < length columns.now
+        → slice_index to.new k ≡ slice_index row.now (slice_index columns.now k) }
+    ensures positive { result ≡ false → (k : ℕ) → k < length columns.now → 0 < slice_index to.new k }
+{
+    if columns == places {
+        return row.write_first(columns.len(), to);
+    }
+    row.write_at(columns, to)
 }
 
 // 0, 1, 2, .., so many.

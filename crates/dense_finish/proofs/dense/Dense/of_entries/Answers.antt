@@ -1,5 +1,5 @@
-use Rattle.std.proofs.Common.{◌+◌, arith, subst, sym}
-use Rattle.dense_finish.proofs.Filling.{IsFilling, filling_all, filling_more, filling_none}
+use Rattle.std.proofs.Common.{◌+◌, ◌∙◌, ap, arith, length, slice_index, subst, sym}
+use Rattle.dense_finish.proofs.Filling.{IsFilling, filling_all, filling_more, filling_none, full_entries}
 use Rattle.dense_finish.proofs.dense.Dense.of_entries.Goals as goal
 
 pub loop-k-init : goal.loop-k-init
@@ -23,3 +23,14 @@ returns-clause-vector g c = c.loop-k.invariant.vector
 
 pub returns-clause-entries : goal.returns-clause-entries
 returns-clause-entries g c = filling_all c.requires.long (omega arith) c.loop-k.invariant
+
+pub returns-then-cols-columns-clause-vector : goal.returns-then-cols-columns-clause-vector
+returns-then-cols-columns-clause-vector g c = record {
+  len = ap length c.set_all.ensures ∙ c.requires.long ∙ c.if-cols-columns.true;
+  residues = λ k l. omega (arith, ap (λ v. slice_index v k) c.set_all.ensures, c.requires.residues k (omega (arith, c.requires.long, c.if-cols-columns.true)));
+}
+
+pub returns-then-cols-columns-clause-entries : goal.returns-then-cols-columns-clause-entries
+returns-then-cols-columns-clause-entries g c = λ j l.
+    ap (λ v. slice_index v j) c.set_all.ensures
+    ∙ full_entries c.args.columns.now c.args.cols.now c.if-cols-columns.true c.requires.ascending c.requires.rising c.requires.known c.args.vals.now c.requires.long j l

@@ -1,37 +1,52 @@
-use Rattle.std.proofs.Common.{◌≡◌, ◌∙◌, ap, arith, length, sym}
-use Rattle.std.proofs.lemmas.List.{length-take-le}
-use Rattle.std.proofs.lemmas.List.FromFn.{length-range_with_len}
-use Rattle.dense_finish.proofs.FullRows.{AreFullAt, gathered_appended, gathered_sparse}
+use Rattle.std.proofs.Common.{ℕ, ◌≡◌, ◌≤◌, ◌∙◌, List, ap, arith, length, sym, take}
+use Rattle.std.specs.List.{range_with_len}
+use Rattle.dense_finish.proofs.FullRows.{AreFullAt, at_places, gathered_appended, gathered_sparse, length_places}
 use Rattle.dense_finish.proofs.Parts.{refilled}
 use Rattle.dense_finish.proofs.row_room.RowRoom.append_to.Goals as goal
 
+-- the first m of n places are m
+first_places : {xs : List ℕ} (m n : ℕ) → xs ≡ range_with_len 0 n → m ≤ n → length (take m xs) ≡ m
+first_places m n same le = ap (λ xs. length (take m xs)) same ∙ length_places m n le
+
+pub slice_bounds-write_coefficients-end : goal.slice_bounds-write_coefficients-end
+slice_bounds-write_coefficients-end g c =
+    sym (first_places (length c.args.columns.now) c.args.left.now.matrix.width (c.deref.ensures.value ∙ c.requires.room.places) c.requires.narrow)
+
+pub write_coefficients-requires-clause-many : goal.write_coefficients-requires-clause-many
+write_coefficients-requires-clause-many g c κs within =
+    first_places (length c.args.columns.now) c.args.left.now.matrix.width (c.deref.ensures.value ∙ c.requires.room.places) c.requires.narrow
+
+pub write_coefficients-requires-clause-places : goal.write_coefficients-requires-clause-places
+write_coefficients-requires-clause-places g c κs within =
+    let m = length c.args.columns.now in
+    let n = c.args.left.now.matrix.width in
+    rw (c.deref.ensures.value ∙ c.requires.room.places) (λ k l. at_places m n k c.requires.narrow (omega (arith, length_places m n c.requires.narrow)))
+
 pub slice_bounds-append_entries-end : goal.slice_bounds-append_entries-end
 slice_bounds-append_entries-end g c =
-    let n = c.args.left.now.matrix.width in
-    let long : length c.deref.result.now ≡ n = ap length (c.deref.ensures.value ∙ c.requires.room.places) ∙ length-range_with_len 0 n in
-    sym (length-take-le (length c.args.columns.now) c.deref.result.now (omega (arith, long, c.requires.narrow)))
+    sym (first_places (length c.args.columns.now) c.args.left.now.matrix.width (c.deref-2.ensures.value ∙ c.requires.room.places) c.requires.narrow)
 
 pub append_entries-requires-clause-sparse : goal.append_entries-requires-clause-sparse
 append_entries-requires-clause-sparse g c =
     let left = c.args.left.now in
     let values = c.args.self.now.values in
-    let written = c.write_at.new.to in
-    let long : length written ≡ values.len = c.write_at.ensures.long ∙ ap length c.deref_mut.ensures.value ∙ sym values.ok.0 in
+    let written = c.write_coefficients.new.to in
+    let long : length written ≡ values.len = c.write_coefficients.ensures.long ∙ ap length c.deref_mut.ensures.value ∙ sym values.ok.0 in
     let full : AreFullAt left.modulus left.matrix.width c.args.columns.now c.args.row.now written = record {
       few = c.requires.narrow;
       room = omega (arith, long, values.ok.0, c.requires.room.values, c.requires.narrow);
       vector = c.requires.residues;
       inside = c.requires.inside;
-      read = c.write_at.ensures.entries;
-      positive = c.write_at.ensures.positive c.if-write_at.false;
+      read = c.write_coefficients.ensures.entries;
+      positive = c.write_coefficients.ensures.positive c.if-write_coefficients.false;
     } in
-    rw (c.deref.ensures.value ∙ c.requires.room.places, c.deref-2.ensures.value ∙ refilled values.len written values.items long (sym values.ok.0)) (gathered_sparse full)
+    rw (c.deref-2.ensures.value ∙ c.requires.room.places, c.deref-3.ensures.value ∙ refilled values.len written values.items long (sym values.ok.0)) (gathered_sparse full)
 
 pub returns-clause-room : goal.returns-clause-room
 returns-clause-room g c =
     let values = c.args.self.now.values in
-    let written = c.write_at.new.to in
-    let long : length written ≡ values.len = c.write_at.ensures.long ∙ ap length c.deref_mut.ensures.value ∙ sym values.ok.0 in
+    let written = c.write_coefficients.new.to in
+    let long : length written ≡ values.len = c.write_coefficients.ensures.long ∙ ap length c.deref_mut.ensures.value ∙ sym values.ok.0 in
     record {
       places = c.requires.room.places;
       values = ap length (refilled values.len written values.items long (sym values.ok.0)) ∙ long ∙ values.ok.0 ∙ c.requires.room.values;
@@ -43,15 +58,15 @@ pub returns-clause-row : goal.returns-clause-row
 returns-clause-row g c =
     let left = c.args.left.now in
     let values = c.args.self.now.values in
-    let written = c.write_at.new.to in
-    let long : length written ≡ values.len = c.write_at.ensures.long ∙ ap length c.deref_mut.ensures.value ∙ sym values.ok.0 in
+    let written = c.write_coefficients.new.to in
+    let long : length written ≡ values.len = c.write_coefficients.ensures.long ∙ ap length c.deref_mut.ensures.value ∙ sym values.ok.0 in
     let full : AreFullAt left.modulus left.matrix.width c.args.columns.now c.args.row.now written = record {
       few = c.requires.narrow;
       room = omega (arith, long, values.ok.0, c.requires.room.values, c.requires.narrow);
       vector = c.requires.residues;
       inside = c.requires.inside;
-      read = c.write_at.ensures.entries;
-      positive = c.write_at.ensures.positive c.if-write_at.false;
+      read = c.write_coefficients.ensures.entries;
+      positive = c.write_coefficients.ensures.positive c.if-write_coefficients.false;
     } in
     gathered_appended full c.append_entries.ensures.modulus
-    (rw (c.deref.ensures.value ∙ c.requires.room.places, c.deref-2.ensures.value ∙ refilled values.len written values.items long (sym values.ok.0)) at c.in_ok-append_entries.ensures.matrix)
+    (rw (c.deref-2.ensures.value ∙ c.requires.room.places, c.deref-3.ensures.value ∙ refilled values.len written values.items long (sym values.ok.0)) at c.in_ok-append_entries.ensures.matrix)
