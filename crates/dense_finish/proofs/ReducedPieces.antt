@@ -1,7 +1,7 @@
 -- Pieces of rows, reduced and put in their places.
-use Rattle.std.proofs.Common.{ℕ, ◌≡◌, ◌≢◌, ◌+◌, ◌*◌, ◌-◌, ◌<◌, ◌≤◌, ◌∙◌, Bool, true, false, cond, inl, inr, IfOk, List, ◌++◌, All, Err, Ok, Result, Contains, drop, length, length-drop, min, slice_index_or, take, ap, arith, subst, sym}
-use Rattle.std.proofs.lemmas.Bool.{cases_eq, cases_lt}
-use Rattle.std.proofs.lemmas.List.{get_or_default, length-take-le}
+use Rattle.std.proofs.Common.{ℕ, ◌≡◌, ◌+◌, ◌*◌, ◌-◌, ◌<◌, ◌≤◌, ◌∙◌, Bool, true, false, cond, inl, inr, IfOk, List, ◌++◌, All, Err, Ok, Result, Contains, drop, length, length-drop, min, take, ap, arith, subst, sym}
+use Rattle.std.proofs.lemmas.Bool.{cases_lt}
+use Rattle.std.proofs.lemmas.List.{length-take-le}
 use Rattle.std.proofs.lemmas.List.Elements.{All-append, All-contains, All-weaker}
 use borrow.Rule.Slice.PartMut.{put_mid}
 use Rattle.residue_words.specs.Matrix.{IsVector}
@@ -69,19 +69,7 @@ put_reduced {p} {panel} {block} pieces rows each long put = λ t l.
     subst (PanelReduces p panel (block_row block t)) (sym row.same)
     (subst (λ s. PanelReduces p panel (block_row block s) (block_row row.piece.rows row.place)) (sym row.at) (made.reduced row.place row.inside))
 
--- what holds of each item, holds where one is taken out and the last put in its place, and where others are put behind or not
-pub swapped_out : {X : Type 0} (n : ℕ) (xs ys : List X) (i : ℕ) → n ≡ length xs → length ys + 1 ≡ n → ((d : X) → i + 1 < n → slice_index_or ys i d ≡ slice_index_or xs (n - 1) d) →
-    ((k : ℕ) (d : X) → k ≢ i → k + 1 < n → slice_index_or ys k d ≡ slice_index_or xs k d) → All (Contains xs) ys
-swapped_out n xs ys i all long last others k d l = elim (cases_eq k i) [
-  | inl e ↦
-      let end : n - 1 < length xs = omega arith in
-      let same : slice_index_or ys k d ≡ slice_index_or xs (n - 1) d = ap (λ k. slice_index_or ys k d) e ∙ last d (omega arith) in
-      (n - 1, end, get_or_default xs (n - 1) (slice_index_or ys k d) d end ∙ sym same)
-  | inr other ↦
-      let here : k < length xs = omega arith in
-      (k, here, get_or_default xs k (slice_index_or ys k d) d here ∙ sym (others k d other (omega arith)))
-]
-
+-- what holds of each item, holds where others are put behind or not
 pub appended_or_not : {X : Type 0} (P : X → Type 0) (put : Bool) (xs ys zs : List X) → zs ≡ cond put (xs ++ ys) xs → All P xs → All P ys → All P zs
 appended_or_not P true xs ys zs e first second = subst (All P) (sym e) (All-append P xs ys first second)
 appended_or_not P false xs ys zs e first second = subst (All P) (sym e) first

@@ -1,5 +1,5 @@
 // The rows behind a panel, reduced by several workers: piece by piece, as they become free.
-ghost use Rattle.std.specs.Prelude.{◌≡◌, ◌<◌, ◌≤◌, ◌+◌, ◌*◌, ◌-◌, ℕ, All, Contains, length, min, IfOk, IfSome, OnOk};
+ghost use Rattle.std.specs.Prelude.{◌≡◌, ◌<◌, ◌≤◌, ◌+◌, ◌*◌, ◌-◌, ℕ, All, length, min, IfOk, IfSome, OnOk};
 ghost use Rattle.dense_finish.specs.Panel.{PanelReducesEach};
 ghost use Rattle.dense_finish.specs.Pieces.{ArePut, AreReducedBy, AreReducible, AreReducedPieces, AreSharesOf, FillsItsPlace, IsReducedPiece};
 
@@ -11,6 +11,7 @@ use crate::reducing::Reducing;
 use crate::residue::Residue;
 use crate::shared_pieces::Taker;
 use std::alloc::{AllocError, Global};
+use std::cmp::Reverse;
 use std::marker::Model;
 use std::mem::replace;
 use std::thread;
@@ -56,20 +57,6 @@ pub(crate) fn rows_of_piece(number: usize, height: usize) -> RowRange
     }
 }
 
-// Takes the piece of this number out of these, if it is among them.
-fn take_piece<W: Residue>(pieces: &mut Vec<Piece<W>>, number: usize) -> Option<Piece<W>>
-    ensures left { All (Contains pieces.old.items) pieces.new.items }
-    ensures taken { IfSome result (Contains pieces.old.items) }
-    ensures number { IfSome result (λ piece. piece.number ≡ number) }
-{
-    for k in 0..pieces.len() {
-        if pieces[k].number == number {
-            return Some(pieces.swap_remove(k));
-        }
-    }
-    None
-}
-
 // Puts the rows of these pieces in their places. A piece is missing only where memory was wanted.
 pub(crate) fn put_pieces<W: Residue>(
     mut pieces: Vec<Piece<W>>,
@@ -78,9 +65,12 @@ pub(crate) fn put_pieces<W: Residue>(
     requires { All (FillsItsPlace (length rows.old)) pieces.items }
     ensures { OnOk result (ArePut pieces.items rows.new) }
 {
+    // By descending numbers, so that the next one comes off the end.
+    pieces.sort_unstable_by_key(|piece| Reverse(piece.number));
     for number in 0..count_of_pieces(rows.len()) {
-        let Some(mut piece) = take_piece(&mut pieces, number) else {
-            return Err(AllocError);
+        let mut piece = match pieces.pop() {
+            Some(piece) if piece.number == number => piece,
+            _ => return Err(AllocError),
         };
         let range = rows_of_piece(number, rows.len());
         rows[range.start..range.end].swap_with_slice(&mut piece.rows);
