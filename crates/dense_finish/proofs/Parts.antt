@@ -1,5 +1,5 @@
--- The end of a slice, changed in its place.
-use Rattle.std.proofs.Common.{ℕ, ◌≡◌, ◌+◌, ◌-◌, ◌*◌, ◌%◌, ◌<◌, ◌≤◌, inl, inr, List, ◌++◌, length, map, slice_index, slice_index_or, take, drop, sym, ap, ap₂, ◌∙◌, arith, length-append, mod-eq_of_lt, add-zero, mul-zero}
+-- The end of a slice, changed in its place, and of a `Vec` that was lent and put back.
+use Rattle.std.proofs.Common.{ℕ, ◌≡◌, ◌+◌, ◌-◌, ◌*◌, ◌%◌, ◌<◌, ◌≤◌, inl, inr, List, ◌++◌, length, map, slice_index, slice_index_or, take, drop, subst, sym, ap, ap₂, ◌∙◌, arith, length-append, mod-eq_of_lt, add-zero, mul-zero}
 use Rattle.std.proofs.Math.ListN.{get_or-append}
 use Rattle.std.proofs.Math.Seq.{get_or-append_right, take-append_seam}
 use Rattle.std.proofs.lemmas.Bool.{cases_lt}
@@ -36,9 +36,12 @@ at_back from xs out rest j d le past l =
     let front : length (take from xs) ≡ from = omega (arith, length-take from xs) in
     get_or-append_right (take from xs) (out ++ rest) j d (omega arith) ∙ ap (λ k. slice_index_or (out ++ rest) (j - k) d) front ∙ get_or-append out rest d (j - from) l
 
+-- xs, whose end from `from` on is `out`, as a borrow of it leaves the list
+abbrev with_end : {X : Type 0} → ℕ → List X → List X → List X
+with_end from xs out = take from xs ++ (out ++ drop (length xs - from) (drop from xs))
+
 -- nothing is behind the end
-pub length_changed : {X : Type 0} (from : ℕ) (xs out : List X) → from ≤ length xs → length out ≡ length xs - from →
-    length (take from xs ++ (out ++ drop (length xs - from) (drop from xs))) ≡ length xs
+length_changed : {X : Type 0} (from : ℕ) (xs out : List X) → from ≤ length xs → length out ≡ length xs - from → length (with_end from xs out) ≡ length xs
 length_changed from xs out le long =
     omega (
       arith,
@@ -50,10 +53,10 @@ length_changed from xs out le long =
     )
 
 -- the end is changed to what g gives
-pub changed_at_end : {X : Type 0} (f : X → ℕ) (g : ℕ → ℕ) (from : ℕ) (xs out : List X) (u : List ℕ) → map f xs ≡ u → from ≤ length u → length out ≡ length (ending from xs) →
+end_changed : {X : Type 0} (f : X → ℕ) (g : ℕ → ℕ) (from : ℕ) (xs out : List X) (u : List ℕ) → map f xs ≡ u → from ≤ length u → length out ≡ length (ending from xs) →
     ((k : ℕ) → k < length (ending from xs) → slice_index (map f out) k ≡ g (from + k)) →
-    IsChangedFrom g u from (map f (take from xs ++ (out ++ drop (length xs - from) (drop from xs))))
-changed_at_end f g from xs out u is le same each =
+    IsChangedFrom g u from (map f (with_end from xs out))
+end_changed f g from xs out u is le same each =
     let wide : length xs ≡ length u = sym (length-map xs f) ∙ ap length is in
     let long : length out ≡ length xs - from = same ∙ length_ending from xs in
     let rest : List _ = drop (length xs - from) (drop from xs) in
@@ -69,12 +72,28 @@ changed_at_end f g from xs out u is le same each =
       kept = λ j less. ap (λ z. slice_index z j) whole ∙ at_front from u (map f out) (map f rest) j 0 le less;
     }
 
--- a y is added from `from` on
-pub added_at_end : {X : Type 0} (f : X → ℕ) (p a from : ℕ) (xs ys out : List X) (u v : List ℕ) → map f xs ≡ u → map f ys ≡ v → from ≤ length u →
+-- a `Vec` whose whole slice was changed
+pub refilled : {X : Type 0} (n : ℕ) (xs items : List X) → length xs ≡ n → length items ≡ n → take n (xs ++ drop (length xs) items) ≡ xs
+refilled n xs items long same =
+    ap (λ k. take k (xs ++ drop (length xs) items)) (sym long) ∙ take-append_seam xs (drop (length xs) items)
+
+-- the end of a `Vec` was lent and put back, changed to what g gives
+pub changed_at_end : {X : Type 0} {n : ℕ} {items : List X} {u : List ℕ} (f : X → ℕ) (g : ℕ → ℕ) (from : ℕ) (xs out : List X) → xs ≡ items → n ≡ length items → map f items ≡ u → from ≤ length u →
+    length out ≡ length (ending from xs) → ((k : ℕ) → k < length (ending from xs) → slice_index (map f out) k ≡ g (from + k)) →
+    IsChangedFrom g u from (map f (take n (with_end from xs out ++ drop (length (with_end from xs out)) items)))
+changed_at_end {X} {n} {items} {u} f g from xs out lent all is le same each =
+    let view : map f xs ≡ u = ap (map f) lent ∙ is in
+    let inside : from ≤ length xs = omega (arith, le, ap length view, length-map xs f) in
+    let long : length (with_end from xs out) ≡ n = length_changed from xs out inside (same ∙ length_ending from xs) ∙ ap length lent ∙ sym all in
+    subst (IsChangedFrom g u from) (sym (ap (map f) (refilled n (with_end from xs out) items long (sym all)))) (end_changed f g from xs out u view le same each)
+
+-- and a y added
+pub added_at_end : {X : Type 0} {n : ℕ} {items : List X} {u v : List ℕ} (f : X → ℕ) (p a from : ℕ) (xs ys out : List X) → xs ≡ items → n ≡ length items → map f items ≡ u → map f ys ≡ v → from ≤ length u →
     map f out ≡ list_of (length (ending from xs)) (plus_at p a (map f (ending from xs)) (map f (ending from ys))) →
-    IsChangedFrom (plus_at p a u v) u from (map f (take from xs ++ (out ++ drop (length xs - from) (drop from xs))))
-added_at_end f p a from xs ys out u v xs-is ys-is le added =
-    changed_at_end f (plus_at p a u v) from xs out u xs-is le (sym (length-map out f) ∙ ap length added ∙ length_list_of _ _) (λ k l.
+    IsChangedFrom (plus_at p a u v) u from (map f (take n (with_end from xs out ++ drop (length (with_end from xs out)) items)))
+added_at_end {X} {n} {items} {u} {v} f p a from xs ys out lent all is ys-is le added =
+    let xs-is : map f xs ≡ u = ap (map f) lent ∙ is in
+    changed_at_end f (plus_at p a u v) from xs out lent all is le (sym (length-map out f) ∙ ap length added ∙ length_list_of _ _) (λ k l.
     ap (λ z. slice_index z k) added ∙ at_list_of _ _ k l
     ∙ ap₂ (λ x y. (x + a * y) % p) (at_ending f from xs k ∙ ap (λ z. slice_index z (from + k)) xs-is) (at_ending f from ys k ∙ ap (λ z. slice_index z (from + k)) ys-is))
 
@@ -95,8 +114,3 @@ pub ending_below : {X : Type 0} (f : X → ℕ) (p from : ℕ) (xs : List X) (u 
 ending_below f p from xs u is vector k l =
     let read : slice_index (map f (ending from xs)) k ≡ slice_index u (from + k) = at_ending f from xs k ∙ ap (λ z. slice_index z (from + k)) is in
     omega (arith, read, vector.residues (from + k) (omega (arith, length_ending from xs, length-map xs f, ap length is)))
-
--- a `Vec` whose whole slice was changed
-pub refilled : {X : Type 0} (n : ℕ) (xs items : List X) → length xs ≡ n → length items ≡ n → take n (xs ++ drop (length xs) items) ≡ xs
-refilled n xs items long same =
-    ap (λ k. take k (xs ++ drop (length xs) items)) (sym long) ∙ take-append_seam xs (drop (length xs) items)

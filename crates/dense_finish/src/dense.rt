@@ -235,7 +235,7 @@ impl<W: Residue> Dense<W> {
         Ok(pivot)
     }
 
-    // Clears the pivots' columns from `from` on, if there are any.
+    // Clears the pivots' columns from `from` on. Where there are none, vectors tell it.
     fn clear_taken(&mut self, from: usize, taken: &[bool], p: &Modulus)
         requires modulus { W.serves p.now }
         requires some { 0 < p.now }
@@ -243,19 +243,9 @@ impl<W: Residue> Dense<W> {
         requires marks { length taken.now ≡ length self.old }
         ensures { ClearsTaken p.now from taken.now self.old self.new }
     {
-        if has_pivot(taken, from) {
-            self.clear_each_taken(from, taken, p);
+        if !has_pivot(taken, from) {
+            return;
         }
-    }
-
-    // The same column by column.
-    fn clear_each_taken(&mut self, from: usize, taken: &[bool], p: &Modulus)
-        requires modulus { W.serves p.now }
-        requires some { 0 < p.now }
-        requires residues { IsVector p.now (length self.old) self.old }
-        requires marks { length taken.now ≡ length self.old }
-        ensures { ClearsTaken p.now from taken.now self.old self.new }
-    {
         for j in from..taken.len() {
             if taken[j] {
                 self.set(j, 0, p);
