@@ -110,30 +110,37 @@ fn pivots_are_among_those_that_may_be_found(rt: HostRuntime) -> Result<(), Fail>
     check_pivots(&rt, rt.alloc())
 }
 
-// Holds whoever has the second row before it publishes, until whoever has the third row has published.
+// Holds whoever has the third row until the second is claimed, and whoever has the second row before it publishes, until whoever has
+// the third row has published.
 #[derive(Drop)]
 struct Hold {
+    claimed: AtomicU64,
     owner: AtomicU64,
     published: AtomicU64,
+}
+
+// Waits until the flag is set, or for some seconds.
+fn wait_for(flag: &AtomicU64) {
+    for _ in 0..8_000_000_000u64 {
+        if flag.load(Ordering::SeqCst) == 1 {
+            return;
+        }
+    }
 }
 
 impl Gate for Hold {
     fn at(&self, worker: u32, point: Point) {
         let worker = u64::from(worker) + 1;
         match point {
+            Point::Claimed(1) => self.claimed.store(1, Ordering::SeqCst),
             Point::Claimed(2) => self.owner.store(worker, Ordering::SeqCst),
             Point::Published(_) => {
                 if self.owner.load(Ordering::SeqCst) == worker {
                     self.published.store(1, Ordering::SeqCst);
                 }
             }
-            Point::Before(1, _, _) => {
-                for _ in 0..500_000_000u64 {
-                    if self.published.load(Ordering::SeqCst) == 1 {
-                        return;
-                    }
-                }
-            }
+            Point::Before(2, _, _) => wait_for(&self.claimed),
+            Point::Before(1, _, _) => wait_for(&self.published),
             _ => {}
         }
     }
@@ -174,6 +181,7 @@ fn is_overtaken<'a, R: Threads + Sync>(
     answer: &str,
 ) -> Result<bool, AllocError> {
     let gate = Hold {
+        claimed: AtomicU64::new(0),
         owner: AtomicU64::new(0),
         published: AtomicU64::new(0),
     };
