@@ -123,9 +123,9 @@ impl Watch for Holds {
     }
 }
 
-// Whether the flag is set in good time.
+// Whether the flag is set within some seconds.
 fn is_set(flag: &AtomicU64) -> bool {
-    for _ in 0..500_000_000u64 {
+    for _ in 0..8_000_000_000u64 {
         if flag.load(Ordering::SeqCst) == 1 {
             return true;
         }

@@ -166,7 +166,7 @@ impl Gate for Hold {
                 }
             }
             Point::Before(1, _, _) => {
-                for _ in 0..500_000_000u64 {
+                for _ in 0..8_000_000_000u64 {
                     if self.published.load(Ordering::SeqCst) == 1 {
                         return;
                     }
