@@ -59,7 +59,7 @@ piece_reduced {p} {panel} {block} piece left of_block number long reduced = reco
 
 -- pieces of a block fill their places, and put there they are what is left of the block
 pub pieces_fill : {p : ℕ} {panel : PanelRows} {block : List (List ℕ)} (height : ℕ) (pieces : List NumberedRows) → height ≡ length block → All (IsReducedPiece p panel block) pieces → All (FillsItsPlace height) pieces
-pieces_fill {p} {panel} {block} height pieces same each = All-weaker (IsReducedPiece p panel block) (FillsItsPlace height) (λ piece made. made.long ∙ ap (λ n. min PIECE_ROWS (n - piece.number * PIECE_ROWS)) (sym same)) pieces each
+pieces_fill {p} {panel} {block} height pieces same each = All-weaker (IsReducedPiece p panel block) (FillsItsPlace height) (λ piece made. subst (λ n. FillsItsPlace n piece) (sym same) made.long) pieces each
 
 pub put_reduced : {p : ℕ} {panel : PanelRows} {block : List (List ℕ)} (pieces : List NumberedRows) (rows : List (List ℕ)) → All (IsReducedPiece p panel block) pieces → length rows ≡ length block → ArePut pieces rows →
     PanelReducesEach p panel block rows

@@ -11,10 +11,14 @@ pub record NumberedRows : Type 0 where
   pub number : ℕ
   pub rows : List (List ℕ)
 
+-- as many rows as this piece has of a block of this height
+abbrev pub FillsItsPlace : ℕ → NumberedRows → Type 0
+FillsItsPlace height piece = length piece.rows ≡ min PIECE_ROWS (height - piece.number * PIECE_ROWS)
+
 -- a piece of these rows
 pub record IsPieceOf (rows : List (List ℕ)) (piece : NumberedRows) : Type 0 where
   pub inside : piece.number * PIECE_ROWS < length rows
-  pub long : length piece.rows ≡ min PIECE_ROWS (length rows - piece.number * PIECE_ROWS)
+  pub long : FillsItsPlace (length rows) piece
   pub each : (t : ℕ) → t < length piece.rows →
       block_row piece.rows t ≡ block_row rows (piece.number * PIECE_ROWS + t)
 
@@ -23,10 +27,6 @@ pub record AreReducible (p : ℕ) (found : FoundPanel) (rows : List (List ℕ)) 
   pub vectors : AreVectors p found.panel.width rows
   pub pivots : ArePivots p found.panel
   pub units : HasUnits p found
-
--- as many rows as this piece has of a block of this height
-abbrev pub FillsItsPlace : ℕ → NumberedRows → Type 0
-FillsItsPlace height piece = length piece.rows ≡ min PIECE_ROWS (height - piece.number * PIECE_ROWS)
 
 -- v is in one of the pieces and is the block's row t
 pub record IsInPieces (pieces : List NumberedRows) (t : ℕ) (v : List ℕ) : Type 0 where
@@ -43,7 +43,7 @@ ArePut pieces rows = (t : ℕ) → t < length rows → IsInPieces pieces t (bloc
 
 -- what the panel leaves of a piece of the block
 pub record IsReducedPiece (p : ℕ) (panel : PanelRows) (block : List (List ℕ)) (piece : NumberedRows) : Type 0 where
-  pub long : length piece.rows ≡ min PIECE_ROWS (length block - piece.number * PIECE_ROWS)
+  pub long : FillsItsPlace (length block) piece
   pub reduced : (t : ℕ) → t < length piece.rows →
       PanelReduces p panel (block_row block (piece.number * PIECE_ROWS + t)) (block_row piece.rows t)
 

@@ -13,4 +13,5 @@ pub record ArePieces (items : List NumberedRows) (views : List Known) : Type 0 w
   pub rows : List (List ℕ)
   pub pieces : All (IsPieceOf rows) items
   pub same : (port : ℕ) (v : Known) → get_elem? views port ≡ some v → v.rows ≡ rows
-  pub alone : (port other : ℕ) (v w : Known) → get_elem? views port ≡ some v → get_elem? views other ≡ some w → v.alone ≡ true → other ≡ port
+  pub alone : (port other : ℕ) (v w : Known) → get_elem? views port ≡ some v →
+      get_elem? views other ≡ some w → v.alone ≡ true → other ≡ port
