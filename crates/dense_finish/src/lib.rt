@@ -19,6 +19,7 @@ mod right_factor;
 mod row_addition;
 mod row_room;
 mod shared_pieces;
+mod taker;
 
 pub use elimination::finish;
 pub use factors::Factors;

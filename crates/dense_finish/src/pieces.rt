@@ -9,7 +9,7 @@ use crate::found::Found;
 use crate::left_room::LeftRoom;
 use crate::reducing::Reducing;
 use crate::residue::Residue;
-use crate::shared_pieces::Taker;
+use crate::taker::Taker;
 use std::alloc::{AllocError, Global};
 use std::cmp::Reverse;
 use std::marker::Model;

@@ -1,5 +1,5 @@
 use Rattle.std.proofs.Common.{◌≡◌, All}
-use Rattle.dense_finish.proofs.shared_pieces.Taker.others.Given as goal
+use Rattle.dense_finish.proofs.taker.Taker.others.Given as goal
 
 abbrev pub invariant-loop : goal.invariant-loop
 invariant-loop g l = record {
