@@ -1,5 +1,5 @@
 -- Sums of products, split and made residues, and a coefficient in all lanes.
-use Rattle.std.proofs.Common.{ℕ, List, ◌∷◌, ◌≡◌, ◌+◌, ◌-◌, ◌*◌, ◌/◌, ◌%◌, ◌^◌, ◌<◌, ◌≤◌, zero, suc, div-add-mod', div-lt_iff_lt-mul, pow-add, pow-suc, inl, inr, length, length-set, replicate, slice_index, slice_set, subst, sym, refl, ap, ◌∙◌, arith}
+use Rattle.std.proofs.Common.{ℕ, List, ◌∷◌, ◌≡◌, ◌+◌, ◌-◌, ◌*◌, ◌/◌, ◌%◌, ◌^◌, ◌<◌, ◌≤◌, zero, suc, div-add-mod', div-lt_iff_lt-mul, pow-add, pow-suc, inl, inr, length, length-set, replicate, slice_index, slice_index_or, slice_set, subst, sym, refl, ap, ◌∙◌, arith}
 use Rattle.std.specs.Simd.Lanes.{digits_l, number_l, put_chunk, zip2}
 use Rattle.std.proofs.lemmas.Simd.{get_or-put_chunk_above, get_or-put_chunk_at, get_or-put_chunk_below, length-put_chunk}
 use Rattle.std.proofs.Math.Nat.{mul_comm}
@@ -13,6 +13,7 @@ use Rattle.residue_words.proofs.Sums.{sum_equal, sum_more, sum_none, sum_split}
 use Rattle.dense_finish.specs.Block.{block_row, entry_of}
 use Rattle.dense_finish.specs.Products.{AreSmall, IsWritten, columns_of, products, products_of, run_of}
 use Rattle.dense_finish.specs.declared.products.Run.{Run}
+use Rattle.dense_finish.proofs.BlockRows.{read_row}
 use Rattle.dense_finish.proofs.Vectors.{highs, raised}
 
 -- the residue of x and s, by the halves of s
@@ -52,16 +53,24 @@ products_front c rows s n m j le =
     let whole : n + (m - n) ≡ m = omega arith in
     omega (arith, sum_split n (m - n) f, ap (λ t. sum_below t f) whole)
 
--- a product more in a sum that is small
-module _ (by units : List (List ℕ)) (run : Run) (small : AreSmall by units run) (i t j x y c : ℕ) (inside : i < run.count) (row : t < 32) (column : j < 8)
-    (sum : x ≡ products_of by units (run_of run.first i) t j) (left : y ≡ entry_of units (run.first + i) j) (right : c ≡ entry_of by t (run.first + i)) where
-  pub sum_then : x + y * c ≡ products_of by units (run_of run.first (i + 1)) t j
-  sum_then =
-      let product : y * c ≡ entry_of by t (run.first + i) * entry_of units (run.first + i) j = (λ k. left k * right k) ∙ mul_comm (entry_of units (run.first + i) j) (entry_of by t (run.first + i)) in
-      (λ k. sum k + product k) ∙ sym (products_more (block_row by t) units run.first i j)
+-- a product more in each of a row's sums at the columns of a tile, whose row stands in the lanes
+module _ (by tile : List (List ℕ)) (run : Run) (small : AreSmall by tile run) (i t : ℕ) (sums lanes default : List ℕ) (inside : i < run.count) (row : t < 32)
+    (sum : (k : ℕ) → k < 8 → slice_index sums k ≡ products_of by tile (run_of run.first i) t k)
+    (lane : (k : ℕ) → k < 8 → slice_index lanes k ≡ slice_index (slice_index_or tile (run.first + i) default) k) where
+  sum_then : (k : ℕ) → k < 8 → slice_index sums k + slice_index lanes k * entry_of by t (run.first + i) ≡ products_of by tile (run_of run.first (i + 1)) t k
+  sum_then k l =
+      let c : ℕ = entry_of by t (run.first + i) in
+      let entry : slice_index lanes k ≡ entry_of tile (run.first + i) k =
+      lane k l ∙ ap (λ v. slice_index v k) (read_row tile (run.first + i) default (omega (arith, small.inside, small.long))) in
+      let product : slice_index lanes k * c ≡ c * entry_of tile (run.first + i) k = ap (λ y. y * c) entry ∙ mul_comm (entry_of tile (run.first + i) k) c in
+      (λ x. sum k l x + product x) ∙ sym (products_more (block_row by t) tile run.first i k)
 
-  pub sum_small : x + y * c < 18446744073709551616
-  sum_small = omega (arith, sum_then, products_front (block_row by t) units run.first (i + 1) run.count j (omega arith), small.sums t j row column)
+  pub sums_small : (k : ℕ) → k < 8 → slice_index sums k + slice_index lanes k * entry_of by t (run.first + i) < 18446744073709551616
+  sums_small k l = omega (arith, sum_then k l, products_front (block_row by t) tile run.first (i + 1) run.count k (omega arith), small.sums t k row l)
+
+  pub sums_more : (more : List ℕ) → ((k : ℕ) → k < 8 → slice_index more k ≡ slice_index sums k + slice_index lanes k * entry_of by t (run.first + i)) →
+      (k : ℕ) → k < 8 → slice_index more k ≡ products_of by tile (run_of run.first (i + 1)) t k
+  sums_more more is k l = is k l ∙ sum_then k l
 
 -- eight columns from `at` on
 pub written_lanes : (at : ℕ) (row v : List ℕ) → at + 8 ≤ length row → length v ≡ 8 → IsWritten (columns_of at (at + 8)) v row (put_chunk at row v)
