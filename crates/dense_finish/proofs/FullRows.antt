@@ -4,10 +4,10 @@ use Rattle.std.specs.List.{range_with_len}
 use Rattle.std.proofs.lemmas.List.{get_or-drop, get_or-take, length-drop, length-take-le, map-id, take_all}
 use Rattle.std.proofs.lemmas.List.FromFn.{get_or-range_with_len, length-range_with_len, map-range_with_len_more}
 use Rattle.residue_words.specs.Matrix.{IsVector}
-use Rattle.sparse_rows.specs.Rows.{AreBelow, AreRising, ResidueMatrix}
+use Rattle.sparse_rows.specs.Rows.{AreBelow, ResidueMatrix}
 use Rattle.sparse_rows.specs.Stored.{IsSparse, spread, with_sparse_row}
 use Rattle.sparse_rows.proofs.Spread.{at_spread, entry_cover, entry_here, length_spread}
-use Rattle.dense_finish.specs.Dense.{AppendsGathered, AppendsScattered, IsPut}
+use Rattle.dense_finish.specs.Dense.{AppendsGathered, AppendsScattered, CanAppend, IsPut}
 use Rattle.dense_finish.proofs.Parts.{ending, length_ending}
 use Rattle.dense_finish.proofs.Putting.{put_from, put_same}
 
@@ -27,37 +27,34 @@ spread_put {p} {n} {cs} {vs} s = record {
 at_end : (from : ℕ) (xs : List ℕ) (k : ℕ) → slice_index (ending from xs) k ≡ slice_index xs (from + k)
 at_end from xs k = ap (λ l. slice_index l k) (take_all (length xs - from) (drop from xs) (omega (arith, length-drop from xs))) ∙ get_or-drop from xs k 0
 
--- the entries of a row from `from` on, none of which is 0, at the columns there
-pub record IsFullFrom (p n from : ℕ) (columns v : List ℕ) : Type 0 where
-  pub inside : from ≤ length columns
-  pub vector : IsVector p (length columns) v
-  pub before : (j : ℕ) → j < from → slice_index v j ≡ 0
-  pub behind : (j : ℕ) → from ≤ j → j < length v → 0 < slice_index v j
-  pub below : AreBelow n columns
-  pub rising : AreRising columns
+-- none of the entries from `from` on is 0
+abbrev IsFullFrom : ℕ → List ℕ → Type 0
+IsFullFrom from v = (j : ℕ) → from ≤ j → j < length v → 0 < slice_index v j
 
-pub full_sparse : {p n from : ℕ} {columns v entries : List ℕ} → IsFullFrom p n from columns v → entries ≡ drop from v → IsSparse p n (ending from columns) entries
-full_sparse {p} {n} {from} {columns} {v} {entries} h is = record {
+-- these entries, at the columns there
+pub full_sparse : {p from : ℕ} {columns v entries : List ℕ} {u : ResidueMatrix} → CanAppend p from columns v u → IsFullFrom from v → entries ≡ drop from v →
+    IsSparse p u.matrix.width (ending from columns) entries
+full_sparse {p} {from} {columns} {v} {entries} h behind is = record {
   long = length_ending from columns ∙ sym long;
   rising = λ k t less l. omega (arith, at_end from columns k, at_end from columns t, h.rising (from + k) (from + t) (omega arith) (omega (arith, length_ending from columns)));
-  below = λ k l. omega (arith, at_end from columns k, h.below (from + k) (omega (arith, length_ending from columns)));
-  positive = λ k l. omega (arith, read k, h.behind (from + k) (omega arith) (omega (arith, long, h.vector.len)));
-  residues = λ k l. omega (arith, read k, h.vector.residues (from + k) (omega (arith, long)));
+  below = λ k l. omega (arith, at_end from columns k, h.inside (from + k) (omega (arith, length_ending from columns)));
+  positive = λ k l. omega (arith, read k, behind (from + k) (omega arith) (omega (arith, long, h.residues.len)));
+  residues = λ k l. omega (arith, read k, h.residues.residues (from + k) (omega (arith, long)));
 }
   where
     long : length entries ≡ length columns - from
-    long = ap length is ∙ omega (arith, length-drop from v, h.vector.len)
+    long = ap length is ∙ omega (arith, length-drop from v, h.residues.len)
 
     read : (k : ℕ) → slice_index entries k ≡ slice_index v (from + k)
     read k = ap (λ l. slice_index l k) is ∙ get_or-drop from v k 0
 
-pub full_appended : {p from : ℕ} {columns v entries : List ℕ} {old new : ResidueMatrix} → IsFullFrom p old.matrix.width from columns v → entries ≡ drop from v →
+pub full_appended : {p from : ℕ} {columns v entries : List ℕ} {old new : ResidueMatrix} → CanAppend p from columns v old → IsFullFrom from v → entries ≡ drop from v →
     new.modulus ≡ old.modulus → new.matrix ≡ with_sparse_row old.matrix (ending from columns) entries → AppendsScattered columns v old new
-full_appended {p} {from} {columns} {v} {entries} {old} {new} h is modulus matrix = record {
+full_appended {p} {from} {columns} {v} {entries} {old} {new} h behind is modulus matrix = record {
   modulus = modulus;
   row = row;
   put = subst (λ m. IsPut n m (slice_index columns) (slice_index v) row) whole
-      (put_from from (slice_index columns) (slice_index v) (λ k t less l. h.rising k t less (omega (arith, whole))) (λ k l. h.below k (omega (arith, h.inside))) h.before put);
+      (put_from from (slice_index columns) (slice_index v) (λ k t less l. h.rising k t less (omega (arith, whole))) (λ k l. h.inside k (omega (arith, h.start))) h.before put);
   matrix = matrix;
 }
   where
@@ -68,11 +65,11 @@ full_appended {p} {from} {columns} {v} {entries} {old} {new} h is modulus matrix
     row = spread n (ending from columns) entries
 
     whole : from + length (ending from columns) ≡ length columns
-    whole = omega (arith, length_ending from columns, h.inside)
+    whole = omega (arith, length_ending from columns, h.start)
 
     put : IsPut n (length (ending from columns)) (λ k. slice_index columns (from + k)) (λ k. slice_index v (from + k)) row
     put = put_same (λ k. slice_index columns (from + k)) (λ k. slice_index v (from + k)) (λ k l. at_end from columns k)
-        (λ k l. ap (λ l. slice_index l k) is ∙ get_or-drop from v k 0) (spread_put (full_sparse h is))
+        (λ k l. ap (λ l. slice_index l k) is ∙ get_or-drop from v k 0) (spread_put (full_sparse h behind is))
 
 -- the first values are the entries of a row at these columns, none of which is 0
 pub record AreFullAt (p n : ℕ) (columns v values : List ℕ) : Type 0 where

@@ -2,8 +2,9 @@
 use Rattle.std.specs.Prelude.{◌≡◌, ◌≢◌, ◌<◌, ◌≤◌, ◌+◌, ◌*◌, ◌%◌, ℕ, Bool, true, false, List, length, slice_index, slice_index_or}
 use Rattle.residue_words.specs.Matrix.{IsVector}
 use Rattle.residue_words.specs.Residues.{IsPrime}
-use Rattle.sparse_rows.specs.Rows.{ResidueMatrix}
+use Rattle.sparse_rows.specs.Rows.{AreBelow, AreRising, ResidueMatrix}
 use Rattle.sparse_rows.specs.Stored.{entry_at, with_row}
+use Rattle.sparse_rows.specs.declared.rows.TheConstants.{LARGEST_SIZE}
 use Rattle.dense_finish.specs.Splitting.{IsTaken}
 
 -- the entries, at these columns, of the row of these columns and values
@@ -86,6 +87,16 @@ AppendsScattered columns v old new = AppendsPut (length columns) (slice_index co
 abbrev pub AppendsGathered : List ℕ → List ℕ → ResidueMatrix → ResidueMatrix → Type 0
 AppendsGathered columns v old new =
     AppendsPut (length columns) (λ k. k) (λ k. slice_index v (slice_index columns k)) old new
+
+-- the row v, which is 0 before place `from`, can be appended at these columns to the rows of u, modulo p
+pub record CanAppend (p from : ℕ) (columns v : List ℕ) (u : ResidueMatrix) : Type 0 where
+  pub low : u.matrix.height < LARGEST_SIZE
+  pub modulus : u.modulus ≡ p
+  pub start : from ≤ length columns
+  pub residues : IsVector p (length columns) v
+  pub before : (j : ℕ) → j < from → slice_index v j ≡ 0
+  pub inside : AreBelow u.matrix.width columns
+  pub rising : AreRising columns
 
 -- w is v, with zeros at the first r of these columns
 pub record IsCleared (p r : ℕ) (column : ℕ → ℕ) (v w : List ℕ) : Type 0 where

@@ -1,10 +1,9 @@
 // The pivots that an elimination finds.
 ghost use Rattle.std.specs.Prelude.{◌≡◌, ◌<◌, ◌≤◌, ℕ, length, slice_index, IfOk, OnOk};
 ghost use Rattle.residue_words.specs.Matrix.{IsVector};
-ghost use Rattle.sparse_rows.specs.Rows.{AreRising};
+ghost use Rattle.sparse_rows.specs.Rows.{AreBelow, AreRising};
 ghost use Rattle.sparse_rows.specs.declared.rows.TheConstants.{LARGEST_SIZE};
-ghost use Rattle.sparse_rows.specs.Rows.{AreBelow};
-ghost use Rattle.dense_finish.specs.Dense.{AppendsScattered};
+ghost use Rattle.dense_finish.specs.Dense.{AppendsScattered, CanAppend};
 
 use crate::dense::Dense;
 use crate::residue::Residue;
@@ -118,13 +117,7 @@ fn append_row<W: Residue>(
     from: usize,
     p: &Modulus,
 ) -> Result<(), AllocError>
-    requires low { u.old.matrix.height < LARGEST_SIZE }
-    requires modulus { u.old.modulus ≡ p.now }
-    requires start { from ≤ length columns.now }
-    requires residues { IsVector p.now (length columns.now) row.now }
-    requires before { (j : ℕ) → j < from → slice_index row.now j ≡ 0 }
-    requires inside { AreBelow u.old.matrix.width columns.now }
-    requires rising { AreRising columns.now }
+    requires { CanAppend p.now from columns.now row.now u.old }
     ensures { OnOk result (AppendsScattered columns.now row.now u.old u.new) }
 {
     if row.has_zero(from) {
@@ -143,13 +136,7 @@ fn append_scattered<W: Residue>(
     from: usize,
     p: &Modulus,
 ) -> Result<(), AllocError>
-    requires low { u.old.matrix.height < LARGEST_SIZE }
-    requires modulus { u.old.modulus ≡ p.now }
-    requires start { from ≤ length columns.now }
-    requires residues { IsVector p.now (length columns.now) row.now }
-    requires before { (j : ℕ) → j < from → slice_index row.now j ≡ 0 }
-    requires inside { AreBelow u.old.matrix.width columns.now }
-    requires rising { AreRising columns.now }
+    requires { CanAppend p.now from columns.now row.now u.old }
     ensures { OnOk result (AppendsScattered columns.now row.now u.old u.new) }
 {
     let mut entries = Sparse::with_room(alloc, u.width(), *p, columns.len() - from)?;
@@ -166,13 +153,8 @@ fn append_full<W: Residue>(
     columns: &[u32],
     from: usize,
 ) -> Result<(), AllocError>
-    requires low { u.old.matrix.height < LARGEST_SIZE }
-    requires start { from ≤ length columns.now }
-    requires residues { IsVector u.old.modulus (length columns.now) row.now }
-    requires before { (j : ℕ) → j < from → slice_index row.now j ≡ 0 }
+    requires row { CanAppend u.old.modulus from columns.now row.now u.old }
     requires behind { (j : ℕ) → from ≤ j → j < length row.now → 0 < slice_index row.now j }
-    requires inside { AreBelow u.old.matrix.width columns.now }
-    requires rising { AreRising columns.now }
     ensures { OnOk result (AppendsScattered columns.now row.now u.old u.new) }
 {
     let entries = row.entries_from(alloc, from)?;
