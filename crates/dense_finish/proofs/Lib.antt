@@ -23,4 +23,5 @@ pub mod Stages
 pub mod TakingOut
 pub mod UnitRows
 pub mod Vectors
+pub mod Writing
 pub mod Zeros

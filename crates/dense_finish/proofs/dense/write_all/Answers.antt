@@ -1,7 +1,8 @@
-use Rattle.std.proofs.Common.{◌≡◌, ◌∙◌, arith, below_more, length, length-set, map, slice_index, slice_set}
-use Rattle.std.proofs.lemmas.List.{get_or-set_other, get_or-set_same, length-map}
+use Rattle.std.proofs.Common.{◌∙◌, arith, length, length-set, map, refl, slice_index}
+use Rattle.std.proofs.lemmas.List.{length-map}
 use Rattle.residue_words.proofs.Vectors.{list_equal}
 use Rattle.dense_finish.proofs.Parts.{read_is}
+use Rattle.dense_finish.proofs.Writing.{written_more}
 use Rattle.dense_finish.proofs.dense.write_all.Goals as goal
 
 pub loop-k-init : goal.loop-k-init
@@ -10,15 +11,12 @@ loop-k-init g c = record { long = c.requires.lengths; written = λ x l. absurd (
 pub loop-k-preserved : goal.loop-k-preserved
 loop-k-preserved g c =
     let value = g.W.Residue.value in
-    let to = c.loop-k.to in
+    let xs = c.args.residues.now in
     let k = c.loop-k.k in
-    let v = c.get.result in
     record {
-      long = length-set to k v ∙ c.loop-k.invariant.long;
-      written = below_more (λ x. slice_index (slice_set to k v) x ≡ slice_index (map value c.args.residues.now) x) k
-          (λ x l. get_or-set_other to k x v 0 (omega arith) ∙ c.loop-k.invariant.written x l)
-          (get_or-set_same to k v 0 (omega (arith, c.loop-k.invariant.long, c.loop-k-test.true)) ∙ c.get.ensures
-          ∙ read_is value c.args.residues.now k c.index-residues-k.result c.loop-k-test.true c.index-residues-k.is);
+      long = length-set c.loop-k.to k c.get.result ∙ c.loop-k.invariant.long;
+      written = written_more (slice_index (map value xs)) c.loop-k.to c.get.result refl (omega (arith, c.loop-k.invariant.long, c.loop-k-test.true))
+          (c.get.ensures ∙ read_is value xs k c.index-residues-k.result c.loop-k-test.true c.index-residues-k.is) c.loop-k.invariant.written;
     }
 
 pub returns : goal.returns
