@@ -78,12 +78,11 @@ impl<W: Residue> Dense<W> {
         ensures vector { IfOk result (IsVector p.now (length columns.now)) }
         ensures entries { IfOk result (AreEntriesAt cols.now vals.now columns.now) }
     {
-        let mut row = Dense::zeros(alloc, columns.len(), p)?;
         // A full row has an entry at each column, in order.
         if cols.len() == columns.len() {
-            row.set_all(vals, p);
-            return Ok(row);
+            return Dense::of_residues(alloc, vals, p);
         }
+        let mut row = Dense::zeros(alloc, columns.len(), p)?;
         let mut near = 0;
         for k in 0..cols.len() {
             let j = place_of(columns, cols[k], near);
@@ -91,6 +90,19 @@ impl<W: Residue> Dense<W> {
             near = j + 1;
         }
         Ok(row)
+    }
+
+    // These residues. There is room for all, so that vectors serve.
+    fn of_residues(alloc: Global, vals: &[u64], p: &Modulus) -> Result<Dense<W>, AllocError>
+        requires modulus { W.serves p.now }
+        requires residues { (k : ℕ) → k < length vals.now → slice_index vals.now k < p.now }
+        ensures { IfOk result (λ row. row ≡ vals.now) }
+    {
+        let mut places = Vec::with_capacity(alloc, vals.len())?;
+        for k in 0..vals.len() {
+            places.push_reserved(W::of(vals[k], p));
+        }
+        Ok(Dense { places })
     }
 
     // How many residues.
@@ -116,16 +128,6 @@ impl<W: Residue> Dense<W> {
         ensures { self.new ≡ slice_set self.old j v }
     {
         self.places[j] = W::of(v, p);
-    }
-
-    // Sets all residues to these.
-    fn set_all(&mut self, vals: &[u64], p: &Modulus)
-        requires modulus { W.serves p.now }
-        requires long { length vals.now ≡ length self.old }
-        requires residues { (k : ℕ) → k < length vals.now → slice_index vals.now k < p.now }
-        ensures { self.new ≡ vals.now }
-    {
-        write_residues(vals, &mut self.places, p);
     }
 
     // Adds a y, where y is 0 before `from`.
@@ -515,18 +517,6 @@ fn write_all<W: Residue>(residues: &[W], to: &mut [u64])
 {
     for k in 0..residues.len() {
         to[k] = residues[k].get();
-    }
-}
-
-// Writes numbers as residues, in the same way.
-fn write_residues<W: Residue>(numbers: &[u64], to: &mut [W], p: &Modulus)
-    requires modulus { W.serves p.now }
-    requires lengths { length to.old ≡ length numbers.now }
-    requires residues { (k : ℕ) → k < length numbers.now → slice_index numbers.now k < p.now }
-    ensures { map W.value to.new ≡ numbers.now }
-{
-    for k in 0..numbers.len() {
-        to[k] = W::of(numbers[k], p);
     }
 }
 

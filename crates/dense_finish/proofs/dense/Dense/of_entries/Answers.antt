@@ -1,4 +1,7 @@
-use Rattle.std.proofs.Common.{◌+◌, ◌∙◌, ap, arith, length, slice_index, subst, sym}
+use Rattle.std.proofs.Common.{◌≡◌, ◌+◌, ◌∙◌, arith, length, subst, sym}
+use Rattle.std.proofs.lemmas.Result.{IfOk-weaker}
+use Rattle.residue_words.specs.Matrix.{IsVector}
+use Rattle.dense_finish.specs.Dense.{AreEntriesAt}
 use Rattle.dense_finish.proofs.Filling.{IsFilling, filling_all, filling_more, filling_none, full_entries}
 use Rattle.dense_finish.proofs.dense.Dense.of_entries.Goals as goal
 
@@ -25,12 +28,16 @@ pub returns-clause-entries : goal.returns-clause-entries
 returns-clause-entries g c = filling_all c.requires.long (omega arith) c.loop-k.invariant
 
 pub returns-then-cols-columns-clause-vector : goal.returns-then-cols-columns-clause-vector
-returns-then-cols-columns-clause-vector g c = record {
-  len = ap length c.set_all.ensures ∙ c.requires.long ∙ c.if-cols-columns.true;
-  residues = λ k l. omega (arith, ap (λ v. slice_index v k) c.set_all.ensures, c.requires.residues k (omega (arith, c.requires.long, c.if-cols-columns.true)));
-}
+returns-then-cols-columns-clause-vector g c =
+    let vals = c.args.vals.now in
+    let n = length c.args.columns.now in
+    let vector : IsVector c.args.p.now n vals = record { len = c.requires.long ∙ c.if-cols-columns.true; residues = λ k l. c.requires.residues k (omega (arith, c.requires.long, c.if-cols-columns.true)) } in
+    IfOk-weaker c.of_residues.result (λ row. row ≡ vals) (IsVector c.args.p.now n) (λ row is. subst (IsVector c.args.p.now n) (sym is) vector) c.of_residues.ensures
 
 pub returns-then-cols-columns-clause-entries : goal.returns-then-cols-columns-clause-entries
-returns-then-cols-columns-clause-entries g c = λ j l.
-    ap (λ v. slice_index v j) c.set_all.ensures
-    ∙ full_entries c.args.columns.now c.args.cols.now c.if-cols-columns.true c.requires.ascending c.requires.rising c.requires.known c.args.vals.now c.requires.long j l
+returns-then-cols-columns-clause-entries g c =
+    let cols = c.args.cols.now in
+    let vals = c.args.vals.now in
+    let names = c.args.columns.now in
+    let full : AreEntriesAt cols vals names vals = full_entries names cols c.if-cols-columns.true c.requires.ascending c.requires.rising c.requires.known vals c.requires.long in
+    IfOk-weaker c.of_residues.result (λ row. row ≡ vals) (AreEntriesAt cols vals names) (λ row is. subst (AreEntriesAt cols vals names) (sym is) full) c.of_residues.ensures
