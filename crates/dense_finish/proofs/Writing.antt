@@ -1,7 +1,7 @@
--- Loops that write the places of a list from the first on, one a turn.
-use Rattle.std.proofs.Common.{ℕ, ◌≡◌, ◌≢◌, ◌+◌, ◌<◌, Bool, false, eqb, ◌||◌, List, below_more, length, length-set, refl, slice_index, slice_set, ap, ◌∙◌, arith}
+-- Loops that write the places of a list from the first on, one a turn, or push what stands there.
+use Rattle.std.proofs.Common.{ℕ, ◌≡◌, ◌≢◌, ◌+◌, ◌<◌, Bool, false, eqb, ◌||◌, List, [], ◌∷◌, ◌++◌, below_more, length, length-set, refl, slice_index, slice_set, sym, take, ap, ◌∙◌, arith}
 use Rattle.std.proofs.lemmas.Bool.{eqb-false, or_parts}
-use Rattle.std.proofs.lemmas.List.{get_or-set_other, get_or-set_same}
+use Rattle.std.proofs.lemmas.List.{get_or-set_other, get_or-set_same, take_more}
 
 -- one place more has what g gives
 pub written_more : {k : ℕ} {new : List ℕ} (g : ℕ → ℕ) (old : List ℕ) (v : ℕ) → new ≡ slice_set old k v → k < length old → v ≡ g k → ((x : ℕ) → x < k → slice_index old x ≡ g x) →
@@ -33,3 +33,7 @@ one_written {g} {n} {v} {k} {any} {u} inside is h = record {
   where
     all : (x : ℕ) → x < k + 1 → slice_index (slice_set u k v) x ≡ g x
     all = written_more g u v refl (omega (arith, h.long)) is h.written
+
+-- one number more is put behind the first k
+pub pushed_more : {k y : ℕ} {old : List ℕ} (xs : List ℕ) → k < length xs → old ≡ take k xs → y ≡ slice_index xs k → old ++ y ∷ [] ≡ take (k + 1) xs
+pushed_more {k} xs inside so_far is = (λ i. so_far i ++ is i ∷ []) ∙ sym (take_more xs k 0 inside)

@@ -381,10 +381,12 @@ impl<W: Residue> Dense<W> {
         requires { from ≤ length self.now }
         ensures { IfOk result (λ entries. entries.items ≡ drop from self.now) }
     {
+        // As a slice, which no push can move, so that vectors serve.
         let places = &self.places[from..];
         let mut entries = Vec::with_capacity(alloc, places.len())?;
-        entries.resize(places.len(), 0)?;
-        write_all(places, &mut entries);
+        for k in 0..places.len() {
+            entries.push_reserved(places[k].get());
+        }
         Ok(entries)
     }
 
@@ -510,17 +512,8 @@ fn clear_all<W: Residue>(places: &mut [W], p: &Modulus)
     }
 }
 
-// Writes residues as numbers. They come as slices, which no write of a number can move, so that vectors serve.
-fn write_all<W: Residue>(residues: &[W], to: &mut [u64])
-    requires lengths { length to.old ≡ length residues.now }
-    ensures { to.new ≡ map W.value residues.now }
-{
-    for k in 0..residues.len() {
-        to[k] = residues[k].get();
-    }
-}
-
-// Writes residues as numbers to the first places of `to`, in the same way, and tells whether one of them is 0.
+// Writes residues as numbers to the first places of `to`, and tells whether one of them is 0. They come as slices, which no write
+// of a number can move, so that vectors serve.
 fn write_front<W: Residue>(residues: &[W], to: &mut [u64]) -> bool
     requires room { length residues.now ≤ length to.old }
     ensures long { length to.new ≡ length to.old }

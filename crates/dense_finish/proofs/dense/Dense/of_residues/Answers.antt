@@ -1,5 +1,6 @@
-use Rattle.std.proofs.Common.{◌∷◌, ◌++◌, ◌∙◌, [], ap, arith, map, sym}
-use Rattle.std.proofs.lemmas.List.{map-append, take_all, take_more}
+use Rattle.std.proofs.Common.{◌∷◌, ◌∙◌, [], ap, arith, map}
+use Rattle.std.proofs.lemmas.List.{map-append, take_all}
+use Rattle.dense_finish.proofs.Writing.{pushed_more}
 use Rattle.dense_finish.proofs.dense.Dense.of_residues.Goals as goal
 
 pub loop-k-init : goal.loop-k-init
@@ -13,8 +14,8 @@ loop-k-preserved g c =
     let more = c.push_reserved.ensures in
     let so_far = c.loop-k.invariant in
     record {
-      made = ap (map value) more.items ∙ map-append value c.loop-k.places.items (c.of.result ∷ []) ∙ (λ i. so_far.made i ++ c.of.ensures i ∷ [])
-          ∙ sym (take_more c.args.vals.now c.loop-k.k 0 c.loop-k-test.true);
+      made = ap (map value) more.items ∙ map-append value c.loop-k.places.items (c.of.result ∷ [])
+          ∙ pushed_more c.args.vals.now c.loop-k-test.true so_far.made c.of.ensures;
       count = let count = so_far.count in let len = more.len in omega arith;
       room = let room = so_far.room in let capacity = more.capacity in omega arith;
     }

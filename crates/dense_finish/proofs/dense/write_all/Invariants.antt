@@ -1,8 +1,0 @@
-use Rattle.std.proofs.Common.{ℕ, ◌≡◌, ◌<◌, length, map, slice_index}
-use Rattle.dense_finish.proofs.dense.write_all.Given as goal
-
-abbrev pub invariant-loop-k : goal.invariant-loop-k
-invariant-loop-k g l = record {
-  long : length l.to ≡ length l.residues;
-  written : (x : ℕ) → x < l.k → slice_index l.to x ≡ slice_index (map g.W.Residue.value l.residues) x;
-}
