@@ -1,8 +1,9 @@
-use Rattle.std.proofs.Common.{ℕ, ◌≡◌, ◌≤◌, ◌∙◌, List, ap, arith, length, sym, take}
+use Rattle.std.proofs.Common.{ℕ, ◌≡◌, ◌≤◌, ◌∙◌, List, ◌++◌, ap, arith, drop, length, sym, take}
 use Rattle.std.specs.List.{range_with_len}
 use Rattle.dense_finish.proofs.FullRows.{AreFullAt, at_places, gathered_appended, gathered_sparse, length_places}
 use Rattle.dense_finish.proofs.Parts.{refilled}
 use Rattle.dense_finish.proofs.row_room.RowRoom.append_to.Goals as goal
+use Rattle.dense_finish.proofs.row_room.RowRoom.append_to.Goals.{After-deref-3}
 
 -- the first m of n places are m
 first_places : {xs : List ℕ} (m n : ℕ) → xs ≡ range_with_len 0 n → m ≤ n → length (take m xs) ≡ m
@@ -26,47 +27,44 @@ pub slice_bounds-append_entries-end : goal.slice_bounds-append_entries-end
 slice_bounds-append_entries-end g c =
     sym (first_places (length c.args.columns.now) c.args.left.now.matrix.width (c.deref-2.ensures.value ∙ c.requires.room.places) c.requires.narrow)
 
+-- as many values as before are written
+written_long : (g : _) (c : After-deref-3 g) → length c.write_coefficients.new.to ≡ c.args.self.now.values.len
+written_long g c = c.write_coefficients.ensures.long ∙ ap length c.deref_mut.ensures.value ∙ sym c.args.self.now.values.ok.0
+
+-- the room's values are those that are written
+values_are : (g : _) (c : After-deref-3 g) →
+    take c.args.self.now.values.len (c.write_coefficients.new.to ++ drop (length c.write_coefficients.new.to) c.args.self.now.values.items) ≡ c.write_coefficients.new.to
+values_are g c =
+    let values = c.args.self.now.values in
+    refilled values.len c.write_coefficients.new.to values.items (written_long g c) (sym values.ok.0)
+
+-- the first of them are the row's entries, none of which is 0
+full : (g : _) (c : After-deref-3 g) → AreFullAt c.args.left.now.modulus c.args.left.now.matrix.width c.args.columns.now c.args.row.now c.write_coefficients.new.to
+full g c = record {
+  few = c.requires.narrow;
+  room = omega (arith, written_long g c, c.args.self.now.values.ok.0, c.requires.room.values, c.requires.narrow);
+  vector = c.requires.residues;
+  inside = c.requires.inside;
+  read = c.write_coefficients.ensures.entries;
+  positive = c.write_coefficients.ensures.positive c.if-write_coefficients.false;
+}
+
 pub append_entries-requires-clause-sparse : goal.append_entries-requires-clause-sparse
 append_entries-requires-clause-sparse g c =
-    let left = c.args.left.now in
-    let values = c.args.self.now.values in
-    let written = c.write_coefficients.new.to in
-    let long : length written ≡ values.len = c.write_coefficients.ensures.long ∙ ap length c.deref_mut.ensures.value ∙ sym values.ok.0 in
-    let full : AreFullAt left.modulus left.matrix.width c.args.columns.now c.args.row.now written = record {
-      few = c.requires.narrow;
-      room = omega (arith, long, values.ok.0, c.requires.room.values, c.requires.narrow);
-      vector = c.requires.residues;
-      inside = c.requires.inside;
-      read = c.write_coefficients.ensures.entries;
-      positive = c.write_coefficients.ensures.positive c.if-write_coefficients.false;
-    } in
-    rw (c.deref-2.ensures.value ∙ c.requires.room.places, c.deref-3.ensures.value ∙ refilled values.len written values.items long (sym values.ok.0)) (gathered_sparse full)
+    rw (c.deref-2.ensures.value ∙ c.requires.room.places, c.deref-3.ensures.value ∙ values_are g c) (gathered_sparse (full g c))
 
 pub returns-clause-room : goal.returns-clause-room
 returns-clause-room g c =
-    let values = c.args.self.now.values in
-    let written = c.write_coefficients.new.to in
-    let long : length written ≡ values.len = c.write_coefficients.ensures.long ∙ ap length c.deref_mut.ensures.value ∙ sym values.ok.0 in
+    let w = (goal.at.returns-clause-room g c).After-deref-3 in
     record {
       places = c.requires.room.places;
-      values = ap length (refilled values.len written values.items long (sym values.ok.0)) ∙ long ∙ values.ok.0 ∙ c.requires.room.values;
+      values = ap length (values_are g w) ∙ written_long g w ∙ c.args.self.now.values.ok.0 ∙ c.requires.room.values;
       modulus = c.requires.room.modulus;
       long = c.requires.room.long;
     }
 
 pub returns-clause-row : goal.returns-clause-row
 returns-clause-row g c =
-    let left = c.args.left.now in
-    let values = c.args.self.now.values in
-    let written = c.write_coefficients.new.to in
-    let long : length written ≡ values.len = c.write_coefficients.ensures.long ∙ ap length c.deref_mut.ensures.value ∙ sym values.ok.0 in
-    let full : AreFullAt left.modulus left.matrix.width c.args.columns.now c.args.row.now written = record {
-      few = c.requires.narrow;
-      room = omega (arith, long, values.ok.0, c.requires.room.values, c.requires.narrow);
-      vector = c.requires.residues;
-      inside = c.requires.inside;
-      read = c.write_coefficients.ensures.entries;
-      positive = c.write_coefficients.ensures.positive c.if-write_coefficients.false;
-    } in
-    gathered_appended full c.append_entries.ensures.modulus
-    (rw (c.deref-2.ensures.value ∙ c.requires.room.places, c.deref-3.ensures.value ∙ refilled values.len written values.items long (sym values.ok.0)) at c.in_ok-append_entries.ensures.matrix)
+    let w = (goal.at.returns-clause-row g c).After-deref-3 in
+    gathered_appended (full g w) c.append_entries.ensures.modulus
+    (rw (c.deref-2.ensures.value ∙ c.requires.room.places, c.deref-3.ensures.value ∙ values_are g w) at c.in_ok-append_entries.ensures.matrix)
