@@ -124,21 +124,29 @@ module _ (olds rows : List (List ℕ)) (t : ℕ) (left : drop t rows ≡ drop t 
   pub moved_left : (none : List ℕ) → drop (t + 1) (set rows t none) ≡ drop (t + 1) olds
   moved_left none = drop-set-lt (t + 1) rows t none (omega arith) ∙ drop_more_same rows olds t left
 
+-- the next piece is the k rows from the a-th on, which are there as they were
+pub record IsNextPiece (olds rows : List (List ℕ)) (number a k : ℕ) : Type 0 where
+  pub left : drop (number * PIECE_ROWS) rows ≡ drop (number * PIECE_ROWS) olds
+  pub long : length rows ≡ length olds
+  pub start : a ≡ number * PIECE_ROWS
+  pub size : k ≡ min PIECE_ROWS (length rows - a)
+  pub inside : a < length rows
+
 -- a piece more that is put
-module _ (olds rows : List (List ℕ)) (number : ℕ) (left : drop (number * PIECE_ROWS) rows ≡ drop (number * PIECE_ROWS) olds) (long : length rows ≡ length olds) (a k : ℕ)
-    (start : a ≡ number * PIECE_ROWS) (size : k ≡ min PIECE_ROWS (length rows - a)) (inside : a < length rows) where
+module _ {olds rows : List (List ℕ)} {number a k : ℕ} (h : IsNextPiece olds rows number a k) where
   pub part_size : length (take k (drop a rows)) ≡ k
-  part_size = length-take-le k (drop a rows) (omega (arith, length-drop a rows))
+  part_size = length-take-le k (drop a rows) (omega (arith, h.size, length-drop a rows))
 
   part_is : take k (drop a rows) ≡ take k (drop (number * PIECE_ROWS) olds)
-  part_is = ap (λ n. take k (drop n rows)) start ∙ ap (take k) left
+  part_is = ap (λ n. take k (drop n rows)) h.start ∙ ap (take k) h.left
 
   short : take k (drop (number * PIECE_ROWS) olds) ≡ take PIECE_ROWS (drop (number * PIECE_ROWS) olds)
   short = elim (cases_lt (length rows - a) PIECE_ROWS) [
     | inl less ↦
         let rest = length-drop (number * PIECE_ROWS) olds in
-        take_all k (drop (number * PIECE_ROWS) olds) (omega arith) ∙ sym (take_all PIECE_ROWS (drop (number * PIECE_ROWS) olds) (omega arith))
-    | inr more ↦ let same : k ≡ PIECE_ROWS = omega arith in ap (λ n. take n (drop (number * PIECE_ROWS) olds)) same
+        take_all k (drop (number * PIECE_ROWS) olds) (omega (arith, h.long, h.start, h.size))
+        ∙ sym (take_all PIECE_ROWS (drop (number * PIECE_ROWS) olds) (omega (arith, h.long, h.start)))
+    | inr more ↦ let same : k ≡ PIECE_ROWS = omega (arith, h.size) in ap (λ n. take n (drop (number * PIECE_ROWS) olds)) same
   ]
 
   pub put_more : (put part : List (List ℕ)) → put ≡ take (number * PIECE_ROWS) olds → part ≡ take k (drop a rows) → put ++ part ≡ take ((number + 1) * PIECE_ROWS) olds
@@ -150,5 +158,5 @@ module _ (olds rows : List (List ℕ)) (number : ℕ) (left : drop (number * PIE
   pub put_left : (part : List (List ℕ)) → length part ≡ length (take k (drop a rows)) → drop ((number + 1) * PIECE_ROWS) (put_mid a k rows part) ≡ drop ((number + 1) * PIECE_ROWS) olds
   put_left part same =
       let next : number * PIECE_ROWS + PIECE_ROWS ≡ (number + 1) * PIECE_ROWS = omega arith in
-      drop-put_mid a k rows part ((number + 1) * PIECE_ROWS) (omega arith) (omega arith) (same ∙ part_size)
-      ∙ ap (λ n. drop n rows) (sym next) ∙ sym (drop-drop PIECE_ROWS (number * PIECE_ROWS) rows) ∙ ap (drop PIECE_ROWS) left ∙ drop-drop PIECE_ROWS (number * PIECE_ROWS) olds ∙ ap (λ n. drop n olds) next
+      drop-put_mid a k rows part ((number + 1) * PIECE_ROWS) (omega (arith, h.size, h.inside)) (omega (arith, h.start, h.size)) (same ∙ part_size)
+      ∙ ap (λ n. drop n rows) (sym next) ∙ sym (drop-drop PIECE_ROWS (number * PIECE_ROWS) rows) ∙ ap (drop PIECE_ROWS) h.left ∙ drop-drop PIECE_ROWS (number * PIECE_ROWS) olds ∙ ap (λ n. drop n olds) next
