@@ -132,6 +132,17 @@ pub record IsNextPiece (olds rows : List (List ℕ)) (number a k : ℕ) : Type 0
   pub size : k ≡ min PIECE_ROWS (length rows - a)
   pub inside : a < length rows
 
+-- the rows of this number, by the range that is counted for them
+pub next_piece : {olds rows : List (List ℕ)} {a z : ℕ} (number : ℕ) → drop (number * PIECE_ROWS) rows ≡ drop (number * PIECE_ROWS) olds → length rows ≡ length olds →
+    a ≡ number * PIECE_ROWS → z ≡ a + min PIECE_ROWS (length rows - a) → number * PIECE_ROWS < length olds → IsNextPiece olds rows number a (z - a)
+next_piece number left long start ends inside = record {
+  left = left;
+  long = long;
+  start = start;
+  size = omega (arith, ends);
+  inside = omega (arith, start, long, inside);
+}
+
 -- a piece more that is put
 module _ {olds rows : List (List ℕ)} {number a k : ℕ} (h : IsNextPiece olds rows number a k) where
   pub part_size : length (take k (drop a rows)) ≡ k
