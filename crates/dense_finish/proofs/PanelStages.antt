@@ -5,7 +5,7 @@ use Rattle.std.proofs.lemmas.List.{get_or-append_right, get_or-drop, get_or-take
 use Rattle.residue_words.specs.Matrix.{IsVector}
 use Rattle.residue_words.specs.Residues.{IsPrime}
 use Rattle.dense_finish.specs.declared.pivots.Pivots.{Pivots}
-use Rattle.dense_finish.specs.Block.{AreVectors, block_row}
+use Rattle.dense_finish.specs.Block.{block_row}
 use Rattle.dense_finish.specs.Panel.{PanelReducesEach, no_pivots}
 use Rattle.dense_finish.specs.Pivots.{AreEliminated, AreSplit, CanGoOn, FindsPanel, IsPanelFrom, PanelStage, before_panel, count, pivot_sequence, panel_stage, stage, stage_of}
 use Rattle.dense_finish.specs.Splitting.{IsSplit}
@@ -90,13 +90,6 @@ front_ready {p} {i} {names} {f} {found} {rows} cut done inside ready = record {
   where
     long : length (take cut rows) ≡ cut
     long = front_long cut rows inside
-
--- the other rows are the panel's to reduce
-pub behind_vectors : {p i : ℕ} {names : List ℕ} {f : Pivots} {found : FoundPanel} {rows : List (List ℕ)} (cut : ℕ) → CanGoOn p names (panel_stage f found rows i) → AreVectors p found.panel.width (drop cut rows)
-behind_vectors {p} {i} {names} {f} {found} {rows} cut ready = λ t l.
-    let there : cut + t < length rows = omega (arith, l, length-drop cut rows) in
-    subst (IsVector p found.panel.width) (sym (get_or-drop cut rows t []))
-    (subst (λ n. IsVector p n (block_row rows (cut + t))) (sym ready.holds.wide) (ready.reached.eliminated.vectors (cut + t) there))
 
 front_split : {p i r : ℕ} {names : List ℕ} {f : Pivots} {rows block : List (List ℕ)} (cut : ℕ) → cut ≤ length rows →
     AreSplit p names r block (stage f rows i) → AreSplit p names r (take cut block) (stage f (take cut rows) i)
