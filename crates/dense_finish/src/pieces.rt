@@ -18,7 +18,7 @@ use std::thread;
 use std::thread::{Threads, join_mut};
 
 // How many rows a worker takes at a time: as many as the products take at once (`BLOCK_ROWS`), so that a panel's tile is copied half as
-// often as with pieces of 16. Measured, four workers took a tenth less time.
+// often as with pieces of 16. Measured, four workers took up to a tenth less time, and no less where other programs ran.
 const PIECE_ROWS: usize = 32;
 
 // Some rows one behind the other, and which piece of a block they are. Contracts see them as `NumberedRows`.
