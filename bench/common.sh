@@ -78,6 +78,33 @@ best() {
     for _ in 1 2 3; do "$@" < "$text"; done | awk -v k="$field" 'NR == 1 || $k + 0 < least + 0 { least = $k } END { print least }'
 }
 
+# least_and_middle: of the numbers on the lines that it reads.
+least_and_middle() {
+    sort -n | awk '{ v[NR] = $1 } END { print v[1], v[int((NR + 1) / 2)] }'
+}
+
+# by_workers RUNS TEXT PICK COMMAND..: runs a command, whose last word is a number of workers, on the text in turn: by one worker alone; by one
+# worker in each of four processes at once; and by four workers. PICK is an awk program that prints the microseconds from what the command
+# prints. It prints of the three the least and the middle, in ms, and how many times as fast four workers are as one alone and as each of
+# four at once, by the middle. Where processors are shared, or are halves of one, a worker alone goes up to twice as fast in some seconds
+# as in others, and each of four at once as fast as each of four workers can.
+by_workers() {
+    local runs=$1 text=$2 pick=$3 to=bench/out/by_workers
+    shift 3
+    rm -f "$to".*
+    for _ in $(seq "$runs"); do
+        "$@" 1 < "$text" | awk "$pick" >> "$to.alone"
+        for process in 1 2 3 4; do "$@" 1 < "$text" | awk "$pick" > "$to.process$process" & done
+        wait
+        cat "$to".process* >> "$to.at_once"
+        "$@" 4 < "$text" | awk "$pick" >> "$to.four"
+    done
+    echo "$(least_and_middle < "$to.alone") $(least_and_middle < "$to.at_once") $(least_and_middle < "$to.four")" | awk '{
+        printf "1 worker %.1f (%.1f), in each of four processes at once %.1f (%.1f), 4 workers %.1f (%.1f): ", $1 / 1e3, $2 / 1e3, $3 / 1e3, $4 / 1e3, $5 / 1e3, $6 / 1e3
+        printf "%.2f times as fast as 1 alone, %.2f as each of four\n", $2 / $6, $4 / $6
+    }'
+}
+
 # seconds_and_peak COMMAND..: runs a command, and prints its seconds and its peak memory in KiB.
 seconds_and_peak() {
     { /usr/bin/time -f '%e %M' "$@" > /dev/null 2>&3; } 3>&1 | tail -n 1

@@ -1,13 +1,14 @@
 #!/usr/bin/env bash
 # Times the dense elimination: multiples of rows added by lanes against the plain loop, modulo 2147483647; and the factors, whose pivots
-# `spasm rank --rounds 0` counts, of a dense random 2000 x 2000 matrix modulo 42013 and modulo 2147483647 with 1 and with 4 workers,
-# against FLINT's `nmod_mat_rank` and fflas-ffpack's `Rank` where these libraries are installed (Debian: libflint-dev; fflas-ffpack and
-# libopenblas-dev) and take the modulus. The elimination alone, best of three; then the whole command modulo 42013, without rounds and as
-# it is called by default.
+# `spasm rank --rounds 0` counts, of a dense random matrix of this size (or 2000 x 2000) modulo 42013 and modulo 2147483647: with 1 worker,
+# best of three, against FLINT's `nmod_mat_rank` and fflas-ffpack's `Rank` where these libraries are installed (Debian: libflint-dev;
+# fflas-ffpack and libopenblas-dev) and take the modulus; and with 1 and with 4 workers in turn, so many times (or nine). The elimination
+# alone; then the whole command modulo 42013, without rounds and as it is called by default.
 set -eu
 cd "$(dirname "$0")/.."
 . bench/common.sh
 size=${1:-2000}
+runs=${2:-9}
 text=bench/out/dense.sms
 random_text "$size" "$size" "$size" "$text" 4
 program=$(timed_program)
@@ -17,10 +18,8 @@ awk -v l="$lanes" -v p="$plain" \
     'BEGIN { printf "rows of 2000: by lanes %.2f ns an entry, plainly %.2f ns; %.1f times as fast\n", l / 40000, p / 40000, p / l }'
 for p in 42013 2147483647; do
     one=$(best 1 "$text" "$program" factors "$p" 1)
-    four=$(best 1 "$text" "$program" factors "$p" 4)
-    awk -v o="$one" -v f="$four" -v n="$size" -v p="$p" 'BEGIN {
-        printf "factors of a dense %d x %d matrix modulo %s: %.2f s with 1 worker, %.2f s with 4; %.1f times as fast\n", n, n, p, o / 1e6, f / 1e6, o / f
-    }'
+    awk -v o="$one" -v n="$size" -v p="$p" 'BEGIN { printf "factors of a dense %d x %d matrix modulo %s: %.2f s with 1 worker\n", n, n, p, o / 1e6 }'
+    echo "  ms, the least (the middle): $(by_workers "$runs" "$text" '{ print $1 }' "$program" factors "$p")"
     flint=$(flint rank "$text" "$p")
     test -z "$flint" || awk -v f="$flint" -v o="$one" \
         'BEGIN { printf "  FLINT nmod_mat_rank: %.2f s; the factors take %.2f times as long\n", f, o / 1e6 / f }'

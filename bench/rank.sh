@@ -1,10 +1,12 @@
 #!/usr/bin/env bash
 # Times `spasm rank` on ten matrices, which it makes itself: the rank, the seconds of the elimination alone with 1 and 4 workers (best of
 # three), of each round the pivots, the size and the entries of what they leave, and its seconds with 1 and with 4 workers (best of three,
-# by one worker's pivots), and the peak memory of the whole run. Beside it stands LinBox's sparse elimination, where its library is installed (Debian: liblinbox-dev).
+# by one worker's pivots), and the peak memory of the whole run. Beside it stands LinBox's sparse elimination, where its library is installed
+# (Debian: liblinbox-dev). Then what the first round leaves of four of them, with 1 and with 4 workers in turn, so many times (or nine).
 set -eu
 cd "$(dirname "$0")/.."
 . bench/common.sh
+runs=${1:-9}
 ./spasm rank < examples/x.sms > /dev/null
 test -f bench/out/mk10-b3.sms || matching_text 10 3 bench/out/mk10-b3.sms
 test -f bench/out/mk11-b3.sms || matching_text 11 3 bench/out/mk11-b3.sms
@@ -44,8 +46,9 @@ for name in mk10-b3 mk11-b3 mk12-b3 ch7-6-b3 ch7-6-b4 ch8-8-b3 r5000 random wide
         }
         NR > count + 1 && $2 > 0 {
             r = NR - count
-            printf "  round %d: %d pivots in %.3f s leave %d x %d with %d entries in %.4f s, with 4 workers %.4f s", r - 1, $2, $1 / 1e6, $4, $5, $6, $3 / 1e6, left[r] / 1e6
-            if (left[r] > 0) printf ": %.1f times as fast", $3 / left[r]
-            printf "\n"
+            printf "  round %d: %d pivots in %.3f s leave %d x %d with %d entries in %.4f s, with 4 workers %.4f s\n", r - 1, $2, $1 / 1e6, $4, $5, $6, $3 / 1e6, left[r] / 1e6
         }'
+done
+for name in product random r5000 mk12-b3; do
+    echo "$name, what the first round leaves, ms, the least (the middle): $(by_workers "$runs" "bench/out/$name.sms" 'NR == 2 { print $3 }' "$program" rounds)"
 done
