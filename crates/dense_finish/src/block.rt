@@ -86,9 +86,9 @@ fn shared_block<R: Threads + Sync, W: Residue>(
     if workers <= 1 {
         return block_of(alloc, rows, filled_rows, columns, p);
     }
-    let fewer = workers / 2;
-    let others = workers - fewer;
-    let (a, b) = filled_rows.split_at(filled_rows.len() / 2);
+    // One thread begins all others: what a new one begins first is often put on its own processor, and waits there for it.
+    let others = workers - 1;
+    let (a, b) = filled_rows.split_at(filled_rows.len() / workers);
     let (front, back) = join(
         rt,
         || -> Result<Vec<Dense<W>>, AllocError>
@@ -96,7 +96,7 @@ fn shared_block<R: Threads + Sync, W: Residue>(
                 × AreBelow rows.now.matrix.height a.now × AreOccupied rows.now.matrix columns.now }
             ensures { IfOk result (λ block.
                 IsBlock p.entry.now rows.entry.now.matrix a.entry.now columns.entry.now block.items) }
-        { shared_block(rt, alloc, rows, a, columns, p, fewer) },
+        { shared_block(rt, alloc, rows, a, columns, p, 1) },
         || -> Result<Vec<Dense<W>>, AllocError>
             requires { IsSync R.row × IsSend W.row × W.serves p.now × (p.now ≡ rows.now.modulus)
                 × AreBelow rows.now.matrix.height b.now × AreOccupied rows.now.matrix columns.now }

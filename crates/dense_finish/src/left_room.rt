@@ -10,8 +10,6 @@ use std::alloc::{AllocError, Global};
 #[derive(Drop)]
 pub(crate) struct LeftRoom {
     room: EntryRoom,
-    // How many entries there is room for.
-    most: usize,
     // How many entries the rows that are done may have.
     entries: usize,
 }
@@ -21,7 +19,6 @@ impl LeftRoom {
     pub(crate) fn none(alloc: Global) -> LeftRoom {
         LeftRoom {
             room: EntryRoom::none(alloc),
-            most: 0,
             entries: 0,
         }
     }
@@ -37,14 +34,8 @@ impl LeftRoom {
         };
         Ok(LeftRoom {
             room: EntryRoom::new(alloc, most)?,
-            most,
             entries: 0,
         })
-    }
-
-    // Whether there is room for no entry.
-    pub(crate) fn is_none(&self) -> bool {
-        self.most == 0
     }
 
     // Counts the entries of so many rows more, each at so many pivots.

@@ -80,7 +80,8 @@ pub(crate) fn put_pieces<W: Residue>(
 }
 
 impl<'a> Elimination<'a> {
-    // The pieces that these workers reduce, while one more thread writes to the memory of the left factor.
+    // The pieces that these workers reduce, while one more thread writes to the memory of the left factor, if there is any. It is begun in
+    // any case: what a new thread begins first is often put on its own processor and waits there for it, while another has nothing to do.
     pub(crate) fn pieces_and_left<R: Threads + Sync, W: Reducing>(
         &self,
         rt: &R,
@@ -94,9 +95,6 @@ impl<'a> Elimination<'a> {
     {
         // In a list of its own, as the borrow checker covers no closure that is lent its caller's.
         let mut takers = replace(takers, Vec::new(self.alloc));
-        if left.is_none() {
-            return self.pieces_by(rt, found, &mut takers);
-        }
         let mut write = || left.write();
         let mut reduce = || -> Vec<Piece<W>>
             requires { W.serves self.now.p × All (AreReducible self.now.p found.now) takers.items }

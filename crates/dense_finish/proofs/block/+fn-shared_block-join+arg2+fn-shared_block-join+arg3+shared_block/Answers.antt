@@ -14,5 +14,5 @@ returns g t c =
     let y = c.in_ok-rest.rest.items in
     let first : IsBlock p A c.split_at.result.0.now names x = rw c.in_ok-block.was at c.join-front.ensures.first in
     let second : IsBlock p A c.split_at.result.1.now names y = rw c.in_ok-rest.was at c.join-front.ensures.second in
-    let all = ap₂ (λ a b. a ++ b) c.split_at.ensures.front c.split_at.ensures.back ∙ take-append-drop (length filled / 2) filled in
+    let all = ap₂ (λ a b. a ++ b) c.split_at.ensures.front c.split_at.ensures.back ∙ take-append-drop (length filled / c.args.workers) filled in
     rw c.in_ok-append.ensures.items (subst (λ rows. IsBlock p A rows names (x ++ y)) all (block_joined first second))

@@ -3,14 +3,6 @@ use Rattle.std.proofs.lemmas.List.Elements.{All-same}
 use Rattle.dense_finish.specs.Pieces.{AreReducedBy, AreReducible}
 use Rattle.dense_finish.proofs.elimination.Elimination.pieces_and_left.Goals as goal
 
-pub pieces_by-requires-clause-ready : goal.pieces_by-requires-clause-ready
-pieces_by-requires-clause-ready g c κs within =
-    All-same (AreReducible c.args.self.now.p c.args.found.now) c.replace-takers.result.items c.args.takers.now.items (ap (λ (v : Vec (List (List ℕ)) Global). v.items) c.replace-takers.ensures.value) c.requires.ready
-
-pub returns-then-is_none : goal.returns-then-is_none
-returns-then-is_none g c =
-    subst (λ (takers : Vec (List (List ℕ)) Global). AreReducedBy c.args.self.now.p c.args.found.now.panel takers c.pieces_by.result) c.replace-takers.ensures.value c.pieces_by.ensures
-
 pub join_mut-pieces-requires-after_bounds : goal.join_mut-pieces-requires-after_bounds
 join_mut-pieces-requires-after_bounds g c κs within =
     let ready = All-same (AreReducible c.args.self.now.p c.args.found.now) c.replace-takers.result.items c.args.takers.now.items (ap (λ (v : Vec (List (List ℕ)) Global). v.items) c.replace-takers.ensures.value) c.requires.ready in
