@@ -1,5 +1,5 @@
 -- Pieces of rows, reduced and put in their places.
-use Rattle.std.proofs.Common.{ℕ, ◌≡◌, ◌+◌, ◌*◌, ◌-◌, ◌<◌, ◌≤◌, ◌∙◌, Bool, true, false, cond, inl, inr, IfOk, List, ◌++◌, All, Err, Ok, Result, Contains, drop, length, length-drop, min, take, ap, arith, subst, sym}
+use Rattle.std.proofs.Common.{ℕ, ◌≡◌, ◌+◌, ◌-◌, ◌<◌, ◌≤◌, ◌∙◌, Bool, true, false, cond, inl, inr, IfOk, List, ◌++◌, All, Err, Ok, Result, Contains, drop, length, length-drop, take, ap, arith, subst, sym}
 use Rattle.std.proofs.lemmas.Bool.{cases_lt}
 use Rattle.std.proofs.lemmas.List.{length-take-le}
 use Rattle.std.proofs.lemmas.List.Elements.{All-append, All-contains, All-weaker}
@@ -7,21 +7,16 @@ use borrow.Rule.Slice.PartMut.{put_mid}
 use Rattle.residue_words.specs.Matrix.{IsVector}
 use Rattle.dense_finish.specs.Block.{block_row}
 use Rattle.dense_finish.specs.Panel.{PanelReduces, PanelReducesEach, PanelRows}
-use Rattle.dense_finish.specs.Pieces.{ArePut, AreReducible, FillsItsPlace, IsInPieces, IsPieceOf, IsReducedPiece, NumberedRows}
+use Rattle.dense_finish.specs.Pieces.{ArePut, AreReducible, IsInPieces, IsPieceOf, IsReducedPiece, LiesIn, PlacedRows}
 use Rattle.dense_finish.specs.Units.{FoundPanel}
-use Rattle.dense_finish.specs.declared.pieces.TheConstants.{PIECE_ROWS}
 use Rattle.dense_finish.proofs.BlockRows.{put_row_at, put_row_below}
 
 -- k rows from a on
 pub part_long : (a k : ℕ) (rows : List (List ℕ)) → a + k ≤ length rows → length (take k (drop a rows)) ≡ k
 part_long a k rows within = length-take-le k (drop a rows) (omega (arith, length-drop a rows))
 
--- a piece has as many rows as its place
-pub piece_long : (piece : NumberedRows) (height a k : ℕ) → a ≡ piece.number * PIECE_ROWS → k ≡ min PIECE_ROWS (height - a) → FillsItsPlace height piece → length piece.rows ≡ k
-piece_long piece height a k start size fills = fills ∙ ap (λ a. min PIECE_ROWS (height - a)) (sym start) ∙ sym size
-
 -- the rows up to the end of a piece that is put
-pub piece_put : {pieces : List NumberedRows} {piece : NumberedRows} (rows : List (List ℕ)) (a k : ℕ) → Contains pieces piece → a ≡ piece.number * PIECE_ROWS → a + k ≤ length rows → length piece.rows ≡ k →
+pub piece_put : {pieces : List PlacedRows} {piece : PlacedRows} (rows : List (List ℕ)) (a k : ℕ) → Contains pieces piece → piece.start ≡ a → a + k ≤ length rows → length piece.rows ≡ k →
     ((t : ℕ) → t < a → IsInPieces pieces t (block_row rows t)) → (t : ℕ) → t < a + k → IsInPieces pieces t (block_row (put_mid a k rows piece.rows) t)
 piece_put {pieces} {piece} rows a k there start within long done t l = elim (cases_lt t a) [
   | inl before ↦ subst (IsInPieces pieces t) (sym (put_row_below a k rows piece.rows t (omega arith) before)) (done t before)
@@ -38,30 +33,30 @@ piece_put {pieces} {piece} rows a k there start within long done t l = elim (cas
 ]
 
 -- a piece of reducible rows is reducible, and what is left of it is that of the rows
-pub piece_reducible : {p : ℕ} {found : FoundPanel} {block : List (List ℕ)} {piece : NumberedRows} → IsPieceOf block piece → AreReducible p found block → AreReducible p found piece.rows
+pub piece_reducible : {p : ℕ} {found : FoundPanel} {block : List (List ℕ)} {piece : PlacedRows} → IsPieceOf block piece → AreReducible p found block → AreReducible p found piece.rows
 piece_reducible {p} {found} {block} {piece} of_block ready = record {
   vectors = λ t l.
-      let less : piece.number * PIECE_ROWS + t < length block = omega (arith, of_block.long, of_block.inside) in
-      subst (IsVector p found.panel.width) (sym (of_block.each t l)) (ready.vectors (piece.number * PIECE_ROWS + t) less);
+      let less : piece.start + t < length block = omega (arith, of_block.inside) in
+      subst (IsVector p found.panel.width) (sym (of_block.each t l)) (ready.vectors (piece.start + t) less);
   pivots = ready.pivots;
   units = ready.units;
 }
 
-pub piece_reduced : {p : ℕ} {panel : PanelRows} {block : List (List ℕ)} (piece left : NumberedRows) → IsPieceOf block piece → left.number ≡ piece.number → length left.rows ≡ length piece.rows →
+pub piece_reduced : {p : ℕ} {panel : PanelRows} {block : List (List ℕ)} (piece left : PlacedRows) → IsPieceOf block piece → left.start ≡ piece.start → length left.rows ≡ length piece.rows →
     PanelReducesEach p panel piece.rows left.rows → IsReducedPiece p panel block left
-piece_reduced {p} {panel} {block} piece left of_block number long reduced = record {
-  long = long ∙ of_block.long ∙ ap (λ n. min PIECE_ROWS (length block - n * PIECE_ROWS)) (sym number);
+piece_reduced {p} {panel} {block} piece left of_block start long reduced = record {
+  inside = omega (arith, start, long, of_block.inside);
   reduced = λ t l.
       let less : t < length piece.rows = omega (arith, long) in
-      let old : block_row piece.rows t ≡ block_row block (left.number * PIECE_ROWS + t) = of_block.each t less ∙ ap (λ n. block_row block (n * PIECE_ROWS + t)) (sym number) in
+      let old : block_row piece.rows t ≡ block_row block (left.start + t) = of_block.each t less ∙ ap (λ n. block_row block (n + t)) (sym start) in
       subst (λ v. PanelReduces p panel v (block_row left.rows t)) old (reduced t less);
 }
 
--- pieces of a block fill their places, and put there they are what is left of the block
-pub pieces_fill : {p : ℕ} {panel : PanelRows} {block : List (List ℕ)} (height : ℕ) (pieces : List NumberedRows) → height ≡ length block → All (IsReducedPiece p panel block) pieces → All (FillsItsPlace height) pieces
-pieces_fill {p} {panel} {block} height pieces same each = All-weaker (IsReducedPiece p panel block) (FillsItsPlace height) (λ piece made. subst (λ n. FillsItsPlace n piece) (sym same) made.long) pieces each
+-- pieces of a block lie in it, and put there they are what is left of the block
+pub pieces_lie : {p : ℕ} {panel : PanelRows} {block : List (List ℕ)} (height : ℕ) (pieces : List PlacedRows) → height ≡ length block → All (IsReducedPiece p panel block) pieces → All (LiesIn height) pieces
+pieces_lie {p} {panel} {block} height pieces same each = All-weaker (IsReducedPiece p panel block) (LiesIn height) (λ piece made. subst (λ n. LiesIn n piece) (sym same) made.inside) pieces each
 
-pub put_reduced : {p : ℕ} {panel : PanelRows} {block : List (List ℕ)} (pieces : List NumberedRows) (rows : List (List ℕ)) → All (IsReducedPiece p panel block) pieces → length rows ≡ length block → ArePut pieces rows →
+pub put_reduced : {p : ℕ} {panel : PanelRows} {block : List (List ℕ)} (pieces : List PlacedRows) (rows : List (List ℕ)) → All (IsReducedPiece p panel block) pieces → length rows ≡ length block → ArePut pieces rows →
     PanelReducesEach p panel block rows
 put_reduced {p} {panel} {block} pieces rows each long put = λ t l.
     let row = put t (omega (arith, long)) in

@@ -1,7 +1,6 @@
 -- Each call keeps the rule of the pieces that workers share, and how the rows are moved into them.
-use Rattle.std.proofs.Common.{ℕ, ◌≡◌, ◌≢◌, ◌+◌, ◌*◌, ◌-◌, ◌<◌, ◌≤◌, ◌∙◌, zero, suc, inl, inr, true, false, true≢false, List, [], ◌∷◌, ◌++◌, All, drop, length, length-append, length-drop, min, set, slice_index_or, take, take_all, ⊎_elim, ap, arith, refl, subst, sym}
+use Rattle.std.proofs.Common.{ℕ, ◌≡◌, ◌≢◌, ◌+◌, ◌-◌, ◌<◌, ◌≤◌, ◌∙◌, zero, suc, true, false, true≢false, List, [], ◌∷◌, ◌++◌, All, drop, length, length-append, length-drop, set, slice_index_or, take, ⊎_elim, ap, arith, refl, subst, sym}
 use Rattle.std.proofs.Math.Seq.{take-add}
-use Rattle.std.proofs.lemmas.Bool.{cases_lt}
 use Rattle.std.proofs.lemmas.Grind.{drop_more_same}
 use Rattle.std.proofs.lemmas.List.{drop-drop, drop-set-lt, get_or-append_right, get_or-drop, get_or_append_left, length-take-le, take_more}
 use Rattle.std.proofs.lemmas.List.Elements.{All-append, All-cons, All-head, All-tail, All-weaker}
@@ -12,9 +11,8 @@ use lib.ListN.{get_elem?}
 use Rattle.crossbeam_queue.specs.Fifo.{Forks, Pops, Pushes}
 use Rattle.crossbeam_queue.proofs.Lists.{at_set, at_snoc, set_again}
 use Rattle.dense_finish.specs.Block.{block_row}
-use Rattle.dense_finish.specs.Pieces.{IsPieceOf, NumberedRows}
+use Rattle.dense_finish.specs.Pieces.{IsPieceOf, PlacedRows}
 use Rattle.dense_finish.specs.SharedPieces.{ArePieces, known}
-use Rattle.dense_finish.specs.declared.pieces.TheConstants.{PIECE_ROWS}
 use Rattle.dense_finish.specs.declared.shared_pieces.Known.{Known}
 
 only : (x : Known) (j : ℕ) (v : Known) → get_elem? (x ∷ []) j ≡ some v → (j ≡ 0) × (x ≡ v)
@@ -30,33 +28,30 @@ begins = record {
   alone = λ j i v w e f _. (only (known true []) i w f).0 ∙ sym (only (known true []) j v e).0;
 }
 
--- a piece of whole pieces is one of them and of what is put behind them
-piece_kept : (n : ℕ) (rows more : List (List ℕ)) (piece : NumberedRows) → n * PIECE_ROWS ≡ length rows → IsPieceOf rows piece → IsPieceOf (rows ++ more) piece
-piece_kept n rows more piece whole h =
+-- a piece of some rows is one of them and of what is put behind them
+piece_kept : (rows more : List (List ℕ)) (piece : PlacedRows) → IsPieceOf rows piece → IsPieceOf (rows ++ more) piece
+piece_kept rows more piece h =
     let all = length-append rows more in
     let inside = h.inside in
-    let long = h.long in
     record {
       inside = omega arith;
-      long = omega arith;
-      each = λ t l. h.each t l ∙ sym (get_or_append_left rows more [] (piece.number * PIECE_ROWS + t) (omega arith));
+      each = λ t l. h.each t l ∙ sym (get_or_append_left rows more [] (piece.start + t) (omega arith));
     }
 
--- what is put behind whole pieces is a piece
-piece_behind : (rows : List (List ℕ)) (piece : NumberedRows) → piece.number * PIECE_ROWS ≡ length rows → 0 < length piece.rows → length piece.rows ≤ PIECE_ROWS → IsPieceOf (rows ++ piece.rows) piece
-piece_behind rows piece whole full few =
+-- what is put behind some rows is a piece
+piece_behind : (rows : List (List ℕ)) (piece : PlacedRows) → piece.start ≡ length rows → IsPieceOf (rows ++ piece.rows) piece
+piece_behind rows piece start =
     let all = length-append rows piece.rows in
-    let a : ℕ = piece.number * PIECE_ROWS in
+    let a : ℕ = piece.start in
     record {
       inside = omega arith;
-      long = omega arith;
-      each = λ t l. let back : a + t - a ≡ t = omega arith in sym (get_or-append_right rows piece.rows a (a + t) [] (sym whole) (omega arith) ∙ ap (block_row piece.rows) back);
+      each = λ t l. let back : a + t - a ≡ t = omega arith in sym (get_or-append_right rows piece.rows a (a + t) [] (sym start) (omega arith) ∙ ap (block_row piece.rows) back);
     }
 
 -- who is alone puts the next piece
-pub puts : (n port : ℕ) (v : Known) (x : NumberedRows) → v.alone ≡ true → x.number * PIECE_ROWS ≡ length v.rows → 0 < length x.rows → length x.rows ≤ PIECE_ROWS →
+pub puts : (n port : ℕ) (v : Known) (x : PlacedRows) → v.alone ≡ true → x.start ≡ length v.rows →
     Pushes ArePieces n port v x (λ w. w ≡ known v.alone (v.rows ++ x.rows))
-puts n port v x alone whole full few items views _ h at =
+puts n port v x alone start items views _ h at =
     let w : Known = known v.alone (v.rows ++ x.rows) in
     let rows : v.rows ≡ h.rows = h.same port v at in
     let pieces : All (IsPieceOf v.rows) items = subst (λ r. All (IsPieceOf r) items) (sym rows) h.pieces in
@@ -67,8 +62,8 @@ puts n port v x alone whole full few items views _ h at =
       record {
         rows = more;
         pieces = All-append (IsPieceOf more) items (x ∷ [])
-            (All-weaker (IsPieceOf v.rows) (IsPieceOf more) (λ piece. piece_kept x.number v.rows x.rows piece whole) items pieces)
-            (All-cons (IsPieceOf more) x [] (piece_behind v.rows x whole full few) (λ k d l. absurd (omega arith)));
+            (All-weaker (IsPieceOf v.rows) (IsPieceOf more) (piece_kept v.rows x.rows) items pieces)
+            (All-cons (IsPieceOf more) x [] (piece_behind v.rows x start) (λ k d l. absurd (omega arith)));
         same = λ j u e. ap (λ y. y.rows) (sym (mine j u e).1);
         alone = λ j i u y e f _. (mine i y f).0 ∙ sym (mine j u e).0;
       },
@@ -124,50 +119,19 @@ module _ (olds rows : List (List ℕ)) (t : ℕ) (left : drop t rows ≡ drop t 
   pub moved_left : (none : List ℕ) → drop (t + 1) (set rows t none) ≡ drop (t + 1) olds
   moved_left none = drop-set-lt (t + 1) rows t none (omega arith) ∙ drop_more_same rows olds t left
 
--- the next piece is the k rows from the a-th on, which are there as they were
-pub record IsNextPiece (olds rows : List (List ℕ)) (number a k : ℕ) : Type 0 where
-  pub left : drop (number * PIECE_ROWS) rows ≡ drop (number * PIECE_ROWS) olds
-  pub long : length rows ≡ length olds
-  pub start : a ≡ number * PIECE_ROWS
-  pub size : k ≡ min PIECE_ROWS (length rows - a)
-  pub inside : a < length rows
+-- a piece more that is put: the rows from a to z, which are there as they were
+module _ (olds rows : List (List ℕ)) (a z : ℕ) (left : drop a rows ≡ drop a olds) (order : a ≤ z) (inside : z ≤ length rows) where
+  part_size : length (take (z - a) (drop a rows)) ≡ z - a
+  part_size = length-take-le (z - a) (drop a rows) (omega (arith, length-drop a rows))
 
--- the rows of this number, by the range that is counted for them
-pub next_piece : {olds rows : List (List ℕ)} {a z : ℕ} (number : ℕ) → drop (number * PIECE_ROWS) rows ≡ drop (number * PIECE_ROWS) olds → length rows ≡ length olds →
-    a ≡ number * PIECE_ROWS → z ≡ a + min PIECE_ROWS (length rows - a) → number * PIECE_ROWS < length olds → IsNextPiece olds rows number a (z - a)
-next_piece number left long start ends inside = record {
-  left = left;
-  long = long;
-  start = start;
-  size = omega (arith, ends);
-  inside = omega (arith, start, long, inside);
-}
+  next : a + (z - a) ≡ z
+  next = omega arith
 
--- a piece more that is put
-module _ {olds rows : List (List ℕ)} {number a k : ℕ} (h : IsNextPiece olds rows number a k) where
-  pub part_size : length (take k (drop a rows)) ≡ k
-  part_size = length-take-le k (drop a rows) (omega (arith, h.size, length-drop a rows))
-
-  part_is : take k (drop a rows) ≡ take k (drop (number * PIECE_ROWS) olds)
-  part_is = ap (λ n. take k (drop n rows)) h.start ∙ ap (take k) h.left
-
-  short : take k (drop (number * PIECE_ROWS) olds) ≡ take PIECE_ROWS (drop (number * PIECE_ROWS) olds)
-  short = elim (cases_lt (length rows - a) PIECE_ROWS) [
-    | inl less ↦
-        let rest = length-drop (number * PIECE_ROWS) olds in
-        take_all k (drop (number * PIECE_ROWS) olds) (omega (arith, h.long, h.start, h.size))
-        ∙ sym (take_all PIECE_ROWS (drop (number * PIECE_ROWS) olds) (omega (arith, h.long, h.start)))
-    | inr more ↦ let same : k ≡ PIECE_ROWS = omega (arith, h.size) in ap (λ n. take n (drop (number * PIECE_ROWS) olds)) same
-  ]
-
-  pub put_more : (put part : List (List ℕ)) → put ≡ take (number * PIECE_ROWS) olds → part ≡ take k (drop a rows) → put ++ part ≡ take ((number + 1) * PIECE_ROWS) olds
+  pub put_more : (put part : List (List ℕ)) → put ≡ take a olds → part ≡ take (z - a) (drop a rows) → put ++ part ≡ take z olds
   put_more put part before is =
-      let next : number * PIECE_ROWS + PIECE_ROWS ≡ (number + 1) * PIECE_ROWS = omega arith in
-      ap (λ l. l ++ part) before ∙ ap (λ l. take (number * PIECE_ROWS) olds ++ l) (is ∙ part_is ∙ short)
-      ∙ sym (take-add (number * PIECE_ROWS) PIECE_ROWS olds) ∙ ap (λ n. take n olds) next
+      ap (λ l. l ++ part) before ∙ ap (λ l. take a olds ++ l) (is ∙ ap (take (z - a)) left) ∙ sym (take-add a (z - a) olds) ∙ ap (λ n. take n olds) next
 
-  pub put_left : (part : List (List ℕ)) → length part ≡ length (take k (drop a rows)) → drop ((number + 1) * PIECE_ROWS) (put_mid a k rows part) ≡ drop ((number + 1) * PIECE_ROWS) olds
+  pub put_left : (part : List (List ℕ)) → length part ≡ length (take (z - a) (drop a rows)) → drop z (put_mid a (z - a) rows part) ≡ drop z olds
   put_left part same =
-      let next : number * PIECE_ROWS + PIECE_ROWS ≡ (number + 1) * PIECE_ROWS = omega arith in
-      drop-put_mid a k rows part ((number + 1) * PIECE_ROWS) (omega (arith, h.size, h.inside)) (omega (arith, h.start, h.size)) (same ∙ part_size)
-      ∙ ap (λ n. drop n rows) (sym next) ∙ sym (drop-drop PIECE_ROWS (number * PIECE_ROWS) rows) ∙ ap (drop PIECE_ROWS) h.left ∙ drop-drop PIECE_ROWS (number * PIECE_ROWS) olds ∙ ap (λ n. drop n olds) next
+      drop-put_mid a (z - a) rows part z (omega arith) (omega arith) (same ∙ part_size) ∙ ap (λ n. drop n rows) (sym next)
+      ∙ sym (drop-drop (z - a) a rows) ∙ ap (drop (z - a)) left ∙ drop-drop (z - a) a olds ∙ ap (λ n. drop n olds) next

@@ -1,26 +1,23 @@
 -- Pieces of the rows behind a panel, which workers reduce.
-use Rattle.std.specs.Prelude.{◌≡◌, ◌<◌, ◌+◌, ◌*◌, ◌-◌, ℕ, List, Vec, All, Contains, length, min}
+use Rattle.std.specs.Prelude.{◌≡◌, ◌<◌, ◌≤◌, ◌+◌, ℕ, List, Vec, All, Contains, length}
 use Rattle.std.specs.declared.alloc.Global.{Global}
 use Rattle.dense_finish.specs.Block.{AreVectors, block_row}
 use Rattle.dense_finish.specs.Panel.{ArePivots, PanelReduces, PanelRows}
 use Rattle.dense_finish.specs.Units.{FoundPanel, HasUnits}
-use Rattle.dense_finish.specs.declared.pieces.TheConstants.{PIECE_ROWS}
 
--- rows, and which piece of a block they are
-pub record NumberedRows : Type 0 where
-  pub number : ℕ
+-- rows, and the place of the first of them in a block
+pub record PlacedRows : Type 0 where
+  pub start : ℕ
   pub rows : List (List ℕ)
 
--- as many rows as this piece has of a block of this height
-abbrev pub FillsItsPlace : ℕ → NumberedRows → Type 0
-FillsItsPlace height piece = length piece.rows ≡ min PIECE_ROWS (height - piece.number * PIECE_ROWS)
+-- the piece ends within a block of this height
+abbrev pub LiesIn : ℕ → PlacedRows → Type 0
+LiesIn height piece = piece.start + length piece.rows ≤ height
 
 -- a piece of these rows
-pub record IsPieceOf (rows : List (List ℕ)) (piece : NumberedRows) : Type 0 where
-  pub inside : piece.number * PIECE_ROWS < length rows
-  pub long : FillsItsPlace (length rows) piece
-  pub each : (t : ℕ) → t < length piece.rows →
-      block_row piece.rows t ≡ block_row rows (piece.number * PIECE_ROWS + t)
+pub record IsPieceOf (rows : List (List ℕ)) (piece : PlacedRows) : Type 0 where
+  pub inside : LiesIn (length rows) piece
+  pub each : (t : ℕ) → t < length piece.rows → block_row piece.rows t ≡ block_row rows (piece.start + t)
 
 -- rows of which the panel's pivots can be taken out
 pub record AreReducible (p : ℕ) (found : FoundPanel) (rows : List (List ℕ)) : Type 0 where
@@ -29,34 +26,34 @@ pub record AreReducible (p : ℕ) (found : FoundPanel) (rows : List (List ℕ)) 
   pub units : HasUnits p found
 
 -- v is in one of the pieces and is the block's row t
-pub record IsInPieces (pieces : List NumberedRows) (t : ℕ) (v : List ℕ) : Type 0 where
-  pub piece : NumberedRows
+pub record IsInPieces (pieces : List PlacedRows) (t : ℕ) (v : List ℕ) : Type 0 where
+  pub piece : PlacedRows
   pub there : Contains pieces piece
   pub place : ℕ
   pub inside : place < length piece.rows
-  pub at : t ≡ piece.number * PIECE_ROWS + place
+  pub at : t ≡ piece.start + place
   pub same : v ≡ block_row piece.rows place
 
 -- each row is that of a piece
-abbrev pub ArePut : List NumberedRows → List (List ℕ) → Type 0
+abbrev pub ArePut : List PlacedRows → List (List ℕ) → Type 0
 ArePut pieces rows = (t : ℕ) → t < length rows → IsInPieces pieces t (block_row rows t)
 
 -- what the panel leaves of a piece of the block
-pub record IsReducedPiece (p : ℕ) (panel : PanelRows) (block : List (List ℕ)) (piece : NumberedRows) : Type 0 where
-  pub long : FillsItsPlace (length block) piece
+pub record IsReducedPiece (p : ℕ) (panel : PanelRows) (block : List (List ℕ)) (piece : PlacedRows) : Type 0 where
+  pub inside : LiesIn (length block) piece
   pub reduced : (t : ℕ) → t < length piece.rows →
-      PanelReduces p panel (block_row block (piece.number * PIECE_ROWS + t)) (block_row piece.rows t)
+      PanelReduces p panel (block_row block (piece.start + t)) (block_row piece.rows t)
 
 -- pieces that a worker made
-abbrev pub AreReducedPieces : ℕ → PanelRows → List (List ℕ) → Vec NumberedRows Global → Type 0
+abbrev pub AreReducedPieces : ℕ → PanelRows → List (List ℕ) → Vec PlacedRows Global → Type 0
 AreReducedPieces p panel block share = All (IsReducedPiece p panel block) share.items
 
 -- pieces that workers made, and shares of them, where all workers know the same block
-abbrev pub AreReducedBy : ℕ → PanelRows → Vec (List (List ℕ)) Global → Vec NumberedRows Global → Type 0
+abbrev pub AreReducedBy : ℕ → PanelRows → Vec (List (List ℕ)) Global → Vec PlacedRows Global → Type 0
 AreReducedBy p panel known pieces = (block : List (List ℕ)) → All (λ rows. rows ≡ block) known.items →
     AreReducedPieces p panel block pieces
 
-abbrev pub AreSharesOf : ℕ → PanelRows → Vec (List (List ℕ)) Global → Vec (Vec NumberedRows Global) Global →
+abbrev pub AreSharesOf : ℕ → PanelRows → Vec (List (List ℕ)) Global → Vec (Vec PlacedRows Global) Global →
     Type 0
 AreSharesOf p panel known shares = (block : List (List ℕ)) → All (λ rows. rows ≡ block) known.items →
     All (AreReducedPieces p panel block) shares.items

@@ -1,12 +1,13 @@
 // The rows behind a panel, reduced by several workers: piece by piece, as they become free.
-ghost use Rattle.std.specs.Prelude.{◌≡◌, ◌<◌, ◌≤◌, ◌+◌, ◌*◌, ◌-◌, ℕ, All, length, min, IfOk, IfSome, OnOk};
+ghost use Rattle.std.specs.Prelude.{◌≡◌, ◌<◌, ◌≤◌, All, length, IfOk, IfSome, OnOk};
 ghost use Rattle.dense_finish.specs.Panel.{PanelReducesEach};
-ghost use Rattle.dense_finish.specs.Pieces.{ArePut, AreReducedBy, AreReducible, AreReducedPieces, AreSharesOf, FillsItsPlace, IsReducedPiece};
+ghost use Rattle.dense_finish.specs.Pieces.{ArePut, AreReducedBy, AreReducible, AreReducedPieces, AreSharesOf, IsReducedPiece, LiesIn};
 
 use crate::dense::Dense;
-use crate::elimination::{Elimination, RowRange};
+use crate::elimination::Elimination;
 use crate::found::Found;
 use crate::left_room::LeftRoom;
+use crate::products::TILE_ROWS;
 use crate::reducing::Reducing;
 use crate::residue::Residue;
 use crate::taker::Taker;
@@ -17,45 +18,54 @@ use std::mem::replace;
 use std::thread;
 use std::thread::{Threads, join_mut};
 
-// How many rows a worker takes at a time: as many as the products take at once (`BLOCK_ROWS`), so that a panel's tile is copied half as
-// often as with pieces of 16. Measured, four workers took up to a tenth less time, and no less where other programs ran.
-const PIECE_ROWS: usize = 32;
+// How many rows a worker takes at a time, at most: as many as the products take at once (`BLOCK_ROWS`), so that a panel's tile is copied
+// half as often as with pieces of 16. Measured, four workers took up to a tenth less time, and no less where other programs ran.
+const MOST_ROWS: usize = 32;
 
-// Some rows one behind the other, and which piece of a block they are. Contracts see them as `NumberedRows`.
+// And at least, where there are so many, so that a tile is not copied for the sake of few rows.
+const LEAST_ROWS: usize = 16;
+
+// Between these, a piece has one of so many equal shares of the rows left.
+const SHARES: usize = 16;
+
+// Some rows one behind the other, and the place of the first of them in a block. Contracts see them as `PlacedRows`.
 #[derive(Drop)]
 pub(crate) struct Piece<W: Residue> {
-    pub(crate) number: usize,
+    pub(crate) start: usize,
     pub(crate) rows: Vec<Dense<W>>,
 }
 
 impl<W: Residue> Model for Piece<W> {
-    ghost use Rattle.dense_finish.specs.Pieces.{NumberedRows};
+    ghost use Rattle.dense_finish.specs.Pieces.{PlacedRows};
 
-    ghost Value = { NumberedRows };
+    ghost Value = { PlacedRows };
 
-    ghost view = { λ piece. record { number = piece.number; rows = piece.rows.items } };
+    ghost view = { λ piece. record { start = piece.start; rows = piece.rows.items } };
 }
 
-// In how many pieces so many rows are cut.
+// How many rows the next piece has where so many are left: as many as the products take, and fewer towards the end, so that no worker
+// waits long for another at the end of a panel. They are a multiple of `TILE_ROWS`, as the products take rows, but for the last piece.
+pub(crate) fn rows_of_next(left: usize) -> usize
+    requires some { 0 < left }
+    ensures some { 0 < result }
+    ensures inside { result ≤ left }
+{
+    let share = left / (SHARES * TILE_ROWS) * TILE_ROWS;
+    share.max(LEAST_ROWS).min(MOST_ROWS).min(left)
+}
+
+// In how many pieces so many rows are dealt.
 pub(crate) fn count_of_pieces(height: usize) -> usize
-    ensures inside { (number : ℕ) → number < result → number * PIECE_ROWS < height }
-    ensures all { height ≤ result * PIECE_ROWS }
+    requires { 0 < height }
+    ensures { 1 ≤ result }
 {
-    height.div_ceil(PIECE_ROWS)
-}
-
-// The rows of one of them.
-pub(crate) fn rows_of_piece(number: usize, height: usize) -> RowRange
-    requires inside { number * PIECE_ROWS ≤ height }
-    ensures start { result.start ≡ number * PIECE_ROWS }
-    ensures end { result.end ≡ result.start + min PIECE_ROWS (height - result.start) }
-    ensures within { result.end ≤ height }
-{
-    let start = number * PIECE_ROWS;
-    RowRange {
-        start,
-        end: start + PIECE_ROWS.min(height - start),
+    let mut left = height;
+    let mut count = 0;
+    while left > 0 {
+        left -= rows_of_next(left);
+        count += 1;
     }
+    count
 }
 
 // Puts the rows of these pieces in their places. A piece is missing only where memory was wanted.
@@ -63,20 +73,25 @@ pub(crate) fn put_pieces<W: Residue>(
     mut pieces: Vec<Piece<W>>,
     rows: &mut [Dense<W>],
 ) -> Result<(), AllocError>
-    requires { All (FillsItsPlace (length rows.old)) pieces.items }
+    requires { All (LiesIn (length rows.old)) pieces.items }
     ensures { OnOk result (ArePut pieces.items rows.new) }
 {
-    // By descending numbers, so that the next one comes off the end.
-    pieces.sort_unstable_by_key(|piece| Reverse(piece.number));
-    for number in 0..count_of_pieces(rows.len()) {
-        let mut piece = match pieces.pop() {
-            Some(piece) if piece.number == number => piece,
-            _ => return Err(AllocError),
-        };
-        let range = rows_of_piece(number, rows.len());
-        rows[range.start..range.end].swap_with_slice(&mut piece.rows);
+    // By descending places, so that the next one comes off the end.
+    pieces.sort_unstable_by_key(|piece| Reverse(piece.start));
+    let mut at = 0;
+    while let Some(mut piece) = pieces.pop() {
+        if piece.start != at {
+            return Err(AllocError);
+        }
+        let end = at + piece.rows.len();
+        rows[at..end].swap_with_slice(&mut piece.rows);
+        at = end;
     }
-    Ok(())
+    if at < rows.len() {
+        Err(AllocError)
+    } else {
+        Ok(())
+    }
 }
 
 impl<'a> Elimination<'a> {

@@ -3,7 +3,7 @@ ghost use Rattle.std.specs.Prelude.{◌≡◌, ◌<◌, length, IfOk};
 ghost use Rattle.crossbeam_queue.specs.Passes.{view, IsPassOf};
 
 use crate::dense::Dense;
-use crate::pieces::{Piece, count_of_pieces, rows_of_piece};
+use crate::pieces::{Piece, count_of_pieces, rows_of_next};
 use crate::residue::Residue;
 use crossbeam_queue::protocol::{Outcome, Protocol, Split};
 use crossbeam_queue::{Pass, RuledArrayQueue};
@@ -74,26 +74,27 @@ pub(crate) fn queue_of<W: Residue>(
     ensures rows { IfOk result (λ made. (view made.1).rows ≡ rows.old) }
     ensures long { length rows.new ≡ length rows.old }
 {
-    let count = count_of_pieces(rows.len());
-    let (queue, mut pass) = PieceQueue::<W>::ruled(alloc, count)?;
-    for number in 0..count {
-        let range = rows_of_piece(number, rows.len());
-        let piece = moved_piece(alloc, number, &mut rows[range.start..range.end])?;
+    let (queue, mut pass) = PieceQueue::<W>::ruled(alloc, count_of_pieces(rows.len()))?;
+    let mut at = 0;
+    while at < rows.len() {
+        let end = at + rows_of_next(rows.len() - at);
+        let piece = moved_piece(alloc, at, &mut rows[at..end])?;
         // There is room for each piece.
         if queue.try_push_as::<Put>(&mut pass, piece).is_err() {
             return Err(AllocError);
         }
+        at = end;
     }
     Ok((queue, pass))
 }
 
-// Moves these rows into the piece of this number.
+// Moves these rows into a piece that has this place.
 fn moved_piece<W: Residue>(
     alloc: Global,
-    number: usize,
+    start: usize,
     rows: &mut [Dense<W>],
 ) -> Result<Piece<W>, AllocError>
-    ensures number { IfOk result (λ piece. piece.number ≡ number) }
+    ensures start { IfOk result (λ piece. piece.start ≡ start) }
     ensures rows { IfOk result (λ piece. piece.rows ≡ rows.old) }
     ensures long { length rows.new ≡ length rows.old }
 {
@@ -101,8 +102,5 @@ fn moved_piece<W: Residue>(
     for t in 0..rows.len() {
         moved.push(replace(&mut rows[t], Dense::none(alloc)))?;
     }
-    Ok(Piece {
-        number,
-        rows: moved,
-    })
+    Ok(Piece { start, rows: moved })
 }

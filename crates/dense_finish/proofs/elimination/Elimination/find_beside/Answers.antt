@@ -1,6 +1,6 @@
 use Rattle.std.proofs.Common.{◌≡◌, ◌∙◌, List, ℕ, All, subst, sym}
 use Rattle.dense_finish.specs.Pieces.{AreReducible, IsReducedPiece}
-use Rattle.dense_finish.proofs.ReducedPieces.{pieces_fill, put_reduced}
+use Rattle.dense_finish.proofs.ReducedPieces.{pieces_lie, put_reduced}
 use Rattle.dense_finish.proofs.elimination.Elimination.find_beside.Goals as goal
 
 pub find_and_reduce-requires-clause-others : goal.find_and_reduce-requires-clause-others
@@ -15,7 +15,7 @@ put_pieces-requires g c =
     let same : c.new-taker.result ≡ c.args.others.now = c.new-taker.ensures ∙ c.in_ok-queue.ensures.rows in
     let pieces = c.in_ok-next.pieces.items in
     let each : All (P c.args.others.now) pieces = subst (λ (rows : List (List ℕ)). All (P rows) pieces) same c.in_ok-next.ensures.others in
-    let fill = pieces_fill _ pieces c.queue_of.ensures.long each in
+    let lie = pieces_lie _ pieces c.queue_of.ensures.long each in
     search
 
 pub returns-clause-others : goal.returns-clause-others
