@@ -148,8 +148,10 @@ impl<'a> Elimination<'a> {
                 start: done,
                 end: self.panel_end(done, block.len()),
             };
+            let size = rows.end - rows.start;
+            left.expect(size, pivots.rows.len());
             found = self.next_panel(rt, &found, rows, &mut pivots, block, left)?;
-            left.count(rows.end - rows.start, pivots.rows.len());
+            left.count(size, pivots.rows.len());
             done = rows.end;
         }
         Ok(pivots)

@@ -12,6 +12,8 @@ pub(crate) struct LeftRoom {
     room: EntryRoom,
     // How many entries the rows that are done may have.
     entries: usize,
+    // And those that are being eliminated.
+    expected: usize,
 }
 
 impl LeftRoom {
@@ -20,6 +22,7 @@ impl LeftRoom {
         LeftRoom {
             room: EntryRoom::none(alloc),
             entries: 0,
+            expected: 0,
         }
     }
 
@@ -35,7 +38,13 @@ impl LeftRoom {
         Ok(LeftRoom {
             room: EntryRoom::new(alloc, most)?,
             entries: 0,
+            expected: 0,
         })
+    }
+
+    // Expects so many rows behind those that are done, each with an entry at so many pivots and at one that each of these rows may have.
+    pub(crate) fn expect(&mut self, rows: usize, pivots: usize) {
+        self.expected = rows.saturating_mul(pivots.saturating_add(rows));
     }
 
     // Counts the entries of so many rows more, each at so many pivots.
@@ -43,9 +52,9 @@ impl LeftRoom {
         self.entries = self.entries.saturating_add(rows.saturating_mul(pivots));
     }
 
-    // Writes to the memory of the entries that were counted.
+    // Writes to the memory of the entries that were counted and that are expected.
     pub(crate) fn write(&mut self) {
-        self.room.write(self.entries);
+        self.room.write(self.entries.saturating_add(self.expected));
     }
 
     // The memory itself.
