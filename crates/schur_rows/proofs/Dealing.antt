@@ -10,10 +10,10 @@ use Rattle.schur_rows.specs.declared.numbered_part.NumberedPart.{NumberedPart}
 use Rattle.schur_rows.proofs.Parting.{part_join}
 
 pub cut_none : {deal : Deal} → IsDeal deal → cut_at deal 0 ≡ deal.from
-cut_none {deal} h = omega (arith, h.order)
+cut_none {deal} h = h.cuts.first
 
 pub cut_all : {deal : Deal} → IsDeal deal → cut_at deal deal.count ≡ deal.to
-cut_all {deal} h = omega (arith, h.covered)
+cut_all {deal} h = h.cuts.last
 
 pub joined_part : (t : TriangleState) (deal : Deal) (j : ℕ) {made part new : SchurRows} → IsPartTo t deal.pass.kept deal.from (cut_at deal j) made → IsPartOf t deal j part → Joins part made new →
     IsPartTo t deal.pass.kept deal.from (cut_at deal (j + 1)) new

@@ -1,4 +1,5 @@
 pub mod Above
+pub mod Cuts
 pub mod Dealing
 pub mod Distinct
 pub mod FactorRows

@@ -1,5 +1,5 @@
 -- What workers make of a round: parts of the matrix, row by row.
-use Rattle.std.specs.Prelude.{◌≡◌, ◌<◌, ◌≤◌, ◌+◌, ◌*◌, ℕ, Bool, true, List, Result, Vec, All, Contains, length, min, IfOk}
+use Rattle.std.specs.Prelude.{◌≡◌, ◌<◌, ◌≤◌, ◌+◌, ◌*◌, ℕ, Bool, true, List, Result, Vec, All, Contains, length, slice_index, IfOk}
 use Rattle.std.specs.declared.alloc.Global.{Global}
 use Rattle.residue_words.specs.Matrix.{Matrix, IsMatrix, IsVector, row, zeros}
 use Rattle.residue_words.specs.Residues.{IsPrime}
@@ -95,7 +95,15 @@ pub record Joins (part old new : SchurRows) : Type 0 where
   pub coefficient_modulus : new.coefficients.modulus ≡ old.coefficients.modulus
   pub coefficients : new.coefficients.matrix ≡ above old.coefficients.matrix part.coefficients.matrix
 
--- the parts cover the rows from `from` up to `to`
+-- where so many parts of the rows from `from` up to `to` begin, one behind the other, and where the last one ends
+pub record AreCuts (from to count : ℕ) (cuts : List ℕ) : Type 0 where
+  pub long : length cuts ≡ count + 1
+  pub first : slice_index cuts 0 ≡ from
+  pub last : slice_index cuts count ≡ to
+  pub order : (j : ℕ) → j < count → slice_index cuts j ≤ slice_index cuts (j + 1)
+  pub inside : (j : ℕ) → j ≤ count → slice_index cuts j ≤ to
+
+-- the parts are those of the cuts
 pub record IsDeal (deal : Deal) : Type 0 where
   pub order : deal.from ≤ deal.to
   pub end : deal.to ≤ LARGEST_SIZE
@@ -104,12 +112,11 @@ pub record IsDeal (deal : Deal) : Type 0 where
   pub some : 1 ≤ deal.stage
   pub few_a_stage : deal.stage ≤ 512
   pub few : deal.count ≤ 4096
-  pub small : deal.size ≤ LARGEST_SIZE + 1
-  pub covered : deal.to ≤ deal.from + deal.count * deal.size
+  pub cuts : AreCuts deal.from deal.to deal.count deal.cuts.now
 
 -- where part j begins
 abbrev pub cut_at : Deal → ℕ → ℕ
-cut_at deal j = min deal.to (deal.from + j * deal.size)
+cut_at deal j = slice_index deal.cuts.now j
 
 -- part j
 abbrev pub IsPartOf : TriangleState → Deal → ℕ → SchurRows → Type 0

@@ -1,30 +1,31 @@
 // How the rows of a pass are dealt to workers.
-ghost use Rattle.std.specs.Prelude.{◌≡◌, ◌≤◌};
-ghost use Rattle.schur_rows.specs.Parts.{IsDeal, cut_at};
+ghost use Rattle.std.specs.Prelude.{◌≡◌, ◌≤◌, IfOk};
+ghost use Rattle.schur_rows.specs.Parts.{AreCuts, IsDeal, cut_at};
 
 use crate::pass::Pass;
+use std::alloc::{AllocError, Global};
 
-// The rows from `from` up to `to` in parts of so many rows each, the last ones shorter: so many parts, and so many of them a stage.
-// The workers take the parts of a stage as they become free.
+// The rows from `from` up to `to` in so many parts, which begin at these cuts: so many parts a stage, which the workers take as they
+// become free.
 #[derive(Clone, Copy, Debug)]
 pub(crate) struct Deal<'r, 't, 'a> {
     pub(crate) pass: Pass<'r, 't, 'a>,
     pub(crate) from: u32,
     pub(crate) to: u32,
-    pub(crate) size: usize,
+    pub(crate) cuts: &'r [u32],
     pub(crate) count: usize,
     pub(crate) stage: usize,
     pub(crate) workers: usize,
 }
 
 impl<'r, 't, 'a> Deal<'r, 't, 'a> {
-    // Where part j begins.
+    // Where part j begins, and the one before it ends.
     pub(crate) fn cut(&self, j: usize) -> u32
         requires deal { IsDeal self.now }
         requires part { j ≤ self.now.count }
         ensures { result ≡ cut_at self.now j }
     {
-        (self.to as usize).min(self.from as usize + j * self.size) as u32
+        self.cuts[j]
     }
 }
 
@@ -34,4 +35,46 @@ pub(crate) struct Stage {
     pub(crate) joined: usize,
     pub(crate) begun: usize,
     pub(crate) end: usize,
+}
+
+// Cuts of the rows from `from` up to `to` into so many parts, so many a stage. The parts of a stage become smaller one after another: of
+// n parts the k-th from the end has k times the rows of the last. So no worker waits long for the last part of another.
+pub(crate) fn cuts_between(
+    alloc: Global,
+    from: u32,
+    to: u32,
+    count: usize,
+    stage: usize,
+) -> Result<Vec<u32>, AllocError>
+    requires order { from ≤ to }
+    requires some { 1 ≤ count }
+    requires few { count ≤ 4096 }
+    requires some_a_stage { 1 ≤ stage }
+    requires few_a_stage { stage ≤ 512 }
+    ensures { IfOk result (λ cuts. AreCuts from to count cuts.items) }
+{
+    let all = (count / stage * (stage * (stage + 1) / 2)) as u64;
+    let mut cuts = Vec::with_capacity(alloc, count + 1)?;
+    cuts.push(from)?;
+    let mut last = from;
+    let mut passed: u64 = 0;
+    for number in 1..count {
+        passed = passed.saturating_add((stage - (number - 1) % stage) as u64);
+        last = cut_behind(from, to, last, passed, all);
+        cuts.push(last)?;
+    }
+    cuts.push(to)?;
+    Ok(cuts)
+}
+
+// The cut behind so many times the last part's rows, where all parts have so many times these; not before another cut.
+fn cut_behind(from: u32, to: u32, other: u32, passed: u64, all: u64) -> u32
+    requires order { from ≤ to }
+    requires other { other ≤ to }
+    ensures later { other ≤ result }
+    ensures inside { result ≤ to }
+{
+    let rows = u64::from(to - from).saturating_mul(passed) / all.max(1);
+    let cut = u64::from(from).saturating_add(rows);
+    cut.min(u64::from(to)).max(u64::from(other)) as u32
 }

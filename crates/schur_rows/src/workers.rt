@@ -6,7 +6,7 @@ ghost use Rattle.schur_rows.specs.Parts.{IsDeal, IsNumbered, IsPartOf, IsPartTo,
 ghost use Rattle.schur_rows.specs.PivotNumbers.{HasNumbers};
 ghost use Rattle.triangular_solve.specs.Reduced.{workspace_of};
 
-use crate::deal::{Deal, Stage};
+use crate::deal::{Deal, Stage, cuts_between};
 use crate::numbered_part::{NumberedPart, part_among};
 use crate::pass::Pass;
 use crate::pivot_numbers::PivotNumbers;
@@ -93,11 +93,12 @@ pub(crate) fn left_between<R: Threads + Sync>(
     let rows = pass.reducer.rows();
     let stage = PARTS * workers as usize;
     let count = stage * stages(share_of_rows(rows, pass.total, to - from));
+    let cuts = cuts_between(alloc, from, to, count, stage)?;
     let deal = Deal {
         pass,
         from,
         to,
-        size: (to - from) as usize / count + 1,
+        cuts: &cuts,
         count,
         stage,
         workers: workers as usize,
