@@ -7,7 +7,7 @@ use borrow.Rule.Slice.PartMut.{put_mid}
 use Rattle.residue_words.specs.Matrix.{IsVector}
 use Rattle.dense_finish.specs.Block.{block_row}
 use Rattle.dense_finish.specs.Panel.{PanelReduces, PanelReducesEach, PanelRows}
-use Rattle.dense_finish.specs.Pieces.{ArePut, AreReducible, IsInPieces, IsPieceOf, IsReducedPiece, LiesIn, PlacedRows}
+use Rattle.dense_finish.specs.Pieces.{ArePut, AreReducible, IsInPieces, IsPieceOf, IsReducedPiece, LiesIn, RowsFrom}
 use Rattle.dense_finish.specs.Units.{FoundPanel}
 use Rattle.dense_finish.proofs.BlockRows.{put_row_at, put_row_below}
 
@@ -16,7 +16,7 @@ pub part_long : (a k : ℕ) (rows : List (List ℕ)) → a + k ≤ length rows �
 part_long a k rows within = length-take-le k (drop a rows) (omega (arith, length-drop a rows))
 
 -- the rows up to the end of a piece that is put
-pub piece_put : {pieces : List PlacedRows} {piece : PlacedRows} (rows : List (List ℕ)) (a k : ℕ) → Contains pieces piece → piece.start ≡ a → a + k ≤ length rows → length piece.rows ≡ k →
+pub piece_put : {pieces : List RowsFrom} {piece : RowsFrom} (rows : List (List ℕ)) (a k : ℕ) → Contains pieces piece → piece.start ≡ a → a + k ≤ length rows → length piece.rows ≡ k →
     ((t : ℕ) → t < a → IsInPieces pieces t (block_row rows t)) → (t : ℕ) → t < a + k → IsInPieces pieces t (block_row (put_mid a k rows piece.rows) t)
 piece_put {pieces} {piece} rows a k there start within long done t l = elim (cases_lt t a) [
   | inl before ↦ subst (IsInPieces pieces t) (sym (put_row_below a k rows piece.rows t (omega arith) before)) (done t before)
@@ -33,7 +33,7 @@ piece_put {pieces} {piece} rows a k there start within long done t l = elim (cas
 ]
 
 -- a piece of reducible rows is reducible, and what is left of it is that of the rows
-pub piece_reducible : {p : ℕ} {found : FoundPanel} {block : List (List ℕ)} {piece : PlacedRows} → IsPieceOf block piece → AreReducible p found block → AreReducible p found piece.rows
+pub piece_reducible : {p : ℕ} {found : FoundPanel} {block : List (List ℕ)} {piece : RowsFrom} → IsPieceOf block piece → AreReducible p found block → AreReducible p found piece.rows
 piece_reducible {p} {found} {block} {piece} of_block ready = record {
   vectors = λ t l.
       let less : piece.start + t < length block = omega (arith, of_block.inside) in
@@ -42,7 +42,7 @@ piece_reducible {p} {found} {block} {piece} of_block ready = record {
   units = ready.units;
 }
 
-pub piece_reduced : {p : ℕ} {panel : PanelRows} {block : List (List ℕ)} (piece left : PlacedRows) → IsPieceOf block piece → left.start ≡ piece.start → length left.rows ≡ length piece.rows →
+pub piece_reduced : {p : ℕ} {panel : PanelRows} {block : List (List ℕ)} (piece left : RowsFrom) → IsPieceOf block piece → left.start ≡ piece.start → length left.rows ≡ length piece.rows →
     PanelReducesEach p panel piece.rows left.rows → IsReducedPiece p panel block left
 piece_reduced {p} {panel} {block} piece left of_block start long reduced = record {
   inside = omega (arith, start, long, of_block.inside);
@@ -53,10 +53,10 @@ piece_reduced {p} {panel} {block} piece left of_block start long reduced = recor
 }
 
 -- pieces of a block lie in it, and put there they are what is left of the block
-pub pieces_lie : {p : ℕ} {panel : PanelRows} {block : List (List ℕ)} (height : ℕ) (pieces : List PlacedRows) → height ≡ length block → All (IsReducedPiece p panel block) pieces → All (LiesIn height) pieces
+pub pieces_lie : {p : ℕ} {panel : PanelRows} {block : List (List ℕ)} (height : ℕ) (pieces : List RowsFrom) → height ≡ length block → All (IsReducedPiece p panel block) pieces → All (LiesIn height) pieces
 pieces_lie {p} {panel} {block} height pieces same each = All-weaker (IsReducedPiece p panel block) (LiesIn height) (λ piece made. subst (λ n. LiesIn n piece) (sym same) made.inside) pieces each
 
-pub put_reduced : {p : ℕ} {panel : PanelRows} {block : List (List ℕ)} (pieces : List PlacedRows) (rows : List (List ℕ)) → All (IsReducedPiece p panel block) pieces → length rows ≡ length block → ArePut pieces rows →
+pub put_reduced : {p : ℕ} {panel : PanelRows} {block : List (List ℕ)} (pieces : List RowsFrom) (rows : List (List ℕ)) → All (IsReducedPiece p panel block) pieces → length rows ≡ length block → ArePut pieces rows →
     PanelReducesEach p panel block rows
 put_reduced {p} {panel} {block} pieces rows each long put = λ t l.
     let row = put t (omega (arith, long)) in

@@ -11,7 +11,7 @@ use lib.ListN.{get_elem?}
 use Rattle.crossbeam_queue.specs.Fifo.{Forks, Pops, Pushes}
 use Rattle.crossbeam_queue.proofs.Lists.{at_set, at_snoc, set_again}
 use Rattle.dense_finish.specs.Block.{block_row}
-use Rattle.dense_finish.specs.Pieces.{IsPieceOf, PlacedRows}
+use Rattle.dense_finish.specs.Pieces.{IsPieceOf, RowsFrom}
 use Rattle.dense_finish.specs.SharedPieces.{ArePieces, known}
 use Rattle.dense_finish.specs.declared.shared_pieces.Known.{Known}
 
@@ -29,7 +29,7 @@ begins = record {
 }
 
 -- a piece of some rows is one of them and of what is put behind them
-piece_kept : (rows more : List (List ℕ)) (piece : PlacedRows) → IsPieceOf rows piece → IsPieceOf (rows ++ more) piece
+piece_kept : (rows more : List (List ℕ)) (piece : RowsFrom) → IsPieceOf rows piece → IsPieceOf (rows ++ more) piece
 piece_kept rows more piece h =
     let all = length-append rows more in
     let inside = h.inside in
@@ -39,7 +39,7 @@ piece_kept rows more piece h =
     }
 
 -- what is put behind some rows is a piece
-piece_behind : (rows : List (List ℕ)) (piece : PlacedRows) → piece.start ≡ length rows → IsPieceOf (rows ++ piece.rows) piece
+piece_behind : (rows : List (List ℕ)) (piece : RowsFrom) → piece.start ≡ length rows → IsPieceOf (rows ++ piece.rows) piece
 piece_behind rows piece start =
     let all = length-append rows piece.rows in
     let a : ℕ = piece.start in
@@ -49,7 +49,7 @@ piece_behind rows piece start =
     }
 
 -- who is alone puts the next piece
-pub puts : (n port : ℕ) (v : Known) (x : PlacedRows) → v.alone ≡ true → x.start ≡ length v.rows →
+pub puts : (n port : ℕ) (v : Known) (x : RowsFrom) → v.alone ≡ true → x.start ≡ length v.rows →
     Pushes ArePieces n port v x (λ w. w ≡ known v.alone (v.rows ++ x.rows))
 puts n port v x alone start items views _ h at =
     let w : Known = known v.alone (v.rows ++ x.rows) in

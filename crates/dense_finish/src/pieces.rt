@@ -28,7 +28,7 @@ const LEAST_ROWS: usize = 16;
 // Between these, a piece has one of so many equal shares of the rows left.
 const SHARES: usize = 16;
 
-// Some rows one behind the other, and the place of the first of them in a block. Contracts see them as `PlacedRows`.
+// Some rows one behind the other, and the place of the first of them in a block. Contracts see them as `RowsFrom`.
 #[derive(Drop)]
 pub(crate) struct Piece<W: Residue> {
     pub(crate) start: usize,
@@ -36,9 +36,9 @@ pub(crate) struct Piece<W: Residue> {
 }
 
 impl<W: Residue> Model for Piece<W> {
-    ghost use Rattle.dense_finish.specs.Pieces.{PlacedRows};
+    ghost use Rattle.dense_finish.specs.Pieces.{RowsFrom};
 
-    ghost Value = { PlacedRows };
+    ghost Value = { RowsFrom };
 
     ghost view = { λ piece. record { start = piece.start; rows = piece.rows.items } };
 }

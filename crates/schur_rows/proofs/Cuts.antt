@@ -3,10 +3,10 @@ use Rattle.std.proofs.Common.{ℕ, ◌≡◌, ◌+◌, ◌<◌, ◌≤◌, ◌�
 use Rattle.std.proofs.Math.ListN.{get_or-append}
 use Rattle.std.proofs.Math.Seq.{get_or-append_seam}
 use Rattle.std.proofs.lemmas.Bool.{cases_eq}
-use Rattle.schur_rows.specs.Parts.{AreCuts}
+use Rattle.schur_rows.specs.Parts.{ArePartCuts}
 
 -- where the first part begins
-pub cuts_begin : (from : ℕ) (cuts : List ℕ) → cuts ≡ from ∷ [] → AreCuts from from 0 cuts
+pub cuts_begin : (from : ℕ) (cuts : List ℕ) → cuts ≡ from ∷ [] → ArePartCuts from from 0 cuts
 cuts_begin from cuts is = rw is record {
   long = refl;
   first = refl;
@@ -16,7 +16,7 @@ cuts_begin from cuts is = rw is record {
 }
 
 -- a cut behind them
-pub cuts_more : {from last count : ℕ} {old cuts : List ℕ} (next : ℕ) → AreCuts from last count old → last ≤ next → cuts ≡ old ++ next ∷ [] → AreCuts from next (count + 1) cuts
+pub cuts_more : {from last count : ℕ} {old cuts : List ℕ} (next : ℕ) → ArePartCuts from last count old → last ≤ next → cuts ≡ old ++ next ∷ [] → ArePartCuts from next (count + 1) cuts
 cuts_more {from} {last} {count} {old} {cuts} next h later is = rw is record {
   long = length-append old (next ∷ []) ∙ omega (arith, h.long);
   first = before 0 (omega arith) ∙ h.first;

@@ -96,7 +96,7 @@ pub record Joins (part old new : SchurRows) : Type 0 where
   pub coefficients : new.coefficients.matrix ≡ above old.coefficients.matrix part.coefficients.matrix
 
 -- where so many parts of the rows from `from` up to `to` begin, one behind the other, and where the last one ends
-pub record AreCuts (from to count : ℕ) (cuts : List ℕ) : Type 0 where
+pub record ArePartCuts (from to count : ℕ) (cuts : List ℕ) : Type 0 where
   pub long : length cuts ≡ count + 1
   pub first : slice_index cuts 0 ≡ from
   pub last : slice_index cuts count ≡ to
@@ -112,7 +112,7 @@ pub record IsDeal (deal : Deal) : Type 0 where
   pub some : 1 ≤ deal.stage
   pub few_a_stage : deal.stage ≤ 512
   pub few : deal.count ≤ 4096
-  pub cuts : AreCuts deal.from deal.to deal.count deal.cuts.now
+  pub cuts : ArePartCuts deal.from deal.to deal.count deal.cuts.now
 
 -- where part j begins
 abbrev pub cut_at : Deal → ℕ → ℕ

@@ -1,6 +1,6 @@
 // How the rows of a pass are dealt to workers.
 ghost use Rattle.std.specs.Prelude.{◌≡◌, ◌≤◌, IfOk};
-ghost use Rattle.schur_rows.specs.Parts.{AreCuts, IsDeal, cut_at};
+ghost use Rattle.schur_rows.specs.Parts.{ArePartCuts, IsDeal, cut_at};
 
 use crate::pass::Pass;
 use std::alloc::{AllocError, Global};
@@ -51,7 +51,7 @@ pub(crate) fn cuts_between(
     requires few { count ≤ 4096 }
     requires some_a_stage { 1 ≤ stage }
     requires few_a_stage { stage ≤ 512 }
-    ensures { IfOk result (λ cuts. AreCuts from to count cuts.items) }
+    ensures { IfOk result (λ cuts. ArePartCuts from to count cuts.items) }
 {
     let all = (count / stage * (stage * (stage + 1) / 2)) as u64;
     let mut cuts = Vec::with_capacity(alloc, count + 1)?;
