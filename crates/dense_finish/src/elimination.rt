@@ -34,6 +34,10 @@ use std::thread::{Threads, join_mut};
 // How many of a panel's rows are reduced by one another one by one, before their pivots are taken out of the others at once.
 const PART: usize = 16;
 
+// For how many rows ahead the memory of the left factor is written to. In the last panels a worker has less to do than the one who writes
+// to a panel's share of it: so it is written to while they take long.
+const AHEAD: usize = 16 * PANEL;
+
 // What stays the same during an elimination: the columns of the matrix that the block's stand for, the modulus, and the number of
 // workers.
 #[derive(Clone, Copy)]
@@ -149,7 +153,7 @@ impl<'a> Elimination<'a> {
                 end: self.panel_end(done, block.len()),
             };
             let size = rows.end - rows.start;
-            left.expect(size, pivots.rows.len());
+            left.expect((block.len() - done).min(AHEAD), pivots.rows.len());
             found = self.next_panel(rt, &found, rows, &mut pivots, block, left)?;
             left.count(size, pivots.rows.len());
             done = rows.end;

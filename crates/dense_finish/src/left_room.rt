@@ -1,5 +1,6 @@
 // Memory for the entries of a left factor.
 use crate::block::Block;
+use crate::panel::PANEL;
 use crate::pivots::room_for;
 use crate::residue::Residue;
 use sparse_rows::EntryRoom;
@@ -12,7 +13,7 @@ pub(crate) struct LeftRoom {
     room: EntryRoom,
     // How many entries the rows that are done may have.
     entries: usize,
-    // And those that are being eliminated.
+    // And those that come next.
     expected: usize,
 }
 
@@ -42,9 +43,11 @@ impl LeftRoom {
         })
     }
 
-    // Expects so many rows behind those that are done, each with an entry at so many pivots and at one that each of these rows may have.
+    // Expects so many rows behind those that are done: each with an entry at so many pivots and at one of each row before it and in its
+    // panel, so on average at half as many more as there are rows.
     pub(crate) fn expect(&mut self, rows: usize, pivots: usize) {
-        self.expected = rows.saturating_mul(pivots.saturating_add(rows));
+        let more = rows.saturating_add(PANEL) / 2;
+        self.expected = rows.saturating_mul(pivots.saturating_add(more));
     }
 
     // Counts the entries of so many rows more, each at so many pivots.
