@@ -181,7 +181,7 @@ fn next_stage<R: Threads + Sync>(
 }
 
 // Joins the parts of the stage before, and then makes parts of the next as the other workers do. Between, it writes to the memory that
-// these parts will be joined in, since the others would wait for that behind the last stage.
+// these parts will be joined in, where they are as full as those before: the others would wait for that behind the last stage.
 fn join_and_go_on(
     alloc: Global,
     deal: Deal,
@@ -202,16 +202,11 @@ fn join_and_go_on(
         deal.entry.from (cut_at deal.entry stage.begun) made.new) }
 {
     join_parts(alloc, deal, stage.joined, stage.begun, parts, made)?;
-    let to_come = entries_to_come(made, stage);
-    made.rows.write_ahead(to_come);
+    let to_come = deal.cut(stage.end).saturating_sub(deal.cut(stage.begun));
+    let entries = share_of_rows(&made.rows, made.rows.entries(), to_come);
+    made.rows.write_ahead(entries);
     let own = parts_of_worker(alloc, deal, stage.end, next)?;
     Ok(own)
-}
-
-// About how many entries the parts of a stage have, as the parts before it tell; none where there are none before.
-fn entries_to_come(made: &SchurRows, stage: Stage) -> usize {
-    let each = made.rows.entries() / stage.begun.max(1) as u64;
-    (each as usize).saturating_mul(stage.end.saturating_sub(stage.begun))
 }
 
 // The parts below `end` that so many workers make.
