@@ -194,6 +194,26 @@ left_pivot {t} {kept} {i} {k} {p} {qs} {R} {old} {new} same value two tri pairs 
       added = added;
     }
 
+-- where the coefficients aren't kept, nothing is told of a pivot's row
+pub left_none : {t : TriangleState} {kept : Bool} {i k p : ℕ} {qs : List Pair} {R : ResidueMatrix} {old new : SchurRows} → kept ≡ false → R ≡ t.rows → p ≡ R.modulus → 2 ≤ p → qs ≡ t.pairs →
+    IsRowOfPair qs i k → MayTakeRow t old → AddsZeros 1 old new → AddsLeft t kept i old new
+left_none {t} {kept} {i} {k} {p} {qs} {R} {old} {new} off same value two pairs here room added =
+    let m : ℕ = t.rows.modulus in
+    let big : 2 ≤ m = omega (arith, value, ap (λ (R : ResidueMatrix). R.modulus) same) in
+    let at : IsRowOfPair t.pairs i k = subst (λ qs. IsRowOfPair qs i k) pairs here in
+    record {
+      left = record { rest = zeros old.rows.matrix.width; coefficients = zeros old.coefficients.matrix.width };
+      rest = subst (λ n. IsVector m n (zeros old.rows.matrix.width)) room.width (zeros_vector m old.rows.matrix.width (omega arith));
+      coefficients = subst (λ r. IsVector m r (zeros old.coefficients.matrix.width)) room.coefficient_width (zeros_vector m old.coefficients.matrix.width (omega arith));
+      is_row = record {
+        nothing = λ w. ap zeros room.width;
+        itself = λ e. absurd (let f : true ≡ false = sym e ∙ off in cc);
+        left = λ prime none. absurd (none (k, at.0, at.1));
+        split = λ e. absurd (let f : true ≡ false = sym e ∙ off in cc);
+      };
+      added = record { modulus = added.modulus; rows = added.rows; coefficient_modulus = added.coefficient_modulus; coefficients = added.coefficients };
+    }
+
 -- by the call that keeps the coefficients
 pub left_kept : {t : TriangleState} {kept : Bool} {i : ℕ} {R : ResidueMatrix} {qs : List Pair} {cols vals : List ℕ} {r : Reduced} {old new : SchurRows} → R ≡ t.rows → IsMatrix R.modulus R.matrix → i < t.rows.matrix.height →
     cols ≡ support (row R.matrix i) → vals ≡ nonzeros (row R.matrix i) → qs ≡ t.pairs → ¬ IsPivotRow qs i → FitsReduced t r →

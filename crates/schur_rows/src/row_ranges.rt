@@ -181,7 +181,11 @@ fn append_left(
     let cols = rows.cols(i);
     let vals = rows.vals(i);
     if let Some(k) = pass.pivot_rows.find(i, reducer.pairs()) {
-        append_pivot(alloc, k, part)?;
+        if pass.kept {
+            append_pivot(alloc, k, part)?;
+            return Ok(());
+        }
+        append_zeros(part, 1)?;
         return Ok(());
     }
     if pass.kept {
