@@ -45,7 +45,7 @@ impl Worker {
         Ok(())
     }
 
-    // TakesNumber questions and answers them, until none is left. Where memory is refused it leaves its question, and all further ones.
+    // Takes questions and answers them, until none is left. Where memory is refused it leaves its question, and all further ones.
     pub(crate) fn run<R: Wait, W: Watch>(
         &mut self,
         rt: &R,

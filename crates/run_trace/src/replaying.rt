@@ -83,7 +83,7 @@ fn are_lawful<L: Ledger>(
     true
 }
 
-// TriesPair a pair to a walk over these columns alone, if it is alive. Answers whether it is.
+// Appends a pair to a walk over these columns alone, if it is alive. Answers whether it is.
 fn append_named<L: Ledger>(
     rows: &Rows,
     columns: &[u32],
@@ -120,7 +120,7 @@ fn append_named<L: Ledger>(
     }
 }
 
-// TriesPair a pair, if it is alive, with a walk from its row. Answers whether it is.
+// Appends a pair, if it is alive, with a walk from its row. Answers whether it is.
 fn append<L: Ledger>(walk: &mut Walk, pair: Pair, steps: &mut Steps<L>) -> bool
     requires row { pair.row < walk.old.rows.matrix.height }
     requires col { pair.col < walk.old.rows.matrix.width }

@@ -20,7 +20,8 @@ use std::marker::Model;
 
 // The rows of pivots, upper triangular: their columns are numbered by an order that begins with the pivots' columns. So a row of
 // sums is reduced from its first entry on, and nothing is looked up. Contracts see this matrix, and the columns for which its columns
-// stand. It takes 12 bytes an entry, 16 bytes a pivot, and at most 12 bytes a column.
+// stand. It takes 12 bytes an entry, 16 bytes a pivot, 12 bytes a column, and 4 for each column of the matrix where these are more than
+// a 64th of them.
 #[derive(Debug, Drop)]
 pub(crate) struct PivotRows {
     rows: Rows,

@@ -24,7 +24,8 @@ use std::marker::Model;
 
 /// Pivots of a lent matrix in triangular order: again and again the pair in whose column no other pair that is left has an
 /// entry, of these the one of the least column. So the row of each pair is 0 in the columns of the pairs before it. It takes
-/// 16 bytes a pair, and for a copy of the pivots' rows 12 bytes an entry and 8 a column in which they have one.
+/// 24 bytes a pair, for a copy of the pivots' rows 12 bytes an entry and 12 a column in which they have one, and 4 for each column
+/// of the matrix where these are more than a 64th of them.
 #[derive(Debug, Drop)]
 pub struct Triangle<'a> {
     rows: &'a Rows,
