@@ -67,7 +67,7 @@ AreFoundIn words limit input (Ok replies) = IsBatchAnswered words limit input (r
 AreFoundIn words limit input (Err s) = HasNoBatchAnswer words limit input s
 
 -- The replies that were found for these words, or why there are none, in the input that was taken from a source, of which nothing was asked
--- before; no more was taken than was needed.
+-- before; the last pull of it was needed.
 pub record WereFound (words : List (List ℕ)) (limit : ℕ) (result : Result (Vec Reply Global) BatchStatus)
     (old new : SourceState) : Type 0 where
   pub input : Input

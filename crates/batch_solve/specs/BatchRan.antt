@@ -99,8 +99,8 @@ pub record CompletesBatch (r : Run) (s : BatchStatus) : Type 0 where
       HasContents (batch_request c r.limit) (whole_input bytes) said → batch_misfit said.matrices ≡ None →
       ¬ Rose r.out.faults r.out_after.faults → IsThisOrMemory status.Done s
 
--- What a batch did: it took this input from the source, which failed only where the status says so, and no more than was needed; its
--- status has a cause; and it came to what it had to.
+-- What a batch did: it took this input from the source, which failed only where the status says so, and needed the last pull of it;
+-- its status has a cause; and it came to what it had to.
 pub record BatchRan (r : Run) (s : BatchStatus) : Type 0 where
   pub input : Input
   pub draws : Draws (AreTooFewForBatch r.words r.limit) (is_read_fault s) input.bytes

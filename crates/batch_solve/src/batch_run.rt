@@ -35,10 +35,11 @@ pub fn at_most_one_batch_answer()
 /// `solve` writes for A and each b to `out`, in their order, all at once and only if all went well. Where it did not, one line that
 /// says why goes to `err`.
 ///
-/// A is prepared once. Words that aren't accepted are refused before anything is read. The source is read up to the closing line of
-/// the last text and no further, in at most `LARGEST_INPUT` bytes, and the first faulty line is named. Memory is wanted for the texts,
-/// for what A is prepared to, and for the replies; none for writing. `rt` starts the threads of the workers, who take the right-hand
-/// sides at a desk, and `watch` is called where they do. It may wait: that it returns isn't claimed.
+/// A is prepared once. Words that aren't accepted are refused before anything is read. The source is read no further than the pull,
+/// of at most 65536 bytes, in which the closing line of the last text ends. The lines may have `LARGEST_INPUT` bytes, and the first
+/// faulty one is named. Memory is wanted for the texts, for what A is prepared to, and for the replies; none for writing. `rt` starts
+/// the threads of the workers, who take the right-hand sides at a desk, and `watch` is called where they do. It may wait: that it
+/// returns isn't claimed.
 pub fn run_batch<'a, R: Threads + Wait + Sync, S: Source, K: Sink, E: Sink, W: Watch>(
     rt: &R,
     alloc: Global,

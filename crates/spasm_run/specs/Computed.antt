@@ -122,7 +122,7 @@ IsFoundIn words limit input (Ok a) = IsAnswered words limit input (answer_text a
 IsFoundIn words limit input (Err s) = HasNoAnswer words limit input s
 
 -- The answer that was found for these words, or why there is none, in the input that was taken from a source, of which nothing was asked
--- before; no more was taken than was needed.
+-- before; the last pull of it was needed.
 pub record WasFound (words : List (List ℕ)) (limit : ℕ) (result : Result Answer Status)
     (old new : SourceState) : Type 0 where
   pub input : Input

@@ -35,7 +35,7 @@ SaysContents r input (Ok said) = HasContents r input said
 SaysContents r input (Err e) = Says (Err e) (reading r input.ended input.bytes)
 
 -- What was asked for was read from a source, of which nothing was asked before: the input that was taken says so. It was not read for a
--- failure exactly where the source failed, and no more was taken than was needed.
+-- failure exactly where the source failed, and the last pull was needed.
 pub record WasRead (r : Request) (result : Result Contents TextError)
     (old new : SourceState) : Type 0 where
   pub input : Input

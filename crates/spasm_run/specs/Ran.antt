@@ -112,8 +112,8 @@ pub record Completes (r : Run) (s : Status) : Type 0 where
       HasContents (request c r.limit) (whole_input bytes) said → misfit c.task said.matrices ≡ None →
       ¬ Rose r.out.faults r.out_after.faults → EndsOrMemory c said s
 
--- What a run did: it took this input from the source, which failed only where the status says so, and no more than was needed; its
--- status has a cause; and it came to what it had to.
+-- What a run did: it took this input from the source, which failed only where the status says so, and needed the last pull of it;
+-- its status has a cause; and it came to what it had to.
 pub record Ran (r : Run) (s : Status) : Type 0 where
   pub input : Input
   pub draws : Draws (AreTooFew r.words r.limit) (is_unread s) input.bytes

@@ -23,9 +23,10 @@ use std::thread::Threads;
 /// Runs the command that the words ask for: reads its matrices from the source, and writes its answer to `out`, all at once and only if all
 /// went well. Where it did not, one line that says why goes to `err`.
 ///
-/// Words that aren't accepted are refused before anything is read, and nothing is read for a matrix that is generated. A source is read up
-/// to the last line that is wanted and no further, in at most `LARGEST_INPUT` bytes, and the first faulty line is named. Memory is wanted for
-/// the entries, at most 40 bytes each while they are read, for the rows, and for the echelon forms and what is made of them; none for writing.
+/// Words that aren't accepted are refused before anything is read, and nothing is read for a matrix that is generated. A source is read no
+/// further than the pull, of at most 65536 bytes, in which the last line that is wanted ends. The lines may have `LARGEST_INPUT` bytes, and
+/// the first faulty one is named. Memory is wanted for the entries, at most 40 bytes each while they are read, for the rows, and for the
+/// echelon forms and what is made of them; none for writing.
 /// `rt` starts the threads of a command's workers, and `gate` serves their searches for pivots.
 pub fn run<'a, R: Threads + Sync, S: Source, K: Sink, E: Sink, G: Gate>(
     rt: &R,
