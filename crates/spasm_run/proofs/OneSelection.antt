@@ -80,5 +80,5 @@ pivots_answer a c first all listed pairs rows leftmost same begins maximal greed
       small = small_places A pairs.items ordered.triangular high wide;
       fits = refl;
       ends = refl;
-      answers = λ prime. (pairs.items, selected A c.workers first.pairs all.pairs pairs.items leftmost begins most ordered first_most, refl);
+      answers = λ any. (pairs.items, selected A c.workers first.pairs all.pairs pairs.items leftmost begins most ordered first_most, refl);
     }

@@ -123,8 +123,10 @@ AnswerTo task c said text = MatricesAnswer task c said.matrices text
 abbrev pub AnswerOf : Command → Contents → List ℕ → Type 0
 AnswerOf c said text = AnswerTo c.task c said text
 
--- what an answer rests on: that the modulus is prime; traces, and whether a certificate is valid or a trace lawful, are told for every modulus
+-- what an answer rests on: that the modulus is prime; pivots, traces, and whether a certificate is valid or a trace lawful, are told for
+-- every modulus
 abbrev pub RestsOn : Task → ℕ → Type 0
+RestsOn Pivots p = Unit {0}
 RestsOn Check p = Unit {0}
 RestsOn Trace p = Unit {0}
 RestsOn Replay p = Unit {0}
