@@ -101,7 +101,8 @@ abbrev pub whole_input : List ℕ → Input
 whole_input bytes = record { bytes = bytes; ended = true }
 
 -- What a run comes to if memory isn't wanted: words that aren't accepted are refused; of a whole input the first fault is named, matrices
--- of wrong shapes are refused, and what fits is answered, unless the output fails: with Done, or with No for a certificate that isn't valid.
+-- of wrong shapes are refused, and what fits is answered, unless the output fails: with Done, or with No for a certificate that isn't valid
+-- or a trace that isn't lawful.
 pub record Completes (r : Run) (s : Status) : Type 0 where
   pub usage : AreRefused r.words → IsOrMemory status.Usage s
   pub fault : (c : Command) (bytes : List ℕ) (line : ℕ) (k : Kind) → IsOffered r c bytes →

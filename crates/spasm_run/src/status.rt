@@ -12,7 +12,7 @@ use std::fmt::{self, Display, Formatter};
 pub enum Status {
     /// The answer was written.
     Done,
-    /// The answer was written, and it is that a certificate isn't valid.
+    /// The answer was written, and it is that a certificate isn't valid or a trace isn't lawful.
     No,
     /// The words aren't accepted.
     Usage,
