@@ -124,6 +124,16 @@ module _ (leads : List ℕ) (rising : (s t : ℕ) → s < t → t < length leads
   pub free_found : (n : ℕ) → ((t : ℕ) → t < length leads → slice_index leads t < n) → (free : List ℕ) × AreFree n leads free
   free_found n inside = let (k, free, s) = found_so_far n in (free, all_columns leads n k free rising s inside)
 
+-- where there are as many leads as columns, none of these is free
+pub none_free : (n f : ℕ) (leads : List ℕ) → ((t : ℕ) → t < length leads → slice_index leads t < n) → ((s t : ℕ) → s < t → t < length leads → slice_index leads s < slice_index leads t) →
+    length leads ≡ n → f < n → ((k : ℕ) → k < length leads → slice_index leads k ≢ f) → ⊥
+none_free n f leads inside rising full l none =
+    let (free, c) = free_found leads rising n inside in
+    elim (c.each f l) [
+      | inl w ↦ none w.0 w.1 w.2
+      | inr w ↦ omega (arith, w.1, c.long)
+    ]
+
 -- the first column that is no lead is the first of the free ones
 pub first_of_free : (n f : ℕ) (leads free : List ℕ) → AreFree n leads free → f < n → ((k : ℕ) → k < f → slice_index leads k ≡ k) → f ≤ length leads →
     ((k : ℕ) → k < length leads → slice_index leads k ≢ f) → (0 < length free) × (slice_index free 0 ≡ f)

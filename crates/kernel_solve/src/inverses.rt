@@ -1,7 +1,7 @@
 // Inverses.
 ghost use Rattle.std.specs.Prelude.{◌≡◌, ◌<◌, ◌≤◌, ◌+◌, ◌*◌, ◌-◌, ◌↔◌, ℕ, length, slice_index, IfOk, IfSome, OnOk, IsTrue};
 ghost use Rattle.residue_words.specs.Residues.{IsPrime};
-ghost use Rattle.residue_words.specs.Matrix.{Matrix, IsMatrix, entry, list_of, row};
+ghost use Rattle.residue_words.specs.Matrix.{Matrix, IsMatrix, entry, list_of, row, zeros};
 ghost use Rattle.sparse_rows.specs.declared.rows.TheConstants.{LARGEST_SIZE};
 ghost use Rattle.sparse_rows.specs.Rows.{beside, identity, matrix_by};
 ghost use Rattle.row_space.specs.Kernel.{IsKernel};
@@ -160,6 +160,8 @@ pub fn null_row(alloc: Global, form: &Echelon) -> Result<Rows, AllocError>
     ensures width { IfOk result (λ v. v.matrix.width ≡ form.now.matrix.width) }
     ensures first { IfOk result (λ v. (p : ℕ) (A : Matrix) → IsPrime p → IsFormOf p A form.now
         → (K : Matrix) × IsKernel p A K × (0 < K.height → row v.matrix 0 ≡ row K 0)) }
+    ensures none { IfOk result (λ v. form.now.matrix.height ≡ form.now.matrix.width
+        → row v.matrix 0 ≡ zeros form.now.matrix.width) }
 {
     // The call's contract tells how wide a matrix is.
     let _ = form.rows().width();
@@ -174,6 +176,8 @@ fn first_basis_row(alloc: Global, form: &Echelon) -> Result<Sparse, AllocError>
     ensures length { IfOk result (λ v. length v.row ≡ form.now.matrix.width) }
     ensures first { IfOk result (λ v. (p : ℕ) (A : Matrix) → IsPrime p → IsFormOf p A form.now
         → (K : Matrix) × IsKernel p A K × (0 < K.height → v.row ≡ row K 0)) }
+    ensures none { IfOk result (λ v. form.now.matrix.height ≡ form.now.matrix.width
+        → v.row ≡ zeros form.now.matrix.width) }
 {
     let rows = form.rows();
     let leads = form.leads();

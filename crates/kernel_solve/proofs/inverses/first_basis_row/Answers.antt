@@ -1,10 +1,11 @@
 use Rattle.std.proofs.Common.{ℕ, ◌≡◌, ◌≢◌, ◌<◌, ◌∙◌, List, ap, arith, length, slice_index, subst, sym}
+use Rattle.residue_words.specs.Matrix.{zeros}
 use Rattle.sparse_rows.specs.Rows.{nonzeros, support}
 use Rattle.sparse_rows.proofs.Loops.{length_zeros, zero_at}
 use Rattle.kernel_solve.specs.Column.{column_at}
 use Rattle.kernel_solve.specs.ReadOff.{IsBasisRow}
 use Rattle.kernel_solve.proofs.Basis.{basis_exists, basis_kernel, column_sparse, column_spread, first_row, leads_before, no_row, row_given}
-use Rattle.kernel_solve.proofs.Free.{rising_bound}
+use Rattle.kernel_solve.proofs.Free.{none_free, rising_bound}
 use Rattle.kernel_solve.proofs.inverses.first_basis_row.Goals as goal
 
 pub first_free-f-requires-clause-small : goal.first_free-f-requires-clause-small
@@ -33,6 +34,9 @@ returns-then-width-f-clause-first c = λ p A prime given.
           (omega (arith, c.first_free-f.ensures.few, ap length c.leads-leads.ensures.value))
           (λ k l. ap (λ xs. slice_index xs k) (sym c.leads-leads.ensures.value) ∙ c.first_free-f.ensures.before k l) some),
     )
+
+pub returns-then-width-f-clause-none : goal.returns-then-width-f-clause-none
+returns-then-width-f-clause-none c = λ full. c.new-first.ensures.row ∙ ap zeros (c.width.ensures.value ∙ ap (λ m. m.width) c.rows-rows.ensures.matrix)
 
 -- no row leads at a column, by what is told of the leads
 free_told : (leads told : List ℕ) (f : ℕ) → told ≡ leads → ((k : ℕ) → k < length told → slice_index told k ≢ f) → (k : ℕ) → k < length leads → slice_index leads k ≢ f
@@ -105,3 +109,14 @@ returns-clause-first c = λ p A prime given.
           (omega (arith, c.first_free-f.ensures.few, ap length c.leads-leads.ensures.value))
           (λ k l. ap (λ xs. slice_index xs k) (sym c.leads-leads.ensures.value) ∙ c.first_free-f.ensures.before k l) free long made,
     )
+
+pub returns-clause-none : goal.returns-clause-none
+returns-clause-none c = λ full.
+    let form = c.args.form.now in
+    let sound = c.leads-leads.ensures.sound in
+    let f : ℕ = c.first_free-f.result in
+    let inside : f < form.matrix.width = omega (arith, c.if-width-f.false, c.width-2.ensures.value, ap (λ m. m.width) c.rows-rows.ensures.matrix) in
+    absurd (none_free form.matrix.width f form.leads
+    (λ k l. sound.leads.1.inside k (omega (arith, sound.rank))) (λ k t a b. sound.leads.1.rising k t a (omega (arith, sound.rank)))
+    (sound.rank ∙ full) inside
+    (free_told form.leads c.leads-leads.result.now f c.leads-leads.ensures.value c.first_free-f.ensures.free))
