@@ -18,8 +18,8 @@ pub enum Answer {
     Contains(bool),
 }
 
-/// Does what a line asks for, and gives the answer: None for a row that is appended and for the end. Where memory is wanted
-/// nothing changes.
+/// Does what a line asks for, and gives the answer: None for a row that is appended and for the end. The row of a line has the
+/// modulus and the width of the rows that are kept, and height 1. Where memory is wanted nothing changes.
 pub fn answer_line(grow: &mut Grow, line: &ScriptLine) -> Result<Option<Answer>, AllocError>
     requires { FitsRows grow.old line.now }
     ensures ok { IfOk result (AnswersOfScript grow.old grow.new line.now) }

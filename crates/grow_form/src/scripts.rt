@@ -18,7 +18,8 @@ use sparse_rows::Rows;
 use std::alloc::{AllocError, Global};
 
 /// Reads the script behind the text of a matrix, up to its line `end`, and answers it: each query for the rows of the matrix and
-/// all rows that were appended before it. Nothing behind `end` is read.
+/// all rows that were appended before it. Nothing behind `end` is read. The reader must have answered no error before, and must
+/// have read the text of the matrix to its end.
 ///
 /// After a fault of the script or of the source the reader answers this error from then on, and so it does where it wanted memory
 /// itself; where an answer wanted memory, it stands behind the last line that it took.

@@ -32,7 +32,7 @@ pub record IsPreparedFor (p : ℕ) (A : Matrix) (q : Preparation) : Type 0 where
   pub relations : IsPrime p → IsKernel p (transposed A) q.relations
 
 -- what these parts are the preparation of: a matrix as high as L and as wide as U
-abbrev pub preparation : List Pair → ResidueMatrix → ResidueMatrix → ResidueMatrix → ResidueMatrix → Preparation
+abbrev pub preparation : List Pair → (L U null relations : ResidueMatrix) → Preparation
 preparation pivots L U null relations = record {
   modulus = L.modulus;
   height = L.matrix.height;
@@ -66,7 +66,8 @@ abbrev pub HasReplyShape : Preparation → Reply → Type 0
 HasReplyShape q (Solution x) =
     (x.modulus ≡ q.modulus) × IsMatrix q.modulus x.matrix × (x.matrix.height ≡ q.width) × (x.matrix.width ≡ 1)
 HasReplyShape q (Refuted y) =
-    (y.modulus ≡ q.modulus) × IsMatrix q.modulus y.matrix × (y.matrix.height ≡ 1) × (y.matrix.width ≡ q.height)
+    (y.modulus ≡ q.modulus) × IsMatrix q.modulus y.matrix
+    × (y.matrix.height ≡ 1) × (y.matrix.width ≡ q.height)
 
 -- a reply to the column b: of the shape told, and right for each matrix that q is the preparation of, where the modulus is prime
 pub record IsReply (q : Preparation) (b : Matrix) (reply : Reply) : Type 0 where

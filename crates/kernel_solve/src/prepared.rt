@@ -28,7 +28,8 @@ pub enum Reply {
     Refuted(Rows),
 }
 
-/// A matrix A prepared for any number of right-hand sides: eliminated before, so that answers take products alone.
+/// A matrix A prepared for any number of right-hand sides: eliminated before, so that an answer takes the products of the
+/// relations with b and, where there is a solution, two triangular substitutions and a reduction by the kernel basis.
 ///
 /// It keeps factors of A with their pivots, the inverses of the pivots' entries, and the kernel bases of A and of A transposed.
 #[derive(Debug, Drop)]
