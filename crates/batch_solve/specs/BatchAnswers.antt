@@ -14,8 +14,9 @@ first_misshapen m number (B ∷ Bs) =
     if (B.height == m) && (B.width == 1) then first_misshapen m (number + 1) Bs
     else Some (Shape number B.height B.width)
 
--- The status by which a matrix and the right-hand sides behind it are refused: the matrix is too wide, since it is eliminated beside an
--- identity as high as it is; or a right-hand side isn't a column as high as the matrix, and the first of them is named, counted from 1.
+-- The status by which a matrix and the right-hand sides behind it are refused: the matrix is too wide, its height and width together
+-- above the largest size, as the format has it; or a right-hand side isn't a column as high as the matrix, and the first of them is
+-- named, counted from 1.
 abbrev pub batch_misfit : List Matrix → Option BatchStatus
 batch_misfit [] = None
 batch_misfit (A ∷ Bs) =

@@ -22,8 +22,8 @@ pub struct RightFactor {
     pub u: Rows,
 }
 
-/// The pivots and the right factor that `finish` gives, in less memory: the matrix is given up once its dense block is made, and
-/// no left factor is.
+/// The pivots and the right factor that `finish` gives, by so many workers, from 1 to 64, in less memory: the matrix is given up once
+/// its dense block is made, and no left factor is.
 pub fn finish_right<R: Threads + Sync>(
     rt: &R,
     alloc: Global,

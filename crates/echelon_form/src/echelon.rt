@@ -35,8 +35,8 @@ impl Model for Echelon {
 }
 
 impl Echelon {
-    /// The form of a matrix, by so many workers: the same for every number of them. For a modulus that is not prime it is
-    /// some rows of that width.
+    /// The form of a matrix, by so many workers, from 1 to 64: the same for every number of them. For a modulus that is not prime
+    /// it is some rows of that width.
     ///
     /// The rows are eliminated one after another by the caller, in the time of the entries that this makes; then each
     /// worker settles a share of the rows that are left, each with 8 bytes a column. Columns without an entry cost nothing

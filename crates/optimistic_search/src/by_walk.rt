@@ -99,8 +99,8 @@ fn search_with<'a, L: Ledger>(
 /// What `search` with one worker does, by a walk from each row alone: the rows are tried in ascending order, and each that has an
 /// alive column is appended with the least. Nothing is alive afterwards.
 ///
-/// It is kept to compare with, counts its steps, and takes two to five times as long as `search`. It takes 9 bytes a column and 16 bytes a pair that
-/// there can be, all before the first row.
+/// It is kept to compare with, counts its steps, though no clause covers their number, and takes two to five times as long as
+/// `search`. It takes 9 bytes a column and 16 bytes a pair that there can be, all before the first row.
 pub fn search_by_walk<'a, L: Ledger>(
     alloc: Global,
     book: Book<'a>,

@@ -16,12 +16,12 @@ use std::thread::Threads;
 /// Grows the book until no entry is alive: the search for structural pivots of Bouillaguet, Delaplace and Voge, 'Parallel Sparse
 /// PLUQ Factorization modulo p', PASCO 2017.
 ///
-/// For every number of workers the book begins with the pairs that it had, each new pair was alive when it came, and nothing is
-/// alive afterwards. One worker tries the rows in ascending order and appends each that has an alive column with the least, so that
-/// what it finds is a function of the book; it doesn't call the gate. More workers go at once, on a board that they share without a
-/// lock: each goes once through the rows, in cyclic order down from a row of its own, the first from row 0 and the others from rows
-/// evenly apart, and takes those that no other has. What they find depends on their turns. What they should have left is swept by
-/// the calling thread.
+/// For every number of workers, from 1 to 64, the book begins with the pairs that it had, each new pair was alive when it came, and
+/// nothing is alive afterwards. One worker tries the rows in ascending order and appends each that has an alive column with the
+/// least, so that what it finds is a function of the book; it doesn't call the gate. More workers go at once, on a board that they
+/// share without a lock: each goes once through the rows, in cyclic order down from a row of its own, the first from row 0 and the
+/// others from rows evenly apart, and takes those that no other has. What they find depends on their turns. What they should have
+/// left is swept by the calling thread.
 ///
 /// One worker keeps a level for each column, the longest path of steps that leads to it. A walk leaves out the columns whose level is
 /// above that of every candidate, and a candidate of level 0 is alive without a walk. It takes 13 bytes a column and 16 bytes a pair
@@ -61,8 +61,8 @@ fn search_alone(alloc: Global, book: Book) -> Result<Book, AllocError>
     search_by_entries(alloc, book)
 }
 
-/// What `search` does, and a version for each pair: how much of the history was seen when its row was claimed. That is the place
-/// itself for the pairs that the book had, for those that one worker finds, and for what is swept.
+/// What `search` does, by 1 to 64 workers, and a version for each pair: how much of the history was seen when its row was claimed.
+/// That is the place itself for the pairs that the book had, for those that one worker finds, and for what is swept.
 ///
 /// Besides what `search` takes, it takes 8 bytes a pair at the end.
 pub fn search_traced<'a, R: Threads + Sync, G: Gate>(
@@ -99,8 +99,8 @@ pub fn search_traced<'a, R: Threads + Sync, G: Gate>(
     })
 }
 
-/// What `search` does with more workers than one, for every number of workers and every matrix, and how many steps the walks took,
-/// modulo 2^64.
+/// What `search` does with more workers than one, for every number of workers, from 1 to 64, and every matrix, and how many steps the
+/// walks took, modulo 2^64. No clause covers that number.
 ///
 /// One worker goes on a board too, by walks, and in the order of the others: from the last row to the first, which on boundary maps is
 /// sooner done and leaves less behind than the greedy list that `search` gives then.

@@ -14,8 +14,9 @@ use sparse_rows::{LARGEST_SIZE, Rows};
 use std::alloc::{AllocError, Global};
 use std::thread::Threads;
 
-/// Rows of a matrix's row space: for a prime modulus they are independent and span it. They are the pivots' rows of each round,
-/// and those of the finish; no coefficients are kept. For a modulus that is not prime they are some rows of that width.
+/// Rows of a matrix's row space, by a plan of 1 to 64 workers: for a prime modulus they are independent and span it. They are the
+/// pivots' rows of each round, and those of the finish; no coefficients are kept. For a modulus that is not prime they are some
+/// rows of that width.
 ///
 /// The rounds end as those of `rank` do, and what is left is eliminated densely where it is small and dense, and else by the
 /// rows of its echelon form. With no round there is the dense elimination alone.

@@ -17,8 +17,8 @@ use sparse_rows::{List, Rows};
 use std::alloc::{AllocError, Global};
 use std::thread::Threads;
 
-/// Factors of a matrix: valid ones for a prime modulus, and then the pivots of each round stand one after another and those of
-/// the dense finish behind them. For a modulus that is not prime they are some matrices of their sizes.
+/// Factors of a matrix, by a plan of 1 to 64 workers: valid ones for a prime modulus, and then the pivots of each round stand one
+/// after another and those of the dense finish behind them. For a modulus that is not prime they are some matrices of their sizes.
 ///
 /// Each round works on the complement that the one before left, and the first that finds no pivot ends them; with no round there
 /// is the dense finish alone. One complement is held at a time, with the coefficients and the pivots' rows of those before it.

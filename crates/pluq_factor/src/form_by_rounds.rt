@@ -12,8 +12,8 @@ use sparse_rows::Rows;
 use std::alloc::{AllocError, Global};
 use std::thread::Threads;
 
-/// The reduced row echelon form of a matrix, the same for every plan. For a modulus that is not prime it is some rows of that
-/// width.
+/// The reduced row echelon form of a matrix, the same for every plan, of 1 to 64 workers. For a modulus that is not prime it is
+/// some rows of that width.
 ///
 /// It is the form of the basis of the row space that the rounds and their finish give (`row_basis`), so the rows that depend on
 /// others are eliminated by structural pivots and densely. With no round it is that of a dense elimination where the matrix is
@@ -40,8 +40,8 @@ pub fn form<R: Threads + Sync, G: Gate>(
     Ok(form)
 }
 
-/// The reduced row echelon form of rows that stand as rounds or factors give them, by so many workers. For a modulus that is not
-/// prime it is some rows of that width.
+/// The reduced row echelon form of rows that stand as rounds or factors give them, by so many workers, from 1 to 64. For a modulus
+/// that is not prime it is some rows of that width.
 ///
 /// The rows are taken from the last to the first: a pivot's row is met by rows that are reduced already, where from the first to
 /// the last each would fill up and be reduced again.

@@ -13,7 +13,8 @@ use sparse_rows::Rows;
 use std::alloc::{AllocError, Global};
 use std::thread::Threads;
 
-/// The rank of a matrix modulo a prime; modulo another number, some number that is no more than its height and width.
+/// The rank of a matrix modulo a prime, by a plan of 1 to 64 workers; modulo another number, some number that is no more than its
+/// height and width.
 ///
 /// The pivots of each round are counted, and the complement that they leave is all that is kept for the next one. The rounds
 /// end with the last one of the plan, with one that finds no pivot, or before one where a twentieth of what is left, in the

@@ -12,8 +12,9 @@ use sparse_rows::{List, Rows};
 use std::alloc::{AllocError, Global};
 use std::thread::Threads;
 
-/// The trace of a search for structural pivots that begins with the leftmost pairs: what `search_traced` finds, in the order in which it
-/// was published. It is lawful, so `replay` says yes to it, and nothing can be added to its pairs.
+/// The trace of a search for structural pivots, by so many workers, from 1 to 64, that begins with the leftmost pairs: what
+/// `search_traced` finds, in the order in which it was published. It is lawful, so `replay` says yes to it, and nothing can be added
+/// to its pairs.
 ///
 /// One worker's trace is a function of the matrix; which one several workers leave depends on their turns. Besides what `leftmost` and
 /// `search_traced` take, it takes 16 bytes a pair, and 48 for a moment where their room grows.

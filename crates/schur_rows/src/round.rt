@@ -21,8 +21,8 @@ pub struct SchurRows {
     pub coefficients: Rows,
 }
 
-/// The complement with the coefficients, by so many workers: for a prime modulus the same for every number of them. For a
-/// modulus that is not prime they are some matrices of these sizes.
+/// The complement with the coefficients, by so many workers, from 1 to 64: for a prime modulus the same for every number of them.
+/// For a modulus that is not prime they are some matrices of these sizes.
 ///
 /// Each worker reduces parts of the rows, in the time of `Triangle::reduce` for each row that has an entry and is no pivot's;
 /// then the parts are put behind each other. Rows without an entry cost nothing where there are many. Where a thread cannot
@@ -45,7 +45,7 @@ pub fn schur<R: Threads + Sync>(
     Ok(left)
 }
 
-/// The complement alone, by so many workers, in the way that the reducer has chosen.
+/// The complement alone, by so many workers, from 1 to 64, in the way that the reducer has chosen.
 pub fn complement<R: Threads + Sync>(
     rt: &R,
     alloc: Global,

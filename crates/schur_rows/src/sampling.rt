@@ -18,7 +18,7 @@ const SAMPLES: u32 = 16;
 const MOST: u64 = 1 << 24;
 
 /// How many entries the pivots leave of a row, on average of so many rows: these are spread over the matrix, have an entry and are
-/// no pivot's.
+/// no pivot's. No clause covers the number.
 pub fn mean_left(alloc: Global, reducer: &RowReducer, samples: u32) -> Result<u64, AllocError>
     requires { 1 ≤ samples }
 {

@@ -53,7 +53,7 @@ impl ChunkSize {
 }
 
 /// Independent rows with the row space of what the pivots of a triangle leave of its matrix, for a prime modulus, by so many
-/// workers. For a modulus that is not prime they are some rows of its width, no more than it has.
+/// workers, from 1 to 64. For a modulus that is not prime they are some rows of its width, no more than it has.
 ///
 /// What is left is never stored whole. The rows are reduced chunk by chunk; each chunk is put below the basis of those before it,
 /// and both are eliminated densely (`dense_finish::finish_right`): the right factor is the next basis. The memory is that of a chunk,
@@ -72,8 +72,8 @@ pub fn left_basis<R: Threads + Sync>(
     left_basis_by(rt, alloc, reducer, workers, CHUNK)
 }
 
-/// The same by chunks of this size. Larger ones take more memory, 4 bytes a place where the modulus is below 2^31 and else 8, and
-/// eliminate the basis again less often.
+/// The same, by 1 to 64 workers too, in chunks of this size. Larger ones take more memory, 4 bytes a place where the modulus is
+/// below 2^31 and else 8, and eliminate the basis again less often.
 pub fn left_basis_by<R: Threads + Sync>(
     rt: &R,
     alloc: Global,

@@ -144,7 +144,7 @@ impl Rows {
     }
 
     /// Appends the rows of another matrix, in the time of its entries and, where each of its rows is stored, its height: where each
-    /// row of both is stored, the blocks are copied.
+    /// row of both is stored, the blocks are copied. Where memory is wanted some of the rows may have been appended already.
     pub fn append_all(&mut self, from: &Rows) -> Result<(), AllocError>
         requires modulus { self.old.modulus ≡ from.now.modulus }
         requires width { self.old.matrix.width ≡ from.now.matrix.width }
@@ -423,8 +423,8 @@ impl Rows {
         Ok(triples)
     }
 
-    /// These columns alone, where all entries stand in them: in time by the entries, times a logarithm of how many columns
-    /// are named, and the height.
+    /// These columns alone, which ascend and lie below the width, where all entries stand in them: in time by the entries, times a
+    /// logarithm of how many columns are named, and the height.
     pub fn narrowed(&self, alloc: Global, columns: &[u32]) -> Result<Rows, AllocError>
         requires { AreEnough self.now.matrix columns.now }
         ensures modulus { IfOk result (λ rows. rows.modulus ≡ self.now.modulus) }
