@@ -39,7 +39,8 @@ abbrev pub ArePut : List RowsFrom → List (List ℕ) → Type 0
 ArePut pieces rows = (t : ℕ) → t < length rows → IsInPieces pieces t (block_row rows t)
 
 -- what the panel leaves of a piece of the block
-pub record IsReducedPiece (p : ℕ) (panel : PanelRows) (block : List (List ℕ)) (piece : RowsFrom) : Type 0 where
+pub record IsReducedPiece (p : ℕ) (panel : PanelRows) (block : List (List ℕ))
+    (piece : RowsFrom) : Type 0 where
   pub inside : LiesIn (length block) piece
   pub reduced : (t : ℕ) → t < length piece.rows →
       PanelReduces p panel (block_row block (piece.start + t)) (block_row piece.rows t)

@@ -181,7 +181,8 @@ pub record FindsPanel (p : ℕ) (columns : List ℕ) (old new : PanelStage) : Ty
   pub holds : IsPanelFrom p columns (count old.pivots) new.pivots new.found.panel
   pub units : HasUnits p new.found
   pub kept : KeepsPivots columns old.pivots new.pivots
-  pub split : IsPrime p → (block : List (List ℕ)) → AreSplit p columns (before_panel old) block (stage_of old) →
+  pub split : IsPrime p → (block : List (List ℕ)) →
+      AreSplit p columns (before_panel old) block (stage_of old) →
       AreSplit p columns (count old.pivots) block (stage_of new)
 
 -- the pivots of more rows are found, behind those of `old`, and are the panel's: whatever block splits into `old`, its rows
