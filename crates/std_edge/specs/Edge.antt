@@ -10,6 +10,11 @@ use Rattle.sms_text.specs.Stream.{SourceState, SinkState}
 use Rattle.std_edge.specs.declared.words.NoWords.{NoWords}
 use Rattle.std_edge.specs.declared.words.NoWords.TheVariants as none
 
+-- a reader or writer of std, and how many of its errors were counted
+pub record Counted (S : Type 0) : Type 0 where
+  pub stream : S
+  pub faults : ℕ
+
 -- a source and a sink that don't tell what is left or held, with this count of faults
 abbrev pub untold_source : ℕ → SourceState
 untold_source faults = record { left = None; faults = faults }
