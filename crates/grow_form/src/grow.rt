@@ -53,13 +53,17 @@ impl Grow {
         })
     }
 
-    /// The rows of a matrix, appended one after another.
+    /// The rows of a matrix, appended one after another, where rows without an entry cost nothing.
     pub fn of(alloc: Global, rows: &Rows) -> Result<Grow, AllocError>
         ensures { IfOk result (SpansRowsOf rows.now) }
     {
         let mut grow = Grow::new(alloc, rows.width(), &rows.modulus())?;
-        for i in 0..rows.height() {
+        // The call tells how high a matrix is: the next row's number is no overflow.
+        let _ = rows.height();
+        let mut from = 0;
+        while let Some(i) = rows.next_filled(from) {
             grow.append(rows.cols(i), rows.vals(i))?;
+            from = i + 1;
         }
         Ok(grow)
     }
