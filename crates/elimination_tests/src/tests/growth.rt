@@ -207,7 +207,7 @@ fn scripts_are_answered(rt: HostRuntime) -> Result<(), Fail> {
 }
 
 // Each row: a matrix and the script behind it, modulo 7, and what is written, or the line and kind of the first fault.
-const TEXTS: [(&[u8], &[u8], u64, Kind); 9] = [
+const TEXTS: [(&[u8], &[u8], u64, Kind); 10] = [
     (
         b"0 3 M\n0 0 0\nrow 1 2 2 4 3 1\nrank\nrow 1 1 2 2\nrow 1 3 2 6 3 1\nrref\nin 1 1\nin\nend\n",
         b"rank 1\n2 3 M\n1 1 1\n1 2 2\n2 3 1\n0 0 0\nno\nyes\n",
@@ -231,6 +231,13 @@ const TEXTS: [(&[u8], &[u8], u64, Kind); 9] = [
         b"",
         4,
         Kind::Script,
+    ),
+    // Rows without an entry cost nothing.
+    (
+        b"2147483647 2 M\n2147483646 2 3\n0 0 0\nrank\nrref\nin 2 4\nin 1 1\nend\n",
+        b"rank 1\n1 2 M\n1 2 1\n0 0 0\nyes\nno\n",
+        0,
+        Kind::Long,
     ),
 ];
 
