@@ -3,16 +3,14 @@
 // A row of sums that is 0 takes what the combination exceeds a row by. Where it then is 0 at all columns that were touched, it is
 // as before, and serves the next row; else the answer is known. So nothing is ever cleared.
 ghost use Rattle.std.specs.Prelude.{◌≡◌, ◌<◌, ◌+◌, ◌-◌, ◌*◌, ◌%◌, ◌↔◌, ℕ, length, slice_index, Contains, IfOk, IsTrue};
-ghost use Rattle.std.specs.Option.{MatchOption};
 ghost use Rattle.residue_words.specs.Matrix.{IsVector, entry};
 ghost use Rattle.sparse_rows.specs.ColumnSet.{AllZero};
-ghost use Rattle.sparse_rows.specs.Placed.{AreBothZeroFrom, IsNextInEither};
 ghost use Rattle.sparse_rows.specs.Rows.{AreRising};
 ghost use Rattle.sparse_rows.specs.Stored.{IsSparse, entry_at};
 ghost use Rattle.cert_checker.specs.Product.{AreAllIn, FitAsProduct, IsCombined, IsProduct, IsZeroAlong, IsZeroAt, combined_at};
 
 use residue_words::Modulus;
-use sparse_rows::Rows;
+use sparse_rows::{FilledInEither, Rows};
 use std::alloc::{AllocError, Global};
 
 // Whether V = Y B. Where B has few entries for its width, the product is taken over the columns alone in which B has some.
@@ -56,29 +54,13 @@ fn are_rows_of_product(sums: &mut [u64], v: &Rows, y: &Rows, b: &Rows) -> bool
 {
     // The proof wants that these are matrices of residues, and how high they are.
     let _ = (v.height(), y.height());
-    let mut from = 0;
-    while let Some(i) = next_in_either(v, y, from) {
+    let mut filled = FilledInEither::of(v, y);
+    while let Some(i) = filled.next_row() {
         if !is_row_of_product(sums, v, y, b, i) {
             return false;
         }
-        from = i + 1;
     }
     true
-}
-
-// The first row from `from` on in which one of the matrices has an entry, if there is one.
-fn next_in_either(v: &Rows, y: &Rows, from: u32) -> Option<u32>
-    requires { y.now.matrix.height ≡ v.now.matrix.height }
-    ensures { MatchOption result (AreBothZeroFrom v.now.matrix y.now.matrix from)
-        (IsNextInEither v.now.matrix y.now.matrix from) }
-{
-    let Some(i) = v.next_filled(from) else {
-        return y.next_filled(from);
-    };
-    let Some(j) = y.next_filled(from) else {
-        return Some(i);
-    };
-    Some(i.min(j))
 }
 
 // Whether row i of V is that of Y B. The sums are 0, and stay so where it is.

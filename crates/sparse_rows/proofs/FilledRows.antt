@@ -1,5 +1,5 @@
 -- Rows with an entry, rows of zeros, and the entries row by row.
-use Rattle.std.proofs.Common.{ℕ, zero, suc, ◌≡◌, ◌≢◌, ◌+◌, ◌-◌, ◌<◌, ◌≤◌, ◌⊎◌, inl, inr, List, [], ◌∷◌, ◌++◌, length, map, replicate, slice_index, sym, refl, ap, ap₂, subst, ◌∙◌, arith}
+use Rattle.std.proofs.Common.{ℕ, zero, suc, Option, None, Some, ◌≡◌, ◌≢◌, ◌+◌, ◌-◌, ◌<◌, ◌≤◌, ◌⊎◌, inl, inr, List, [], ◌∷◌, ◌++◌, length, map, replicate, slice_index, sym, refl, ap, ap₂, subst, ◌∙◌, arith}
 use Rattle.std.specs.List.{Contains, flat_map, range_with_len}
 use Rattle.std.proofs.lemmas.Bool.{cases_eq, cases_lt}
 use Rattle.std.proofs.lemmas.List.{append-nil, append_assoc, flat_map_more, get_or_append_left, get_or_push, length_push, map-id, replicate_more}
@@ -8,6 +8,7 @@ use Rattle.std.proofs.lemmas.List.Edits.{get_or-between}
 use Rattle.residue_words.specs.Matrix.{IsMatrix, Matrix, entry, row, zeros}
 use Rattle.residue_words.proofs.Vectors.{at_zeros}
 use Rattle.sparse_rows.specs.Columns.{AreOccurring}
+use Rattle.sparse_rows.specs.Placed.{IsFirstFilled}
 use Rattle.sparse_rows.specs.Rows.{AreEnough, AreFilled, AreOccupied, AreRising, AreZeroFrom, IsFilled, IsNextFilled, IsZeroRow, nonzeros, row_triples, support, triples_of, with_zeros}
 use Rattle.sparse_rows.specs.Stored.{IsSparse, IsStored, entry_at, part, spread, stored_matrix, stored_row, with_row}
 use Rattle.sparse_rows.proofs.Loops.{beside_more, beside_row, length_zeros, sized}
@@ -27,6 +28,19 @@ filled_or_zero A i = none (support (row A i))
 -- a row without an entry is not filled
 pub zero_unfilled : (A : Matrix) (i : ℕ) → IsZeroRow A i → IsFilled A i → ⊥
 zero_unfilled A i z f = omega (arith, ap length z)
+
+-- what is the first filled row from one row on is so from a later one on, where those between have no entry
+pub first_later : (A : Matrix) (from i : ℕ) (next : Option ℕ) → IsFirstFilled A from next → from ≤ i → ((k : ℕ) → from ≤ k → k < i → IsZeroRow A k) → IsFirstFilled A i next
+first_later A from i None f l z = λ k a b. f k (omega arith) b
+first_later A from i (Some j) f l z = record {
+  low = elim (cases_lt j i) [
+    | inl b ↦ absurd (zero_unfilled A j (z j f.low b) f.filled)
+    | inr b ↦ b
+  ];
+  below = f.below;
+  filled = f.filled;
+  between = λ k a b. f.between k (omega arith) b;
+}
 
 -- a row without an entry is the zero row
 pub zero_row : {p : ℕ} {A : Matrix} → IsMatrix p A → (i : ℕ) → i < A.height → IsZeroRow A i → row A i ≡ zeros A.width

@@ -1,9 +1,9 @@
 -- A matrix whose rows are all stored, or only those that have an entry.
-use Rattle.std.specs.Prelude.{◌≡◌, ◌<◌, ◌≤◌, ◌+◌, ◌==◌, if◌then◌else◌, ℕ, Bool, true, false, List, [], ◌∷◌, length, map, slice_index}
+use Rattle.std.specs.Prelude.{◌≡◌, ◌<◌, ◌≤◌, ◌+◌, ◌==◌, ◌⊎◌, if◌then◌else◌, ℕ, Bool, true, false, List, [], ◌∷◌, length, map, slice_index, MatchOption, Option}
 use Rattle.std.specs.List.{range_with_len}
 use Rattle.residue_words.specs.Matrix.{Matrix, entry, row, zeros}
 use Rattle.sparse_rows.specs.declared.rows.TheConstants.{LARGEST_SIZE}
-use Rattle.sparse_rows.specs.Rows.{AreRising, AreZeroFrom, IsFilled, IsZeroRow}
+use Rattle.sparse_rows.specs.Rows.{AreRising, AreZeroFrom, IsFilled, IsNextFilled, IsZeroRow}
 
 -- row i, where the rows of A from row k on stand at these rows, and zeros elsewhere
 abbrev pub row_among : Matrix → ℕ → List ℕ → ℕ → List ℕ
@@ -39,12 +39,32 @@ IsPlaced false m rows A = (m ≤ LARGEST_SIZE) × AreNamed m rows A
 abbrev pub AreBothZeroFrom : Matrix → Matrix → ℕ → Type 0
 AreBothZeroFrom A B from = AreZeroFrom A from × AreZeroFrom B from
 
--- neither has one from there up to row i
+-- row i is the first from there on in which one of them has an entry
 pub record IsNextInEither (A B : Matrix) (from i : ℕ) : Type 0 where
   pub low : from ≤ i
   pub below : i < A.height
+  pub filled : IsFilled A i ⊎ IsFilled B i
   pub left : (k : ℕ) → from ≤ k → k < i → IsZeroRow A k
   pub right : (k : ℕ) → from ≤ k → k < i → IsZeroRow B k
+
+-- two matrices, and a row from which on a next one is looked for
+pub record MatricesFrom : Type 0 where
+  pub left : Matrix
+  pub right : Matrix
+  pub from : ℕ
+
+abbrev pub matrices_from : Matrix → Matrix → ℕ → MatricesFrom
+matrices_from A B i = record { left = A; right = B; from = i }
+
+-- `next` is the first filled row of A from `from` on, if there is one
+abbrev pub IsFirstFilled : Matrix → ℕ → Option ℕ → Type 0
+IsFirstFilled A from next = MatchOption next (AreZeroFrom A from) (IsNextFilled A from)
+
+-- these are the first filled rows of A and B, which are of one height
+pub record AreFirstFilled (A B : Matrix) (from : ℕ) (i j : Option ℕ) : Type 0 where
+  pub height : A.height ≡ B.height
+  pub left : IsFirstFilled A from i
+  pub right : IsFirstFilled B from j
 
 -- v and w have the same entries at the columns below n
 abbrev pub AgreeBelow : ℕ → List ℕ → List ℕ → Type 0

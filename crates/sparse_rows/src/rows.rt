@@ -6,7 +6,7 @@ ghost use Rattle.std.specs.Option.{MatchOption};
 ghost use Rattle.residue_words.specs.Matrix.{IsMatrix, IsVector, apply, entry, row};
 ghost use Rattle.residue_words.specs.Residues.{sum_below};
 ghost use Rattle.sparse_rows.specs.Columns.{GoTo};
-ghost use Rattle.sparse_rows.specs.Placed.{AgreeBelow, AreBothZeroFrom, IsZeroBetween, HasRowAt, IsNextInEither};
+ghost use Rattle.sparse_rows.specs.Placed.{AgreeBelow, IsZeroBetween, HasRowAt};
 ghost use Rattle.sparse_rows.specs.Cells.{AreEntries, IsWithin, matrix_of_cells, place_of, weight};
 ghost use Rattle.sparse_rows.specs.Rows.{above, AllFit, AreBelow, AreEnough, AreFilled, AreOccupied, AreRising, AreZeroFrom, FitsMatrix, IsNextFilled, beside, built, entry_count, identity, matrix_by, narrowed, nonzeros, row_triples, selected, support, transposed, triple, triples_of, widened, with_zeros};
 ghost use Rattle.sparse_rows.specs.Stored.{IsSparse, spread, with_row, with_sparse_row};
@@ -15,6 +15,7 @@ use crate::builder::RowsBuilder;
 use crate::cells::{Cell, renumbered, row_numbers};
 use crate::column_lists::{first_from, occurring, place_of, places_among};
 use crate::entry_room::EntryRoom;
+use crate::filled_in_either::FilledInEither;
 use crate::sparse::Sparse;
 use crate::stored_rows::StoredRows;
 use residue_words::Modulus;
@@ -487,7 +488,8 @@ impl Rows {
         })
     }
 
-    /// The rows of this matrix, each continued by the row of `right`.
+    /// The rows of this matrix, each continued by the row of `right`: in time by the entries, times a logarithm of the rows that
+    /// have an entry where those alone are stored, and by the height where each row is.
     pub fn beside(&self, alloc: Global, right: &Rows) -> Result<Rows, AllocError>
         requires heights { self.now.matrix.height ≡ right.now.matrix.height }
         requires moduli { self.now.modulus ≡ right.now.modulus }
@@ -499,7 +501,8 @@ impl Rows {
         let _ = right.height();
         let mut rows = self.room_beside(alloc, right)?;
         let mut row = Sparse::new(alloc, rows.width(), self.modulus());
-        while let Some(i) = self.next_in_either(right, rows.height()) {
+        let mut filled = FilledInEither::of(self, right);
+        while let Some(i) = filled.next_row() {
             self.row_beside(i, right, &mut row)?;
             rows.append_at(i, &row)?;
         }
@@ -575,21 +578,6 @@ impl Rows {
             triples.push((i, cols[k], vals[k]))?;
         }
         Ok(())
-    }
-
-    // The first row from `from` on in which this matrix or `right` has an entry, if there is one.
-    fn next_in_either(&self, right: &Rows, from: u32) -> Option<u32>
-        requires heights { self.now.matrix.height ≡ right.now.matrix.height }
-        ensures { MatchOption result (AreBothZeroFrom self.now.matrix right.now.matrix from)
-            (IsNextInEither self.now.matrix right.now.matrix from) }
-    {
-        let Some(i) = self.next_filled(from) else {
-            return right.next_filled(from);
-        };
-        let Some(j) = right.next_filled(from) else {
-            return Some(i);
-        };
-        Some(i.min(j))
     }
 
     // The matrix with no row that is as wide as both, and room for the rows and entries of both side by side.

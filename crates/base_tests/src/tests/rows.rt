@@ -382,6 +382,40 @@ fn matrices_side_by_side(rt: HostRuntime) -> Result<(), Fail> {
     Ok(())
 }
 
+const ENDS_EARLY: &[(u32, u32, u64)] = &[(0, 0, 1), (1, 1, 2)];
+
+const BEGINS_LATE: &[(u32, u32, u64)] = &[(1, 0, 5), (7, 0, 3), (8, 1, 4)];
+
+const EARLY_AT_LEFT: &[(u32, u32, u64)] = &[(0, 0, 1), (1, 1, 2), (1, 2, 5), (7, 2, 3), (8, 3, 4)];
+
+const EARLY_AT_RIGHT: &[(u32, u32, u64)] = &[(0, 2, 1), (1, 0, 5), (1, 3, 2), (7, 0, 3), (8, 1, 4)];
+
+// Whether one matrix of two columns beside another has these entries.
+fn joins_into(
+    alloc: Global,
+    height: u32,
+    left: &[(u32, u32, u64)],
+    right: &[(u32, u32, u64)],
+    entries: &[(u32, u32, u64)],
+) -> Result<bool, Fail> {
+    let left = built(alloc, height, 2, left)?;
+    let right = built(alloc, height, 2, right)?;
+    let wide = left.beside(alloc, &right)?;
+    Ok(lists(alloc, &wide, entries)?)
+}
+
+#[test]
+fn one_side_may_end_where_the_other_begins(rt: HostRuntime) -> Result<(), Fail> {
+    let alloc = rt.alloc();
+    // Each row stored, or those alone that have an entry.
+    for height in [9, LARGEST_SIZE] {
+        let at_left = joins_into(alloc, height, ENDS_EARLY, BEGINS_LATE, EARLY_AT_LEFT)?;
+        let at_right = joins_into(alloc, height, BEGINS_LATE, ENDS_EARLY, EARLY_AT_RIGHT)?;
+        assert_eq!(rt; (at_left, at_right), (true, true), "{height} rows");
+    }
+    Ok(())
+}
+
 // A matrix of such heights with another below it.
 fn stacked(
     alloc: Global,
