@@ -240,6 +240,7 @@ module _ (p : ℕ) (A F : Matrix) (leads : List ℕ) (two : 2 ≤ p) (m : IsMatr
     pub half_inverts : IsInverse p A (half_of n F)
     half_inverts = record {
       matrix = B_matrix;
+      square = square;
       height = sym square;
       width = refl;
       right = λ i l. B_right i (omega arith);

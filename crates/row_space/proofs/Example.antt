@@ -217,6 +217,7 @@ inverse_worked = record {
     each = below_three (λ i. IsVector 7 3 (row example_inverse i)) (three_vector 7 1 0 0 (lit< tt) (lit< tt) (lit< tt))
         (three_vector 7 6 2 6 (lit< tt) (lit< tt) (lit< tt)) (three_vector 7 0 6 1 (lit< tt) (lit< tt) (lit< tt));
   };
+  square = refl;
   height = refl;
   width = refl;
   right = below_three (λ i. combine 7 (row example_square i) example_inverse ≡ unit 3 i) refl refl refl;

@@ -33,7 +33,7 @@ left_excludes p A B v square left null = list_equal A.width v (zeros A.width) nu
     ∙ sym (at_zeros A.width i l))
 
 pub inverse_null : InverseExcludesNull
-inverse_null p A B v square inv null = left_excludes p A B v square inv.left null
+inverse_null p A B v inv null = left_excludes p A B v inv.square inv.left null
 
 -- a matrix of the sizes of an inverse
 record IsOfSizes (p : ℕ) (A B : Matrix) : Type 0 where
@@ -65,8 +65,8 @@ halves_same p A B C square b c left right =
     sym second ∙ sym (dot_combine p (row B i) A x) ∙ first)
 
 pub inverse_unique : InverseIsUnique
-inverse_unique p A B C two square b c =
-    halves_same p A B C square (record { matrix = b.matrix; height = b.height; width = b.width }) (record { matrix = c.matrix; height = c.height; width = c.width }) b.left c.right
+inverse_unique p A B C two b c =
+    halves_same p A B C b.square (record { matrix = b.matrix; height = b.height; width = b.width }) (record { matrix = c.matrix; height = c.height; width = c.width }) b.left c.right
 
 -- units are residues, and one is another's entry
 unit_small : (p k i : ℕ) → 2 ≤ p → delta k i < p
@@ -177,6 +177,7 @@ module _ (p : ℕ) (A : Matrix) (prime : IsPrime p) (m : IsMatrix p A) (square :
     is_inverse : IsInverse p A B
     is_inverse = record {
       matrix = B_sizes.matrix;
+      square = square;
       height = B_sizes.height;
       width = B_sizes.width;
       right = λ i l. ap (combine p (row A i)) (halves_same p A B C square B_sizes C_sizes B_left C_right) ∙ C_right i l;
@@ -189,7 +190,7 @@ inverse_or_null p A prime m square = (
     | inl b ↦ inl (B p A prime m square b.0 b.1, is_inverse p A prime m square b.0 b.1)
     | inr null ↦ inr null
   ],
-  λ both. both.1.2 (inverse_null p A both.0.0 both.1.0 square both.0.1 both.1.1),
+  λ both. both.1.2 (inverse_null p A both.0.0 both.1.0 both.0.1 both.1.1),
 )
 
 pub refuting_solvable : RefutingIsSolvable

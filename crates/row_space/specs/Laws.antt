@@ -99,14 +99,12 @@ abbrev pub RefutingSystem : Type 0
 RefutingSystem = (p : ℕ) (A : Matrix) (b y : List ℕ) → 2 ≤ p → IsMatrix p A → IsVector p A.height b →
     RefutingSystemIs p A b y
 
--- a square matrix has at most one inverse, and where it has one only the zero vector is null
+-- a matrix has at most one inverse, and where it has one only the zero vector is null
 abbrev pub InverseIsUnique : Type 0
-InverseIsUnique = (p : ℕ) (A B C : Matrix) → 2 ≤ p → A.height ≡ A.width → IsInverse p A B → IsInverse p A C →
-    B ≡ C
+InverseIsUnique = (p : ℕ) (A B C : Matrix) → 2 ≤ p → IsInverse p A B → IsInverse p A C → B ≡ C
 
 abbrev pub InverseExcludesNull : Type 0
-InverseExcludesNull = (p : ℕ) (A B : Matrix) (v : List ℕ) → A.height ≡ A.width → IsInverse p A B →
-    IsNull p A v → v ≡ zeros A.width
+InverseExcludesNull = (p : ℕ) (A B : Matrix) (v : List ℕ) → IsInverse p A B → IsNull p A v → v ≡ zeros A.width
 
 -- a square matrix has an inverse, or a null vector other than zero, and not both
 abbrev pub InverseOrNull : Type 0

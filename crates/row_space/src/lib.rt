@@ -97,12 +97,12 @@ pub fn refuting_is_solvable()
     ensures { RefutingIsSolvable }
 {}
 
-/// A square matrix has at most one inverse.
+/// A matrix has at most one inverse.
 pub fn inverse_is_unique()
     ensures { InverseIsUnique }
 {}
 
-/// Where a square matrix has an inverse, its only null vector is zero.
+/// Where a matrix has an inverse, its only null vector is zero.
 pub fn inverse_excludes_null()
     ensures { InverseExcludesNull }
 {}

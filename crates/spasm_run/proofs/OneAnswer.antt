@@ -1,7 +1,6 @@
 -- A command has one answer: what its text tells is unique, and just one of two things can be told.
-use Rattle.std.proofs.Common.{ℕ, ◌≡◌, ◌≢◌, ◌≤◌, ◌⊎◌, ◌++◌, inl, inr, List, [], ◌∷◌, None, refl, sym, ap, ◌∙◌, arith}
+use Rattle.std.proofs.Common.{ℕ, ◌≡◌, ◌≢◌, ◌≤◌, ◌⊎◌, ◌++◌, inl, inr, List, [], ◌∷◌, None, refl, sym, ap, ◌∙◌}
 use Rattle.std.specs.Prelude.{codes}
-use Rattle.std.proofs.lemmas.Bool.Decides.{nat_tests}
 use Rattle.residue_words.specs.Matrix.{Matrix, row}
 use Rattle.row_space.proofs.InverseLaws.{inverse_unique}
 use Rattle.row_space.proofs.Unique.{kernel_unique, rank_unique, refutation_unique, rref_unique, solution_unique}
@@ -31,20 +30,17 @@ one_solution p A b x y two (inr s) (inr t) =
     s.3 ∙ ap (λ v. codes "no solution\n" ++ text_of (as_row v)) same ∙ sym t.3
 
 -- the answer to an inverse
-one_inverse : (p : ℕ) (A : Matrix) (x y : List ℕ) → 2 ≤ p → A.height ≡ A.width → InvertsTo p A x → InvertsTo p A y → x ≡ y
-one_inverse p A x y two square (inl s) (inl t) =
-    let same : s.0 ≡ t.0 = inverse_unique p A s.0 t.0 two square s.1 t.1 in s.2 ∙ ap (λ B. codes "inverse\n" ++ text_of B) same ∙ sym t.2
-one_inverse p A x y two square (inl s) (inr t) = absurd (t.1 s.0 s.1)
-one_inverse p A x y two square (inr s) (inl t) = absurd (s.1 t.0 t.1)
-one_inverse p A x y two square (inr s) (inr t) =
+one_inverse : (p : ℕ) (A : Matrix) (x y : List ℕ) → 2 ≤ p → InvertsTo p A x → InvertsTo p A y → x ≡ y
+one_inverse p A x y two (inl s) (inl t) =
+    let same : s.0 ≡ t.0 = inverse_unique p A s.0 t.0 two s.1 t.1 in s.2 ∙ ap (λ B. codes "inverse\n" ++ text_of B) same ∙ sym t.2
+one_inverse p A x y two (inl s) (inr t) = absurd (t.1 s.0 s.1)
+one_inverse p A x y two (inr s) (inl t) = absurd (s.1 t.0 t.1)
+one_inverse p A x y two (inr s) (inr t) =
     let same : s.0 ≡ t.0 = kernel_unique p A s.0 t.0 two s.2 t.2 in
     s.4 ∙ ap (λ K. codes "singular\n" ++ text_of (as_row (row K 0))) same ∙ sym t.4
 
 one_kernel : (p : ℕ) (A K L : Matrix) (x y : List ℕ) → K ≡ L → x ≡ text_of K → y ≡ text_of L → x ≡ y
 one_kernel p A K L x y same a b = a ∙ ap text_of same ∙ sym b
-
-squared : (A : Matrix) → misfit task.Inverse (A ∷ []) ≡ None → A.height ≡ A.width
-squared A fits = grind (arith, nat_tests)
 
 one_verdict : (Claim : Type 0) (x y : List ℕ) → VerdictOn Claim x → VerdictOn Claim y → x ≡ y
 one_verdict Claim x y (inl s) (inl t) = s.1 ∙ sym t.1
@@ -60,7 +56,7 @@ answers_one task.Kernel c (A ∷ []) x y two fits alone other (K, s, a) (L, t, b
 answers_one task.Solve c (A ∷ B ∷ []) x y two fits alone other s t = one_solution c.modulus A (column B) x y two s t
 answers_one task.LeftKernel c (A ∷ []) x y two fits alone other (K, s, a) (L, t, b) =
     one_kernel c.modulus A K L x y (kernel_unique c.modulus (transposed A) K L two s t) a b
-answers_one task.Inverse c (A ∷ []) x y two fits alone other s t = one_inverse c.modulus A x y two (squared A fits) s t
+answers_one task.Inverse c (A ∷ []) x y two fits alone other s t = one_inverse c.modulus A x y two s t
 answers_one task.Pivots c (A ∷ []) x y two fits alone other (qs, s, a) (rs, t, b) =
     let one : c.workers ≡ 1 = alone (inl refl) in
     a ∙ ap pivots_text (selection_one A qs rs (s.alone one) (t.alone one)) ∙ sym b

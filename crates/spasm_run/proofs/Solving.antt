@@ -147,7 +147,7 @@ singular_answers c p A v law square narrow shape inverts = record {
       let (null, nonzero, (K, kernel, some, same)) = inverts prime in
       inr (
         K,
-        (λ B inverse. nonzero (law p A B (row v.matrix 0) square inverse null)),
+        (λ B inverse. nonzero (law p A B (row v.matrix 0) inverse null)),
         kernel,
         some,
         ap (λ V. codes "singular\n" ++ text_of V) (row_whole v.matrix shape.1 shape.2 ∙ ap as_row same),
