@@ -83,11 +83,14 @@ residues_vector p sums pos = record {
   residues = λ j l. let is : slice_index (residues_of p sums) j ≡ slice_index sums j % p = residue_at p sums j (omega (arith, residues_length p sums)) in omega arith;
 }
 
+-- a list of zeros alone is the zero row
+pub all_zero : (n : ℕ) (xs : List ℕ) → length xs ≡ n → AllZero xs → xs ≡ zeros n
+all_zero n xs e none = list_equal n xs (zeros n) e (length_list_of n (λ j. 0)) (λ j l. none j (omega arith) ∙ sym (at_zeros n j l))
+
 -- sums of 0 have residues of 0
 pub residues_zero : (p n : ℕ) (sums : List ℕ) → 0 < p → length sums ≡ n → AllZero sums → residues_of p sums ≡ zeros n
-residues_zero p n sums pos e none =
-    list_equal n (residues_of p sums) (zeros n) (residues_length p sums ∙ e) (length_list_of n (λ j. 0)) (λ j l.
-    residue_at p sums j (omega arith) ∙ ap (λ x. x % p) (none j (omega arith)) ∙ mod-eq_of_lt pos ∙ sym (at_zeros n j l))
+residues_zero p n sums pos e none = all_zero n (residues_of p sums) (residues_length p sums ∙ e) (λ j l.
+    residue_at p sums j (omega (arith, residues_length p sums)) ∙ ap (λ x. x % p) (none j (omega (arith, residues_length p sums))) ∙ mod-eq_of_lt pos)
 
 -- one sum is set
 pub residues_set : (p : ℕ) (sums : List ℕ) (j sum r : ℕ) → sum % p ≡ r → residues_of p (slice_set sums j sum) ≡ slice_set (residues_of p sums) j r

@@ -158,6 +158,7 @@ impl Accumulator {
         ensures sums { IsAlike self.old self.new }
         ensures row { IsAlike row.old row.new }
         ensures ok { OnOk result (row.new.row ≡ self.old.row) }
+        ensures empty { OnOk result (self.new.row ≡ zeros (length self.old.row)) }
     {
         while let Some((column, value)) = self.pop() {
             row.push(column, value)?;

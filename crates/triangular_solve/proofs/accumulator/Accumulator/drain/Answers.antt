@@ -1,6 +1,7 @@
 use Rattle.std.proofs.Common.{◌≡◌, ◌∙◌, length, refl, ap, arith}
 use Rattle.std.proofs.lemmas.List.{length-set}
 use Rattle.sparse_rows.proofs.Loops.{length_zeros, zero_at}
+use Rattle.triangular_solve.proofs.Accumulating.{all_zero}
 use Rattle.triangular_solve.proofs.Draining.{taken_vector}
 use Rattle.triangular_solve.proofs.Listed.{listing_all, listing_behind, listing_more, listing_none}
 use Rattle.triangular_solve.proofs.Touched.{taken_falls}
@@ -35,3 +36,6 @@ loop-column-preserved c =
 
 pub returns-clause-ok : goal.returns-clause-ok
 returns-clause-ok c = listing_all c.loop-column.invariant.listing c.in_default.ensures.none.1
+
+pub returns-clause-empty : goal.returns-clause-empty
+returns-clause-empty c = ap (λ a. a.row) c.in_default.ensures.none.0 ∙ all_zero _ c.loop-column.self.row c.loop-column.invariant.sums.1 c.in_default.ensures.none.1
