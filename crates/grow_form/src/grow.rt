@@ -19,8 +19,8 @@ use triangular_solve::Leads;
 /// what is asked of it, its rank, its reduced echelon form and the rows in it, are the same whichever rows these are.
 ///
 /// Rows are kept by their leads, each at that of its columns which came last, so that a new row meets few of
-/// them; they are settled only where the form is asked for. It takes 20 bytes a column, 8 of which are touched
-/// only at columns that have come, at most 24 bytes an entry of the kept rows and about 90 bytes a row.
+/// them; they are settled only where the form is asked for. It takes 20 bytes a column, at most 24 bytes an
+/// entry of the kept rows and about 90 bytes a row.
 #[derive(Debug, Drop)]
 pub struct Grow {
     alloc: Global,

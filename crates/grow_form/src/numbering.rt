@@ -12,7 +12,7 @@ use std::alloc::{AllocError, Global};
 use std::marker::Model;
 
 // Of n columns the one that comes first has the number n - 1, the next one n - 2, and so on. It takes 8 bytes a
-// column, which are touched only where columns have come.
+// column.
 #[derive(Debug, Drop)]
 pub(crate) struct Numbering {
     // For each column 1 and its place among those that have come, or 0.

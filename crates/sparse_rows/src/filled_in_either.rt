@@ -27,7 +27,8 @@ impl<'a> Model for FilledInEither<'a> {
 
     ghost view = { λ f. matrices_from f.left.now.matrix f.right.now.matrix f.from };
 
-    ghost invariant = { λ f. AreFirstFilled f.left.now.matrix f.right.now.matrix f.from f.left_next f.right_next };
+    ghost invariant = { λ f.
+        AreFirstFilled f.left.now.matrix f.right.now.matrix f.from f.left_next f.right_next };
 }
 
 impl<'a> FilledInEither<'a> {

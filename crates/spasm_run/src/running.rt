@@ -25,8 +25,8 @@ use std::thread::Threads;
 ///
 /// Words that aren't accepted are refused before anything is read, and nothing is read for a matrix that is generated. A source is read no
 /// further than the pull, of at most 65536 bytes, in which the last line that is wanted ends. The lines may have `LARGEST_INPUT` bytes, and
-/// the first faulty one is named. Memory is wanted for the entries, at most 40 bytes each while they are read, for the rows, and for the
-/// echelon forms and what is made of them; none for writing.
+/// the first faulty one is named. Memory is wanted for the entries, at most 40 bytes each while they are read and 70 where most
+/// rows have none, for the rows, and for the echelon forms and what is made of them; none for writing.
 /// `rt` starts the threads of a command's workers, and `gate` serves their searches for pivots.
 pub fn run<'a, R: Threads + Sync, S: Source, K: Sink, E: Sink, G: Gate>(
     rt: &R,
