@@ -76,7 +76,7 @@ zero_term (suc n) f l = elim (cases_eq (f n) 0) [
 ]
 
 -- a square matrix with fewer entries than rows has a row of zeros, so its kernel basis has a row
-pub few_entries : (p : ℕ) (A : Matrix) → 2 ≤ p → IsMatrix p A → A.height ≡ A.width → entry_count A < A.width → (K : Matrix) → IsKernel p A K → 0 < K.height
+pub few_entries : (p : ℕ) (A : Matrix) → 2 ≤ p → IsMatrix p A → A.height ≡ A.width → entry_count A < A.height → IsSingular p A
 few_entries p A two m square few =
     let found = zero_term A.height (λ i. length (support (row A i))) (omega arith) in
     let i : ℕ = found.0 in

@@ -70,8 +70,8 @@ fn inverse_of<R: Threads + Sync>(
     Ok(found)
 }
 
-/// [A | I] for a square matrix A of at most 2^30 rows; None where A has fewer entries than rows, and so no inverse for a
-/// prime modulus. In time proportional to the entries and the rows.
+/// [A | I] for a square matrix A of at most 2^30 rows; None just where A has fewer entries than rows, and so no inverse for
+/// a prime modulus. In time proportional to the entries and the rows.
 pub fn doubled(alloc: Global, a: &Rows) -> Result<Option<Rows>, AllocError>
     requires square { a.now.matrix.height ≡ a.now.matrix.width }
     requires small { 2 * a.now.matrix.width ≤ LARGEST_SIZE }

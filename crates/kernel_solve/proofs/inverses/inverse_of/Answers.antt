@@ -3,7 +3,7 @@ use Rattle.residue_words.specs.Matrix.{Matrix}
 use Rattle.sparse_rows.specs.Rows.{beside, identity}
 use Rattle.echelon_form.specs.Form.{IsFormOf}
 use Rattle.kernel_solve.specs.Inverted.{IsDoubled}
-use Rattle.kernel_solve.proofs.Inverting.{form_same}
+use Rattle.kernel_solve.proofs.Inverting.{few_entries, form_same}
 use Rattle.kernel_solve.proofs.inverses.inverse_of.Goals as goal
 
 pub returns-clause-tells : goal.returns-clause-tells
@@ -16,3 +16,8 @@ returns-clause-tells g c = λ prime.
     let form : IsFormOf p (beside A (identity n)) c.in_ok-form.form =
     form_same c.in-Some.both.modulus p c.in-Some.both.matrix (beside A (identity n)) c.in_ok-form.form both.0 (both.1 ∙ ap (λ n. beside A (identity n)) (sym size)) c.in_ok-form.ensures in
     c.in_ok-found.ensures.tells p A prime c.height.ensures.sound (c.requires.square ∙ sym size) (sym size) form
+
+pub returns-in_default-clause-tells : goal.returns-in_default-clause-tells
+returns-in_default-clause-tells g c = λ prime.
+    few_entries c.args.a.now.modulus c.args.a.now.matrix prime.two_or_more c.height.ensures.sound c.requires.square
+    (subst (IsDoubled c.args.a.now) c.in_default.is c.in_ok-both.ensures)
