@@ -146,9 +146,9 @@ EndsWith task p said s = s ≡ Done
 abbrev pub SearchesAlone : Command → Type 0
 SearchesAlone c = (c.task ≡ Pivots) ⊎ (c.task ≡ Trace) → c.workers ≡ 1
 
--- the answer to a command for what was read, with matrices of the shapes that are wanted, is one text: the pivots and the trace where one
--- worker searches, and a certificate, of which a matrix has many, apart
+-- the answer to a command for what was read is one text: the pivots and the trace where one worker searches, and a certificate, of which
+-- a matrix has many, apart
 abbrev pub IsOneAnswer : Type 0
 IsOneAnswer = (c : Command) (said : Contents) (text other : List ℕ) → 2 ≤ c.modulus →
-    misfit c.task said.matrices ≡ None → SearchesAlone c → ((kind : CertKind) → c.task ≢ Certify kind) →
+    SearchesAlone c → ((kind : CertKind) → c.task ≢ Certify kind) →
     AnswerOf c said text → AnswerOf c said other → text ≡ other
