@@ -4,6 +4,7 @@ pub mod Certifying
 pub mod Continuing
 pub mod Elimination
 pub mod Exact
+pub mod Examples
 pub mod Generating
 pub mod InRange
 pub mod Input

@@ -2,6 +2,7 @@ pub mod Answers
 pub mod Computed
 pub mod Contents
 pub mod Continuing
+pub mod Examples
 pub mod Generator
 pub mod Input
 pub mod Line

@@ -17,7 +17,9 @@ mod written_pivots;
 
 pub use commands::{LARGEST_INVERTED, at_most_one_answer};
 pub use generator::{Generator, LARGEST_GENERATED, MOST_PER_ROW, generated_example};
-pub use laws::{certified_is_checked, closed_texts_are_worked, traced_is_replayed};
+pub use laws::{
+    certified_is_checked, closed_texts_are_worked, runs_are_worked, traced_is_replayed,
+};
 pub use numbered_text::write_with_number;
 pub use optimistic_search::{Gate, Open, Point};
 pub use plain_elimination::{plain_rows, rank_of};
