@@ -39,7 +39,7 @@ loop-i-preserved c =
       omega (arith, c.is_row_of_product.ensures.len, c.loop-i.invariant.0),
       c.is_row_of_product.ensures.zero c.if-not-is_row_of_product.false,
       subst (AreCombinedBefore p V Y c.args.b.now.matrix) from
-      (combined_more v y c.requires.fit.height c.requires.fit.width c.requires.fit.inner c.loop-i.invariant.2 i n (c.is_row_of_product.ensures.combined.0 c.if-not-is_row_of_product.false)),
+          (combined_more v y c.requires.fit.height c.requires.fit.width c.requires.fit.inner c.loop-i.invariant.2 i n (c.is_row_of_product.ensures.combined.0 c.if-not-is_row_of_product.false)),
       after ∙ ap (matrices_from V Y) from,
     )
 
