@@ -5,6 +5,8 @@ pub mod Falling
 pub mod Feeding
 pub mod Filling
 pub mod Following
+pub mod LeadingWords
+pub mod LineEnds
 pub mod Lining
 pub mod Moving
 pub mod Parts

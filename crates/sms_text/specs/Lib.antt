@@ -1,4 +1,5 @@
 pub mod Buffered
+pub mod EntryWords
 pub mod Feeding
 pub mod Kind
 pub mod Laws

@@ -29,7 +29,7 @@ pub fn content(line: &[u8]) -> &[u8]
     front
 }
 
-fn is_gap(b: u8) -> bool
+pub fn is_gap(b: u8) -> bool
     ensures { result ≡ is_gap b }
 {
     b == b' ' || b == b'\t'

@@ -100,12 +100,25 @@ fn beginning(
 }
 
 // Each row: a text, the limit, its height and width, and its first entry or the error in its place.
-const BEGINNINGS: [(&[u8], u32, u32, Result<Option<Entry>, TextError>); 2] = [
+const BEGINNINGS: [(&[u8], u32, u32, Result<Option<Entry>, TextError>); 4] = [
     (
         b"3 3 M\n1 1 2\n1 2 4\n0 0 0\n",
         99,
         3,
         Ok(Some(Entry { i: 0, j: 0, v: 2 })),
+    ),
+    // A plain line, and the same words with other gaps, which are sought one by one.
+    (
+        b"3 3 M\n2 3 -9\n0 0 0\n",
+        99,
+        3,
+        Ok(Some(Entry { i: 1, j: 2, v: 5 })),
+    ),
+    (
+        b"3 3 M\n\t2 \t3  -9 \n0 0 0\n",
+        99,
+        3,
+        Ok(Some(Entry { i: 1, j: 2, v: 5 })),
     ),
     (
         b"1 1 M\n1 1 1\n0 0 0\n",
