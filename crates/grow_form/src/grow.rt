@@ -1,10 +1,11 @@
 // Rows that are appended between questions.
-ghost use Rattle.std.specs.Prelude.{◌≡◌, ◌≤◌, ◌↔◌, true, IfOk, OnErr};
+ghost use Rattle.std.specs.Prelude.{◌≡◌, ◌≤◌, ◌↔◌, true, None, IfOk, IfSome, OnErr};
 ghost use Rattle.residue_words.specs.Matrix.{IsCombination};
 ghost use Rattle.residue_words.specs.Residues.{IsPrime};
 ghost use Rattle.row_space.specs.Echelon.{HasRank};
 ghost use Rattle.sparse_rows.specs.Stored.{IsSparse, spread};
 ghost use Rattle.sparse_rows.specs.declared.rows.TheConstants.{LARGEST_SIZE};
+ghost use Rattle.triangular_solve.specs.Accumulator.{IsClear};
 ghost use Rattle.grow_form.specs.Growing.{AppendsRow, AreRowsOfForm, SpansRowsOf, without_rows};
 
 use crate::numbering::Numbering;
@@ -13,31 +14,37 @@ use residue_words::Modulus;
 use sparse_rows::Rows;
 use std::alloc::{AllocError, Global};
 use std::marker::Model;
-use triangular_solve::Leads;
+use std::mem::replace;
+use triangular_solve::{Accumulator, Leads};
 
 /// The row space of rows that are appended one after another. Contracts see the modulus and independent rows that span it;
 /// what is asked of it, its rank, its reduced echelon form and the rows in it, are the same whichever rows these are.
 ///
 /// Rows are kept by their leads, each at that of its columns which came last, so that a new row meets few of
-/// them; they are settled only where the form is asked for. It takes 20 bytes a column, at most 24 bytes an
-/// entry of the kept rows and about 90 bytes a row.
+/// them; they are settled only where the form is asked for. It takes 20 bytes a column, and 8 more once it was asked for a row;
+/// at most 24 bytes an entry of the kept rows and about 90 bytes a row.
 #[derive(Debug, Drop)]
 pub struct Grow {
     alloc: Global,
     // The kept rows, by the numbers of the columns.
     kept: Leads,
     numbering: Numbering,
+    // The zero row, for sums by these numbers; it is made when a row is asked for.
+    sums: Option<Accumulator>,
 }
 
 impl Model for Grow {
+    ghost use Rattle.std.specs.Prelude.{IfSome};
     ghost use Rattle.sparse_rows.specs.Rows.{ResidueMatrix};
+    ghost use Rattle.triangular_solve.specs.Accumulator.{IsClear};
     ghost use Rattle.grow_form.specs.Numbering.{AreKeptByNumbers, seen_rows};
 
     ghost Value = { ResidueMatrix };
 
     ghost view = { λ g. seen_rows g.kept g.numbering };
 
-    ghost invariant = { λ g. AreKeptByNumbers g.kept g.numbering };
+    ghost invariant = { λ g. AreKeptByNumbers g.kept g.numbering
+        × IfSome g.sums (IsClear g.kept.modulus g.kept.matrix.width) };
 }
 
 impl Grow {
@@ -50,6 +57,7 @@ impl Grow {
             alloc,
             kept: Leads::new(alloc, n, p)?,
             numbering: Numbering::new(alloc, n)?,
+            sums: None,
         })
     }
 
@@ -94,11 +102,12 @@ impl Grow {
     }
 
     /// Whether the row that stands in these columns and values is a combination of the rows. The time is that of the entries
-    /// of the kept rows that are used and of the columns, for which memory is taken for this call.
-    pub fn contains(&self, cols: &[u32], vals: &[u64]) -> Result<bool, AllocError>
-        requires { IsSparse self.now.modulus self.now.matrix.width cols.now vals.now }
-        ensures { IfOk result (λ found. (found ≡ true) ↔
-            IsCombination self.now.modulus self.now.matrix (spread self.now.matrix.width cols.now vals.now)) }
+    /// of the kept rows that are used, and a step for each 4096 columns; the first such call takes memory for the columns.
+    pub fn contains(&mut self, cols: &[u32], vals: &[u64]) -> Result<bool, AllocError>
+        requires { IsSparse self.old.modulus self.old.matrix.width cols.now vals.now }
+        ensures same { self.new ≡ self.old }
+        ensures found { IfOk result (λ found. (found ≡ true) ↔
+            IsCombination self.old.modulus self.old.matrix (spread self.old.matrix.width cols.now vals.now)) }
     {
         // The calls tell what the kept rows and the numbers promise.
         let _ = (self.kept.height(), self.numbering.width());
@@ -109,12 +118,12 @@ impl Grow {
         let row = self.numbering.row_by_numbers(self.alloc, cols, vals, &p)?;
         // The call tells that the entries are residues.
         let _ = row.height();
-        Ok(
-            self.kept
-                .rest(self.alloc, row.cols(0), row.vals(0))?
-                .cols()
-                .is_empty(),
-        )
+        let mut sums = taken(self.alloc, &self.kept, &mut self.sums)?;
+        let rest = self
+            .kept
+            .rest_with(self.alloc, row.cols(0), row.vals(0), &mut sums);
+        self.sums = Some(sums);
+        Ok(rest?.cols().is_empty())
     }
 
     /// The reduced echelon form of the rows: for a prime modulus the one form of all rows that were appended. The
@@ -141,5 +150,21 @@ impl Grow {
         // The call tells what the numbers promise.
         let _ = self.numbering.width();
         self.kept.height()
+    }
+}
+
+// The zero row for sums, as long as these rows: the one that is there, or a new one.
+fn taken(
+    alloc: Global,
+    kept: &Leads,
+    sums: &mut Option<Accumulator>,
+) -> Result<Accumulator, AllocError>
+    requires { IfSome sums.old (IsClear kept.now.modulus kept.now.matrix.width) }
+    ensures clear { IfOk result (IsClear kept.now.modulus kept.now.matrix.width) }
+    ensures none { sums.new ≡ None }
+{
+    match replace(sums, None) {
+        Some(sums) => Ok(sums),
+        None => Accumulator::new(alloc, kept.width(), &kept.modulus()),
     }
 }

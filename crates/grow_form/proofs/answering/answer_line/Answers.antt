@@ -1,4 +1,4 @@
-use Rattle.std.proofs.Common.{◌≡◌, ◌↔◌, true, None, Some, refl, subst, sym}
+use Rattle.std.proofs.Common.{◌≡◌, ◌↔◌, true, None, Some, subst, sym}
 use Rattle.residue_words.specs.Matrix.{IsCombination}
 use Rattle.grow_form.specs.Answers.{AnswersOfScript, FitsRows, IsRowFor}
 use Rattle.grow_form.specs.Growing.{AppendsRow}
@@ -19,8 +19,8 @@ pub returns-in_ok-contains-in-Contains-clause-ok :
     goal.returns-in_ok-contains-in-Contains-clause-ok
 returns-in_ok-contains-in-Contains-clause-ok c =
     let fits : IsRowFor c.args.grow.now c.in-Contains.row = subst (FitsRows c.args.grow.now) c.in-Contains.is c.requires in
-    subst (λ l. AnswersOfScript c.args.grow.now c.args.grow.now l (Some (answer.Contains c.in_ok-contains-in-Contains.field-0))) (sym c.in-Contains.is) (
-      refl,
+    subst (λ l. AnswersOfScript c.args.grow.now c.contains.new.self l (Some (answer.Contains c.in_ok-contains-in-Contains.field-0))) (sym c.in-Contains.is) (
+      c.contains.ensures.same,
       subst (λ v. (c.in_ok-contains-in-Contains.field-0 ≡ true) ↔ IsCombination c.args.grow.now.modulus c.args.grow.now.matrix v)
-          (spread_alone c.modulus-in-Contains.ensures.sound fits.width fits.height c.cols-in-Contains.ensures.support c.vals-in-Contains.ensures.values) c.in_ok-contains-in-Contains.ensures,
+          (spread_alone c.modulus-in-Contains.ensures.sound fits.width fits.height c.cols-in-Contains.ensures.support c.vals-in-Contains.ensures.values) c.in_ok-contains-in-Contains.ensures.found,
     )

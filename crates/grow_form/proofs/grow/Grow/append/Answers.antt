@@ -23,7 +23,7 @@ pub insert-requires : goal.insert-requires
 insert-requires c =
     let is : IsRowByNumbers c.note.new.self c.self.inside.kept.modulus c.args.cols.now c.args.vals.now c.in_ok-row.row =
     subst (λ p. IsRowByNumbers c.note.new.self p c.args.cols.now c.args.vals.now c.in_ok-row.row) c.modulus-p.ensures c.in_ok-row.ensures in
-    row_sparse c.height.ensures.sound c.self.invariant c.width-2.ensures.sound c.note.ensures.behind is c.height-2.ensures.sound c.cols.ensures.support c.vals.ensures.values
+    row_sparse c.height.ensures.sound c.self.invariant.0 c.width-2.ensures.sound c.note.ensures.behind is c.height-2.ensures.sound c.cols.ensures.support c.vals.ensures.values
 
 pub returns-clause-ok : goal.returns-clause-ok
 returns-clause-ok c =
@@ -31,20 +31,22 @@ returns-clause-ok c =
     subst (λ p. IsRowByNumbers c.note.new.self p c.args.cols.now c.args.vals.now c.in_ok-row.row) c.modulus-p.ensures c.in_ok-row.ensures in
     subst (λ (g : ResidueMatrix). AppendsRow g (seen_rows c.insert.new.self c.cover.new.self) (spread g.matrix.width c.args.cols.now c.args.vals.now) c.is_some.result) c.self.view_is
     (subst (AppendsRow (seen_rows c.self.inside.kept c.self.inside.numbering) (seen_rows c.insert.new.self c.cover.new.self) (spread (length c.self.inside.numbering.arrivals) c.args.cols.now c.args.vals.now)) (sym c.is_some.ensures)
-    (row_appended c.height.ensures.sound c.self.invariant c.width-2.ensures.sound c.note.ensures.behind is c.height-2.ensures.sound c.cols.ensures.support c.vals.ensures.values
+    (row_appended c.height.ensures.sound c.self.invariant.0 c.width-2.ensures.sound c.note.ensures.behind is c.height-2.ensures.sound c.cols.ensures.support c.vals.ensures.values
     c.height-3.ensures.sound c.cover.ensures.behind c.in_ok-lead.lead c.in_ok-lead.ensures.inserted))
 
 pub invariant_of-self-2 : goal.invariant_of-self-2
 invariant_of-self-2 c =
     let is : IsRowByNumbers c.note.new.self c.self.inside.kept.modulus c.args.cols.now c.args.vals.now c.in_ok-row.row =
-    subst (λ p. IsRowByNumbers c.note.new.self p c.args.cols.now c.args.vals.now c.in_ok-row.row) c.modulus-p.ensures c.in_ok-row.ensures in
-    row_kept c.height.ensures.sound c.self.invariant c.width-2.ensures.sound c.note.ensures.behind is c.height-2.ensures.sound c.cols.ensures.support c.vals.ensures.values
-    c.cover.ensures.behind c.in_ok-lead.lead c.cover.ensures.covered c.in_ok-lead.ensures.inserted
+    subst (λ p. IsRowByNumbers c.note.new.self p c.args.cols.now c.args.vals.now c.in_ok-row.row) c.modulus-p.ensures c.in_ok-row.ensures in (
+      row_kept c.height.ensures.sound c.self.invariant.0 c.width-2.ensures.sound c.note.ensures.behind is c.height-2.ensures.sound c.cols.ensures.support c.vals.ensures.values
+          c.cover.ensures.behind c.in_ok-lead.lead c.cover.ensures.covered c.in_ok-lead.ensures.inserted,
+      rw (c.insert.ensures.modulus, c.insert.ensures.width) c.self.invariant.1,
+    )
 
 pub returns-in_err-row-clause-err : goal.returns-in_err-row-clause-err
-returns-in_err-row-clause-err c = any_err c.from_residual.result (seen_behind c.height.ensures.sound c.self.invariant c.note.ensures.behind ∙ c.self.view_is)
+returns-in_err-row-clause-err c = any_err c.from_residual.result (seen_behind c.height.ensures.sound c.self.invariant.0 c.note.ensures.behind ∙ c.self.view_is)
 
 pub returns-in_err-lead-clause-err : goal.returns-in_err-lead-clause-err
 returns-in_err-lead-clause-err c =
     any_err c.from_residual-in_err-lead.result
-    (ap (λ K. seen_rows K c.note.new.self) c.in_err-lead.ensures.err ∙ seen_behind c.height.ensures.sound c.self.invariant c.note.ensures.behind ∙ c.self.view_is)
+    (ap (λ K. seen_rows K c.note.new.self) c.in_err-lead.ensures.err ∙ seen_behind c.height.ensures.sound c.self.invariant.0 c.note.ensures.behind ∙ c.self.view_is)

@@ -21,26 +21,26 @@ row_by_numbers-requires-clause-sparse c =
     subst (λ (g : ResidueMatrix). IsSparse g.modulus g.matrix.width c.args.cols.now c.args.vals.now) (sym c.self.view_is) c.requires in
     rw c.modulus-p.ensures sparse
 
-pub rest-requires : goal.rest-requires
-rest-requires c =
+pub rest_with-rest-requires-clause-sparse : goal.rest_with-rest-requires-clause-sparse
+rest_with-rest-requires-clause-sparse c =
     let is : IsRowByNumbers c.self.inside.numbering c.self.inside.kept.modulus c.args.cols.now c.args.vals.now c.in_ok-row.row =
     subst (λ p. IsRowByNumbers c.self.inside.numbering p c.args.cols.now c.args.vals.now c.in_ok-row.row) c.modulus-p.ensures c.in_ok-row.ensures in
-    row_sparse c.height.ensures.sound c.self.invariant c.width.ensures.sound (behind_itself c.self.inside.numbering) is c.height-2.ensures.sound c.cols.ensures.support c.vals.ensures.values
+    row_sparse c.height.ensures.sound c.self.invariant.0 c.width.ensures.sound (behind_itself c.self.inside.numbering) is c.height-2.ensures.sound c.cols.ensures.support c.vals.ensures.values
 
-pub returns-then-not-have_come : goal.returns-then-not-have_come
-returns-then-not-have_come c =
+pub returns-then-not-have_come-clause-found : goal.returns-then-not-have_come-clause-found
+returns-then-not-have_come-clause-found c =
     let sparse : IsSparse c.self.inside.kept.modulus (length c.self.inside.numbering.arrivals) c.args.cols.now c.args.vals.now =
     subst (λ (g : ResidueMatrix). IsSparse g.modulus g.matrix.width c.args.cols.now c.args.vals.now) (sym c.self.view_is) c.requires in
     subst (λ (g : ResidueMatrix). (false ≡ true) ↔ IsCombination g.modulus g.matrix (spread g.matrix.width c.args.cols.now c.args.vals.now)) c.self.view_is (
       λ e. absurd (false≢true e),
-      λ v. absurd (false≢true (sym c.if-not-have_come.true ∙ c.have_come.ensures.1 (combination_come c.height.ensures.sound c.self.invariant sparse v))),
+      λ v. absurd (false≢true (sym c.if-not-have_come.true ∙ c.have_come.ensures.1 (combination_come c.height.ensures.sound c.self.invariant.0 sparse v))),
     )
 
-pub returns : goal.returns
-returns c =
+pub returns-clause-found : goal.returns-clause-found
+returns-clause-found c =
     let is : IsRowByNumbers c.self.inside.numbering c.self.inside.kept.modulus c.args.cols.now c.args.vals.now c.in_ok-row.row =
     subst (λ p. IsRowByNumbers c.self.inside.numbering p c.args.cols.now c.args.vals.now c.in_ok-row.row) c.modulus-p.ensures c.in_ok-row.ensures in
-    let found = row_found c.height.ensures.sound c.self.invariant c.width.ensures.sound (behind_itself c.self.inside.numbering) is c.height-2.ensures.sound c.cols.ensures.support c.vals.ensures.values in
+    let found = row_found c.height.ensures.sound c.self.invariant.0 c.width.ensures.sound (behind_itself c.self.inside.numbering) is c.height-2.ensures.sound c.cols.ensures.support c.vals.ensures.values in
     let none = no_support c.self.inside.kept.matrix.width c.in_ok-rest.field-0.row c.in_ok-rest.ensures.rest.vector.len in
     let zero = c.in_ok-rest.ensures.rest.zero in
     let long : length c.cols-3.result.now ≡ length (support c.in_ok-rest.field-0.row) = ap length c.cols-3.ensures.support in

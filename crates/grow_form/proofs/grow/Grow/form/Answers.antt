@@ -13,5 +13,5 @@ returns c =
     subst (λ (g : ResidueMatrix). AreRowsOfForm g c.in_ok-form.form) c.self.view_is (
       map (λ (x : ℕ × ℕ). x.0) settled.0,
       form_of_settled c.in_ok-form.ensures.sound settled.1 settled.2 refl (c.in_ok-form.ensures.modulus ∙ c.in_ok-rows.ensures.modulus) c.in_ok-rows.ensures.modulus
-          (c.in_ok-rows.ensures.width ∙ c.self.invariant.width) (subst (λ q. IsPrime q → SameSpan q (rows_at_columns c.self.inside.numbering.arrivals c.self.inside.kept.matrix) c.in_ok-rows.rows.matrix) c.in_ok-rows.ensures.modulus c.in_ok-rows.ensures.span),
+          (c.in_ok-rows.ensures.width ∙ c.self.invariant.0.width) (subst (λ q. IsPrime q → SameSpan q (rows_at_columns c.self.inside.numbering.arrivals c.self.inside.kept.matrix) c.in_ok-rows.rows.matrix) c.in_ok-rows.ensures.modulus c.in_ok-rows.ensures.span),
     )
