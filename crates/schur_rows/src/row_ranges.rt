@@ -3,7 +3,7 @@ ghost use Rattle.std.specs.Prelude.{◌≡◌, ◌<◌, ◌≤◌, ◌+◌, ◌-
 ghost use Rattle.std.specs.Option.{MatchOption};
 ghost use Rattle.sparse_rows.specs.declared.rows.TheConstants.{LARGEST_SIZE};
 ghost use Rattle.triangular_solve.specs.PivotRows.{IsAlike};
-ghost use Rattle.triangular_solve.specs.Reduced.{workspace_of};
+ghost use Rattle.triangular_solve.specs.Reduced.{HasSizesOf, workspace_of};
 ghost use Rattle.schur_rows.specs.Parts.{AddsLeft, AddsRow, AddsZeros, AreZeroRows, MayTakeRow, IsNextBelow, IsPartTo, itself};
 ghost use Rattle.schur_rows.specs.PivotNumbers.{HasNumbers};
 
@@ -13,7 +13,7 @@ use crate::round::SchurRows;
 use crate::row_reducer::RowReducer;
 use sparse_rows::{Rows, Sparse};
 use std::alloc::{AllocError, Global};
-use triangular_solve::Work;
+use triangular_solve::{Reduced, Work};
 
 // No row, with room for so many rows and their share of the entries.
 pub(crate) fn no_rows(alloc: Global, pass: Pass, height: u32) -> Result<SchurRows, AllocError>
@@ -58,27 +58,26 @@ pub(crate) fn part_of(
     // The call's contract tells how high a matrix is.
     let _ = rows.height();
     let mut part = no_rows(alloc, pass, to - from)?;
-    let mut rest = Sparse::new(alloc, rows.width(), rows.modulus());
-    append_rows(alloc, pass, from, to, work, &mut rest, &mut part)?;
+    let mut left = pass.reducer.room(alloc);
+    append_rows(alloc, pass, from, to, work, &mut left, &mut part)?;
     Ok(part)
 }
 
-// Appends what is left of the rows from `from` up to `to`. The row `rest` is room for it.
+// Appends what is left of the rows from `from` up to `to`. It passes through `left`.
 fn append_rows(
     alloc: Global,
     pass: Pass,
     from: u32,
     to: u32,
     work: &mut Work,
-    rest: &mut Sparse,
+    left: &mut Reduced,
     part: &mut SchurRows,
 ) -> Result<(), AllocError>
     requires work { work.old ≡ workspace_of pass.reducer.now }
     requires order { from ≤ to }
     requires inside { to ≤ pass.reducer.now.rows.matrix.height }
     requires numbers { HasNumbers pass.reducer.now.pairs pass.pivot_rows.now }
-    requires rest_modulus { rest.old.modulus ≡ pass.reducer.now.rows.modulus }
-    requires rest_width { length rest.old.row ≡ pass.reducer.now.rows.matrix.width }
+    requires sizes { HasSizesOf pass.reducer.now left.old }
     requires part { IsPartTo pass.reducer.now pass.kept from from part.old }
     ensures work { work.new ≡ work.old }
     ensures part { OnOk result (IsPartTo pass.entry.reducer.now pass.entry.kept from to part.new) }
@@ -89,7 +88,7 @@ fn append_rows(
     let mut next = from;
     while let Some(i) = next_below(rows, next, to) {
         append_zeros(part, i - next)?;
-        append_left(alloc, pass, i, work, rest, part)?;
+        append_left(alloc, pass, i, work, left, part)?;
         next = i + 1;
     }
     append_zeros(part, to - next)?;
@@ -155,23 +154,22 @@ fn append_zeros(part: &mut SchurRows, count: u32) -> Result<(), AllocError>
     Ok(())
 }
 
-// Appends what is left of row i. Where the coefficients aren't kept it passes through `rest`.
+// Appends what is left of row i, with its coefficients where they are kept. It passes through `left`.
 fn append_left(
     alloc: Global,
     pass: Pass,
     i: u32,
     work: &mut Work,
-    rest: &mut Sparse,
+    left: &mut Reduced,
     part: &mut SchurRows,
 ) -> Result<(), AllocError>
     requires row { i < pass.reducer.now.rows.matrix.height }
     requires numbers { HasNumbers pass.reducer.now.pairs pass.pivot_rows.now }
     requires work { work.old ≡ workspace_of pass.reducer.now }
-    requires rest_modulus { rest.old.modulus ≡ pass.reducer.now.rows.modulus }
-    requires rest_width { length rest.old.row ≡ pass.reducer.now.rows.matrix.width }
+    requires sizes { HasSizesOf pass.reducer.now left.old }
     requires part { MayTakeRow pass.reducer.now part.old }
     ensures work { work.new ≡ work.old }
-    ensures rest { IsAlike rest.old rest.new }
+    ensures sizes { OnOk result (HasSizesOf pass.entry.reducer.now left.new) }
     ensures added { OnOk result (AddsLeft pass.entry.reducer.now pass.entry.kept i part.old part.new) }
 {
     let reducer = pass.reducer;
@@ -182,39 +180,38 @@ fn append_left(
     let vals = rows.vals(i);
     if let Some(k) = pass.pivot_rows.find(i, reducer.pairs()) {
         if pass.kept {
-            append_pivot(alloc, k, part)?;
+            append_pivot(k, &mut left.coefficients, part)?;
             return Ok(());
         }
         append_zeros(part, 1)?;
         return Ok(());
     }
     if pass.kept {
-        let reduced = reducer.reduce(alloc, cols, vals, work)?;
-        part.rows.append(&reduced.rest)?;
-        part.coefficients.append(&reduced.coefficients)?;
+        reducer.reduce(alloc, cols, vals, work, left)?;
+        part.rows.append(&left.rest)?;
+        part.coefficients.append(&left.coefficients)?;
         return Ok(());
     }
-    reducer.rest(alloc, cols, vals, work, rest)?;
-    part.rows.append(rest)?;
+    reducer.rest(alloc, cols, vals, work, &mut left.rest)?;
+    part.rows.append(&left.rest)?;
     part.coefficients.append_zeros(1)?;
     Ok(())
 }
 
-// Appends the k-th pivot's row: nothing is left of it, and its coefficient is 1.
-fn append_pivot(alloc: Global, k: u32, part: &mut SchurRows) -> Result<(), AllocError>
+// Appends the k-th pivot's row: nothing is left of it, and its coefficient is 1. It passes through `row`.
+fn append_pivot(k: u32, row: &mut Sparse, part: &mut SchurRows) -> Result<(), AllocError>
     requires pivot { k < part.old.coefficients.matrix.width }
     requires rows { part.old.rows.matrix.height < LARGEST_SIZE }
     requires coefficients { part.old.coefficients.matrix.height < LARGEST_SIZE }
     requires sound { 2 ≤ part.old.coefficients.modulus }
-    ensures { OnOk result (AddsRow (itself part.old k) part.old part.new) }
+    requires modulus { row.old.modulus ≡ part.old.coefficients.modulus }
+    requires width { length row.old.row ≡ part.old.coefficients.matrix.width }
+    ensures row { OnOk result (IsAlike row.old row.new) }
+    ensures added { OnOk result (AddsRow (itself part.old k) part.old part.new) }
 {
-    let mut itself = Sparse::new(
-        alloc,
-        part.coefficients.width(),
-        part.coefficients.modulus(),
-    );
-    itself.push(k, 1)?;
+    row.clear();
+    row.push(k, 1)?;
     part.rows.append_zeros(1)?;
-    part.coefficients.append(&itself)?;
+    part.coefficients.append(row)?;
     Ok(())
 }

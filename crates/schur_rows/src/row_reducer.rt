@@ -4,7 +4,7 @@ ghost use Rattle.residue_words.specs.Residues.{IsPrime};
 ghost use Rattle.pivot_table.specs.Order.{Triangular};
 ghost use Rattle.sparse_rows.specs.Stored.{IsSparse, spread};
 ghost use Rattle.triangular_solve.specs.PivotRows.{IsAlike};
-ghost use Rattle.triangular_solve.specs.Reduced.{FitsReduced, FitsRest, IsReduced, IsSchurRow, reduction_of, workspace_of};
+ghost use Rattle.triangular_solve.specs.Reduced.{FitsReduced, FitsRest, HasSizesOf, IsReduced, IsSchurRow, reduction_of, workspace_of};
 
 use pivot_table::Pair;
 use sparse_rows::{Rows, Sparse};
@@ -94,6 +94,13 @@ impl<'t, 'a> RowReducer<'t, 'a> {
         Work::new(alloc, self.triangle)
     }
 
+    // Rows of zeros to which a worker reduces rows, one after another.
+    pub(crate) fn room(&self, alloc: Global) -> Reduced
+        ensures { HasSizesOf self.now result }
+    {
+        self.triangle.room(alloc)
+    }
+
     // Reduces a row with its coefficients.
     pub(crate) fn reduce(
         &self,
@@ -101,16 +108,19 @@ impl<'t, 'a> RowReducer<'t, 'a> {
         cols: &[u32],
         vals: &[u64],
         work: &mut Work,
-    ) -> Result<Reduced, AllocError>
+        reduced: &mut Reduced,
+    ) -> Result<(), AllocError>
         requires row { IsSparse self.now.rows.modulus self.now.rows.matrix.width cols.now vals.now }
         requires work { work.old ≡ workspace_of self.now }
+        requires sizes { HasSizesOf self.now reduced.old }
         ensures work { work.new ≡ work.old }
-        ensures fits { IfOk result (FitsReduced self.now) }
-        ensures reduced { IfOk result (λ r. IsPrime self.now.rows.modulus → IsReduced self.now.rows.modulus
+        ensures sizes { HasSizesOf self.now reduced.new }
+        ensures fits { OnOk result (FitsReduced self.now reduced.new) }
+        ensures reduced { OnOk result (IsPrime self.now.rows.modulus → IsReduced self.now.rows.modulus
             self.now.rows.matrix self.now.pairs (spread self.now.rows.matrix.width cols.now vals.now)
-            (reduction_of r)) }
+            (reduction_of reduced.new)) }
     {
-        self.triangle.reduce(alloc, cols, vals, work)
+        self.triangle.reduce(alloc, cols, vals, work, reduced)
     }
 
     /// Makes `rest` what is left of the row that stands in these columns and values by the pivots: for a prime modulus its Schur

@@ -63,6 +63,13 @@ workspace_of t = record { modulus = t.rows.modulus; pairs = length t.pairs; widt
 abbrev pub reduction_of : Reduced → Reduction
 reduction_of r = record { rest = r.rest.row; coefficients = r.coefficients.row }
 
+-- rows of the modulus and the sizes of those that a row is reduced to
+pub record HasSizesOf (t : TriangleState) (r : Reduced) : Type 0 where
+  pub rest_modulus : r.rest.modulus ≡ t.rows.modulus
+  pub rest_width : length r.rest.row ≡ t.rows.matrix.width
+  pub coefficients_modulus : r.coefficients.modulus ≡ t.rows.modulus
+  pub coefficients_count : length r.coefficients.row ≡ length t.pairs
+
 -- the modulus and size of what is left of a row by a triangle's pivots; for any modulus it is 0 in their columns
 pub record FitsRest (t : TriangleState) (w : ResidueRow) : Type 0 where
   pub modulus : w.modulus ≡ t.rows.modulus

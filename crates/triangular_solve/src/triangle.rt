@@ -9,7 +9,7 @@ ghost use Rattle.sparse_rows.specs.declared.rows.TheConstants.{LARGEST_SIZE};
 ghost use Rattle.pivot_table.specs.Order.{IsTriangularOrder, Triangular};
 ghost use Rattle.triangular_solve.specs.Listing.{AreSortedPivots, AreWaits, EachOtherPlace, EachPlaceOf, HasReady, TakesReady};
 ghost use Rattle.triangular_solve.specs.PivotRows.{ArePivotRows, IsAlike};
-ghost use Rattle.triangular_solve.specs.Reduced.{FitsReduced, FitsRest, IsReduced, IsSchurRow, reduction_of, workspace_of};
+ghost use Rattle.triangular_solve.specs.Reduced.{FitsReduced, FitsRest, HasSizesOf, IsReduced, IsSchurRow, reduction_of, workspace_of};
 ghost use Rattle.triangular_solve.specs.Triangle.{TriangularOrderIsOne};
 
 use crate::ascending_columns::AscendingColumns;
@@ -78,8 +78,19 @@ impl<'a> Triangle<'a> {
         self.rows
     }
 
-    /// Reduces the row that stands in these columns and values by the pivots: it is the coefficients times the pivot rows and a
-    /// rest, which is 0 in all pivotal columns. For a prime modulus the rest is the Schur row.
+    /// Two rows of zeros, as wide as the rows that a row is reduced to.
+    pub fn room(&self, alloc: Global) -> Reduced
+        ensures { HasSizesOf self.now result }
+    {
+        let modulus = self.rows.modulus();
+        Reduced {
+            rest: Sparse::new(alloc, self.rows.width(), modulus),
+            coefficients: Sparse::new(alloc, self.pairs.len() as u32, modulus),
+        }
+    }
+
+    /// Reduces the row that stands in these columns and values by the pivots to these rows, whose memory serves again: it is the
+    /// coefficients times the pivot rows and a rest, which is 0 in all pivotal columns. For a prime modulus the rest is the Schur row.
     ///
     /// The time is that of the entries of the pivot rows that are used, and a step for each 4096 columns in which some pivot
     /// row has an entry.
@@ -89,46 +100,29 @@ impl<'a> Triangle<'a> {
         cols: &[u32],
         vals: &[u64],
         work: &mut Work,
-    ) -> Result<Reduced, AllocError>
+        reduced: &mut Reduced,
+    ) -> Result<(), AllocError>
         requires row { IsSparse self.now.rows.modulus self.now.rows.matrix.width cols.now vals.now }
         requires work { work.old ≡ workspace_of self.now }
+        requires sizes { HasSizesOf self.now reduced.old }
         ensures work { work.new ≡ work.old }
-        ensures fits { IfOk result (FitsReduced self.now) }
-        ensures reduced { IfOk result (λ r. IsPrime self.now.rows.modulus → IsReduced self.now.rows.modulus
+        ensures sizes { HasSizesOf self.now reduced.new }
+        ensures fits { OnOk result (FitsReduced self.now reduced.new) }
+        ensures reduced { OnOk result (IsPrime self.now.rows.modulus → IsReduced self.now.rows.modulus
             self.now.rows.matrix self.now.pairs (spread self.now.rows.matrix.width cols.now vals.now)
-            (reduction_of r)) }
+            (reduction_of reduced.new)) }
     {
-        let mut rest = Sparse::new(alloc, self.rows.width(), self.rows.modulus());
-        let mut coefficients = Sparse::new(alloc, self.pairs.len() as u32, self.rows.modulus());
+        reduced.rest.clear();
+        reduced.coefficients.clear();
         work.reduce(
             alloc,
             &self.pivots,
             cols,
             vals,
-            &mut rest,
-            &mut coefficients,
+            &mut reduced.rest,
+            &mut reduced.coefficients,
         )?;
-        Ok(Reduced { rest, coefficients })
-    }
-
-    /// What is left of the row that stands in these columns and values by the pivots, without the coefficients.
-    pub fn rest(
-        &self,
-        alloc: Global,
-        cols: &[u32],
-        vals: &[u64],
-        work: &mut Work,
-    ) -> Result<Sparse, AllocError>
-        requires row { IsSparse self.now.rows.modulus self.now.rows.matrix.width cols.now vals.now }
-        requires work { work.old ≡ workspace_of self.now }
-        ensures work { work.new ≡ work.old }
-        ensures fits { IfOk result (FitsRest self.now) }
-        ensures rest { IfOk result (λ s. IsPrime self.now.rows.modulus → IsSchurRow self.now.rows.modulus
-            self.now.rows.matrix self.now.pairs (spread self.now.rows.matrix.width cols.now vals.now) s.row) }
-    {
-        let mut rest = Sparse::new(alloc, self.rows.width(), self.rows.modulus());
-        self.rest_to(alloc, cols, vals, work, &mut rest)?;
-        Ok(rest)
+        Ok(())
     }
 
     /// Makes `rest` what is left of the row that stands in these columns and values by the pivots; its memory serves again.
