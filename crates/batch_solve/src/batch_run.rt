@@ -161,7 +161,6 @@ fn answer_batch<R: Threads + Wait + Sync, S: Source, W: Watch>(
     requires two_or_more { 2 ≤ command.modulus }
     requires in_range { command.modulus < MODULUS_BOUND }
     requires some { 1 ≤ command.workers }
-    requires few { command.workers ≤ 64 }
     ensures found { (words : List (List ℕ)) → AcceptedBatch words command
         → WereFound words limit result (S.state source.old) (S.state source.new) }
     ensures small { IfOk result (λ replies. All IsSmallReply replies.items) }
@@ -184,7 +183,6 @@ fn answer_texts<R: Threads + Wait + Sync, W: Watch>(
     requires few { length texts.now < 2 ^ 32 }
     requires of_text { All (IsOfText p.now) texts.now }
     requires some_workers { 1 ≤ workers }
-    requires few_workers { workers ≤ 64 }
     ensures comes { ComesOfBatch p.now (matrices_of texts.now) result }
     ensures small { IfOk result (λ replies. All IsSmallReply replies.items) }
 {
@@ -211,7 +209,6 @@ fn replies_to<R: Threads + Wait + Sync, W: Watch>(
     requires of_text { All (IsOfText p.now) texts.now }
     requires fits { batch_misfit (matrices_of texts.now) ≡ None }
     requires some_workers { 1 ≤ workers }
-    requires few_workers { workers ≤ 64 }
     ensures { IfOk result (λ replies. AreBatchReplies p.now (matrices_of texts.now) replies.items) }
 {
     let a = &texts[0];

@@ -21,7 +21,6 @@ pub(crate) fn prepare<R: Threads + Sync>(
     workers: u32,
 ) -> Result<Prepared, AllocError>
     requires some { 1 ≤ workers }
-    requires few { workers ≤ 64 }
     ensures { IfOk result (IsPreparedFor a.now.modulus a.now.matrix) }
 {
     // The proof wants that A is a matrix of residues.

@@ -55,7 +55,7 @@ pub(crate) struct RowRange {
     pub(crate) end: usize,
 }
 
-/// Factors of a matrix, by so many workers, from 1 to 64: the same for every number of them.
+/// Factors of a matrix, by so many workers, at least one: the same for every number of them.
 ///
 /// The rows and columns that have an entry make a dense block, of 4 bytes a place where the modulus is below 2^31 and of 8 elsewhere.
 /// It is eliminated row by row, in panels: the pivots of some rows are taken out of all rows behind them at once, by the workers.
@@ -67,7 +67,6 @@ pub fn finish<R: Threads + Sync>(
     workers: u32,
 ) -> Result<Factors, AllocError>
     requires some { 1 ≤ workers }
-    requires few { workers ≤ 64 }
     ensures { IfOk result (IsFactored rows.now.modulus rows.now.matrix) }
 {
     if rows.modulus().p() < LANE_BOUND {

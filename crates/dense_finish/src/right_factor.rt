@@ -22,7 +22,7 @@ pub struct RightFactor {
     pub u: Rows,
 }
 
-/// The pivots and the right factor that `finish` gives, by so many workers, from 1 to 64, in less memory: the matrix is given up once
+/// The pivots and the right factor that `finish` gives, by so many workers, at least one, in less memory: the matrix is given up once
 /// its dense block is made, and no left factor is.
 pub fn finish_right<R: Threads + Sync>(
     rt: &R,
@@ -31,7 +31,6 @@ pub fn finish_right<R: Threads + Sync>(
     workers: u32,
 ) -> Result<RightFactor, AllocError>
     requires some { 1 ≤ workers }
-    requires few { workers ≤ 64 }
     ensures { IfOk result (IsRightFactored rows.modulus rows.matrix) }
 {
     if rows.modulus().p() < LANE_BOUND {

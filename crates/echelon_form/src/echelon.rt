@@ -35,7 +35,7 @@ impl Model for Echelon {
 }
 
 impl Echelon {
-    /// The form of a matrix, by so many workers, from 1 to 64: the same for every number of them. For a modulus that is not prime
+    /// The form of a matrix, by so many workers, at least one: the same for every number of them. For a modulus that is not prime
     /// it is some rows of that width.
     ///
     /// The rows are eliminated one after another by the caller, in the time of the entries that this makes; then each
@@ -48,7 +48,6 @@ impl Echelon {
         workers: u32,
     ) -> Result<Echelon, AllocError>
         requires some { 1 ≤ workers }
-        requires few { workers ≤ 64 }
         ensures { IfOk result (λ e. IsFormOf rows.now.modulus rows.now.matrix e) }
     {
         // The call's contract tells that the entries are residues.
@@ -70,12 +69,11 @@ impl Echelon {
         workers: u32,
     ) -> Result<Echelon, AllocError>
         requires some { 1 ≤ workers }
-        requires few { workers ≤ 64 }
         ensures { IfOk result (λ e. IsFormOf rows.now.modulus rows.now.matrix e) }
     {
         let kept = eliminated(alloc, rows)?;
         let order = order_of(alloc, &kept)?;
-        let shares = shares_of(rt, alloc, &kept, &order, workers as usize)?;
+        let shares = shares_of(rt, alloc, &kept, &order, workers)?;
         Ok(Echelon {
             rows: merged(alloc, &kept, &order, &shares)?,
             leads: leads_of(alloc, &order)?,

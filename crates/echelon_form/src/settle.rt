@@ -18,10 +18,9 @@ pub(crate) fn shares_of<R: Threads + Sync>(
     alloc: Global,
     kept: &Leads,
     order: &[(u32, u32)],
-    workers: usize,
+    workers: u32,
 ) -> Result<Vec<Share>, AllocError>
     requires some { 1 ≤ workers }
-    requires few { workers ≤ 64 }
     requires order { IsOrderOfLeads kept.now order.now }
     ensures count { IfOk result (λ shares. length shares.items ≡ workers) }
     ensures shares { IfOk result (λ shares. AreShares kept.now order.now shares.items) }
@@ -29,21 +28,14 @@ pub(crate) fn shares_of<R: Threads + Sync>(
     thread::map_indices(
         rt,
         alloc,
-        workers,
+        workers as usize,
         &|worker| share_of(alloc, kept, order, worker, workers),
     )
 }
 
 // The settled rows at the places worker, worker + workers, worker + 2 workers and so on.
-fn share_of(
-    alloc: Global,
-    kept: &Leads,
-    order: &[(u32, u32)],
-    worker: usize,
-    workers: usize,
-) -> Share
+fn share_of(alloc: Global, kept: &Leads, order: &[(u32, u32)], worker: usize, workers: u32) -> Share
     requires worker { worker < workers }
-    requires few { workers ≤ 64 }
     requires order { IsOrderOfLeads kept.now order.now }
     ensures { IfOk result (λ share. IsShare kept.now order.now worker workers share.items) }
 {
@@ -52,7 +44,7 @@ fn share_of(
     let mut at = worker;
     while at < order.len() {
         share.push(kept.settle_with(alloc, order[at].1, &mut accumulator)?)?;
-        at += workers;
+        at += workers as usize;
     }
     Ok(share)
 }

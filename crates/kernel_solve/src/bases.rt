@@ -100,7 +100,6 @@ pub fn left_kernel<R: Threads + Sync>(
     workers: u32,
 ) -> Result<Rows, AllocError>
     requires some { 1 ≤ workers }
-    requires few { workers ≤ 64 }
     ensures modulus { IfOk result (λ rows. rows.modulus ≡ a.now.modulus) }
     ensures sound { IfOk result (λ rows. IsMatrix rows.modulus rows.matrix) }
     ensures width { IfOk result (λ rows. rows.matrix.width ≡ a.now.matrix.height) }

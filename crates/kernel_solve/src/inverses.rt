@@ -29,7 +29,6 @@ pub fn inverse<R: Threads + Sync>(
     requires square { a.now.matrix.height ≡ a.now.matrix.width }
     requires small { 2 * a.now.matrix.width ≤ LARGEST_SIZE }
     requires some { 1 ≤ workers }
-    requires few { workers ≤ 64 }
     ensures shape { IfOk result (λ found. HasInverseShape a.now.modulus a.now.matrix.width found) }
     ensures inverse { IfOk result (λ found.
         IsPrime a.now.modulus → Inverts a.now.modulus a.now.matrix found) }
@@ -54,7 +53,6 @@ fn inverse_of<R: Threads + Sync>(
     requires square { a.now.matrix.height ≡ a.now.matrix.width }
     requires small { 2 * a.now.matrix.width ≤ LARGEST_SIZE }
     requires some { 1 ≤ workers }
-    requires few { workers ≤ 64 }
     ensures shape { IfOk result (λ found. IfSome found (IsSquareOf a.now.modulus a.now.matrix.width)) }
     ensures tells { IfOk result (λ found. IsPrime a.now.modulus →
         TellsInverse a.now.modulus a.now.matrix found) }

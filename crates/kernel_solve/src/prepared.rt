@@ -70,7 +70,6 @@ impl Prepared {
         workers: u32,
     ) -> Result<Prepared, AllocError>
         requires some { 1 ≤ workers }
-        requires few { workers ≤ 64 }
         ensures { IfOk result (IsPreparedFor a.now.modulus a.now.matrix) }
     {
         let factors = finish(rt, alloc, a, workers)?;

@@ -16,7 +16,7 @@ use std::thread::Threads;
 /// Grows the book until no entry is alive: the search for structural pivots of Bouillaguet, Delaplace and Voge, 'Parallel Sparse
 /// PLUQ Factorization modulo p', PASCO 2017.
 ///
-/// For every number of workers, from 1 to 64, the book begins with the pairs that it had, each new pair was alive when it came, and
+/// For every number of workers, at least one, the book begins with the pairs that it had, each new pair was alive when it came, and
 /// nothing is alive afterwards. One worker tries the rows in ascending order and appends each that has an alive column with the
 /// least, so that what it finds is a function of the book; it doesn't call the gate. More workers go at once, on a board that they
 /// share without a lock: each goes once through the rows, in cyclic order down from a row of its own, the first from row 0 and the
@@ -38,7 +38,6 @@ pub fn search<'a, R: Threads + Sync, G: Gate>(
     gate: &G,
 ) -> Result<Book<'a>, AllocError>
     requires some { 1 ≤ workers }
-    requires few { workers ≤ 64 }
     ensures rows { IfOk result (λ b. b.rows ≡ book.entry.rows) }
     ensures begins { IfOk result (λ b. StartsWith b.pairs book.entry.pairs) }
     ensures maximal { IfOk result (λ b. Maximal book.entry.rows.matrix b.pairs) }
@@ -61,7 +60,7 @@ fn search_alone(alloc: Global, book: Book) -> Result<Book, AllocError>
     search_by_entries(alloc, book)
 }
 
-/// What `search` does, by 1 to 64 workers, and a version for each pair: how much of the history was seen when its row was claimed.
+/// What `search` does, by at least one worker, and a version for each pair: how much of the history was seen when its row was claimed.
 /// That is the place itself for the pairs that the book had, for those that one worker finds, and for what is swept.
 ///
 /// Besides what `search` takes, it takes 8 bytes a pair at the end.
@@ -73,7 +72,6 @@ pub fn search_traced<'a, R: Threads + Sync, G: Gate>(
     gate: &G,
 ) -> Result<Traced<'a>, AllocError>
     requires some { 1 ≤ workers }
-    requires few { workers ≤ 64 }
     ensures rows { IfOk result (λ t. t.book.rows ≡ book.entry.rows) }
     ensures begins { IfOk result (λ t. StartsWith t.book.pairs book.entry.pairs) }
     ensures maximal { IfOk result (λ t. Maximal book.entry.rows.matrix t.book.pairs) }
@@ -99,7 +97,7 @@ pub fn search_traced<'a, R: Threads + Sync, G: Gate>(
     })
 }
 
-/// What `search` does with more workers than one, for every number of workers, from 1 to 64, and every matrix, and how many steps the
+/// What `search` does with more workers than one, for every number of workers, at least one, and every matrix, and how many steps the
 /// walks took, modulo 2^64. No clause covers that number.
 ///
 /// One worker goes on a board too, by walks, and in the order of the others: from the last row to the first, which on boundary maps is
@@ -112,7 +110,6 @@ pub fn search_counted<'a, R: Threads + Sync, G: Gate>(
     gate: &G,
 ) -> Result<(Book<'a>, u64), AllocError>
     requires some { 1 ≤ workers }
-    requires few { workers ≤ 64 }
     ensures rows { IfOk result (λ t. t.0.rows ≡ book.entry.rows) }
     ensures begins { IfOk result (λ t. StartsWith t.0.pairs book.entry.pairs) }
     ensures maximal { IfOk result (λ t. Maximal book.entry.rows.matrix t.0.pairs) }

@@ -14,7 +14,7 @@ use sparse_rows::{LARGEST_SIZE, Rows};
 use std::alloc::{AllocError, Global};
 use std::thread::Threads;
 
-/// Rows of a matrix's row space, by a plan of 1 to 64 workers: for a prime modulus they are independent and span it. They are the
+/// Rows of a matrix's row space, by a plan of at least one worker: for a prime modulus they are independent and span it. They are the
 /// pivots' rows of each round, and those of the finish; no coefficients are kept. For a modulus that is not prime they are some
 /// rows of that width.
 ///
@@ -28,7 +28,6 @@ pub fn row_basis<R: Threads + Sync, G: Gate>(
     gate: &G,
 ) -> Result<Rows, AllocError>
     requires some { 1 ≤ plan.workers }
-    requires few { plan.workers ≤ 64 }
     ensures { IfOk result (IsBasis rows.now.modulus rows.now.matrix) }
 {
     let copy = rows.copy(alloc)?;
@@ -48,7 +47,6 @@ fn finished<R: Threads + Sync>(
     workers: u32,
 ) -> Result<Rows, AllocError>
     requires some { 1 ≤ workers }
-    requires few { workers ≤ 64 }
     ensures { IfOk result (IsBasis rows.modulus rows.matrix) }
 {
     if Extent::of(alloc, &rows)?.is_block() {
@@ -66,7 +64,6 @@ fn dense_basis<R: Threads + Sync>(
     workers: u32,
 ) -> Result<Rows, AllocError>
     requires some { 1 ≤ workers }
-    requires few { workers ≤ 64 }
     ensures { IfOk result (IsBasis rows.modulus rows.matrix) }
 {
     // The call's contract tells that the entries are residues.
@@ -83,7 +80,6 @@ fn form_basis<R: Threads + Sync>(
     workers: u32,
 ) -> Result<Rows, AllocError>
     requires some { 1 ≤ workers }
-    requires few { workers ≤ 64 }
     ensures { IfOk result (IsBasis rows.now.modulus rows.now.matrix) }
 {
     let form = Echelon::of(rt, alloc, rows, workers)?;
@@ -112,7 +108,6 @@ fn basis_from<R: Threads + Sync, G: Gate>(
     gate: &G,
 ) -> Result<Rows, AllocError>
     requires some { 1 ≤ workers }
-    requires few { workers ≤ 64 }
     ensures { IfOk result (IsBasis rows.modulus rows.matrix) }
 {
     // The call's contract tells how high a matrix is.

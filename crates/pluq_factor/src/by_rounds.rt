@@ -17,7 +17,7 @@ use sparse_rows::{List, Rows};
 use std::alloc::{AllocError, Global};
 use std::thread::Threads;
 
-/// Factors of a matrix, by a plan of 1 to 64 workers: valid ones for a prime modulus, and then the pivots of each round stand one
+/// Factors of a matrix, by a plan of at least one worker: valid ones for a prime modulus, and then the pivots of each round stand one
 /// after another and those of the dense finish behind them. For a modulus that is not prime they are some matrices of their sizes.
 ///
 /// Each round works on the complement that the one before left, and the first that finds no pivot ends them; with no round there
@@ -30,7 +30,6 @@ pub fn factor<R: Threads + Sync, G: Gate>(
     gate: &G,
 ) -> Result<Factors, AllocError>
     requires some { 1 ≤ plan.workers }
-    requires few { plan.workers ≤ 64 }
     ensures factors { IfOk result (AreFactorsOf rows.now.modulus rows.now.matrix) }
     ensures staged { IfOk result (λ f. IsPrime rows.now.modulus →
         Staged rows.now.modulus rows.now.matrix plan.workers plan.rounds f.pivots) }
@@ -50,7 +49,6 @@ fn factor_from<R: Threads + Sync, G: Gate>(
     gate: &G,
 ) -> Result<Factors, AllocError>
     requires some { 1 ≤ workers }
-    requires few { workers ≤ 64 }
     ensures factors { IfOk result (AreFactorsOf rows.modulus rows.matrix) }
     ensures staged { IfOk result (λ f. IsPrime rows.modulus →
         Staged rows.modulus rows.matrix workers rounds f.pivots) }

@@ -12,7 +12,7 @@ use sparse_rows::Rows;
 use std::alloc::{AllocError, Global};
 use std::thread::Threads;
 
-/// The reduced row echelon form of a matrix, the same for every plan, of 1 to 64 workers. For a modulus that is not prime it is
+/// The reduced row echelon form of a matrix, the same for every plan, of at least one worker. For a modulus that is not prime it is
 /// some rows of that width.
 ///
 /// It is the form of the basis of the row space that the rounds and their finish give (`row_basis`), so the rows that depend on
@@ -26,7 +26,6 @@ pub fn form<R: Threads + Sync, G: Gate>(
     gate: &G,
 ) -> Result<Echelon, AllocError>
     requires some { 1 ≤ plan.workers }
-    requires few { plan.workers ≤ 64 }
     ensures { IfOk result (IsFormOf rows.now.modulus rows.now.matrix) }
 {
     if plan.rounds == 0 && !Extent::of(alloc, rows)?.is_block() {
@@ -40,7 +39,7 @@ pub fn form<R: Threads + Sync, G: Gate>(
     Ok(form)
 }
 
-/// The reduced row echelon form of rows that stand as rounds or factors give them, by so many workers, from 1 to 64. For a modulus
+/// The reduced row echelon form of rows that stand as rounds or factors give them, by so many workers, at least one. For a modulus
 /// that is not prime it is some rows of that width.
 ///
 /// The rows are taken from the last to the first: a pivot's row is met by rows that are reduced already, where from the first to
@@ -52,7 +51,6 @@ pub fn form_of_basis<R: Threads + Sync>(
     workers: u32,
 ) -> Result<Echelon, AllocError>
     requires some { 1 ≤ workers }
-    requires few { workers ≤ 64 }
     ensures { IfOk result (IsFormOf basis.now.modulus basis.now.matrix) }
 {
     let turned = last_first(alloc, basis)?;

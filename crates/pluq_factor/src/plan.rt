@@ -14,7 +14,7 @@ use triangular_solve::Triangle;
 /// By how many workers, and in how many structural rounds at most.
 #[derive(Clone, Copy, Debug)]
 pub struct Plan {
-    /// 1 to 64.
+    /// At least one.
     pub workers: u32,
     /// Each round works on what the one before left; none where 0.
     pub rounds: u32,
@@ -29,7 +29,6 @@ pub(crate) fn select_pivots<'a, R: Threads + Sync, G: Gate>(
     gate: &G,
 ) -> Result<Triangle<'a>, AllocError>
     requires some { 1 ≤ workers }
-    requires few { workers ≤ 64 }
     ensures rows { IfOk result (λ t. t.rows ≡ rows.now) }
     ensures selected { IfOk result (λ t. Selected rows.now.matrix workers t.pairs) }
 {
@@ -47,7 +46,6 @@ pub(crate) fn any_pivots<'a, R: Threads + Sync, G: Gate>(
     gate: &G,
 ) -> Result<Triangle<'a>, AllocError>
     requires some { 1 ≤ workers }
-    requires few { workers ≤ 64 }
     ensures rows { IfOk result (λ t. t.rows ≡ rows.now) }
     ensures triangular { IfOk result (λ t. Triangular rows.now.matrix t.pairs) }
 {

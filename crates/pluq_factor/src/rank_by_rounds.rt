@@ -13,7 +13,7 @@ use sparse_rows::Rows;
 use std::alloc::{AllocError, Global};
 use std::thread::Threads;
 
-/// The rank of a matrix modulo a prime, by a plan of 1 to 64 workers; modulo another number, some number that is no more than its
+/// The rank of a matrix modulo a prime, by a plan of at least one worker; modulo another number, some number that is no more than its
 /// height and width.
 ///
 /// The pivots of each round are counted, and the complement that they leave is all that is kept for the next one. The rounds
@@ -33,7 +33,6 @@ pub fn rank<R: Threads + Sync, G: Gate>(
     gate: &G,
 ) -> Result<u32, AllocError>
     requires some { 1 ≤ plan.workers }
-    requires few { plan.workers ≤ 64 }
     ensures rank { IfOk result (λ r. IsPrime rows.now.modulus → HasRank rows.now.modulus rows.now.matrix r) }
     ensures at_most_height { IfOk result (λ r. r ≤ rows.now.matrix.height) }
     ensures at_most_width { IfOk result (λ r. r ≤ rows.now.matrix.width) }
@@ -66,7 +65,6 @@ fn count_rounds<R: Threads + Sync, G: Gate>(
     gate: &G,
 ) -> Result<Option<Counted>, AllocError>
     requires some { 1 ≤ plan.workers }
-    requires few { plan.workers ≤ 64 }
     ensures { IfOk result (λ r. IfSome r (LeavesRank rows.now)) }
 {
     if Extent::of(alloc, rows)?.is_full() {
@@ -102,7 +100,6 @@ fn rank_of_rest<R: Threads + Sync>(
     workers: u32,
 ) -> Result<u32, AllocError>
     requires some { 1 ≤ workers }
-    requires few { workers ≤ 64 }
     ensures rank { IfOk result (λ r. IsPrime rows.modulus → HasRank rows.modulus rows.matrix r) }
     ensures at_most_height { IfOk result (λ r. r ≤ rows.matrix.height) }
     ensures at_most_width { IfOk result (λ r. r ≤ rows.matrix.width) }
@@ -122,7 +119,6 @@ fn dense_rank<R: Threads + Sync>(
     workers: u32,
 ) -> Result<u32, AllocError>
     requires some { 1 ≤ workers }
-    requires few { workers ≤ 64 }
     ensures rank { IfOk result (λ r. IsPrime rows.modulus → HasRank rows.modulus rows.matrix r) }
     ensures at_most_height { IfOk result (λ r. r ≤ rows.matrix.height) }
     ensures at_most_width { IfOk result (λ r. r ≤ rows.matrix.width) }

@@ -62,7 +62,6 @@ pub(crate) fn take_round<R: Threads + Sync, G: Gate>(
     gate: &G,
 ) -> Result<Option<RoundPivots>, AllocError>
     requires some { 1 ≤ workers }
-    requires few { workers ≤ 64 }
     ensures { IfOk result (λ r. MatchOption r (Selected rows.now.matrix workers [])
         (IsRoundTaken rows.now workers)) }
 {
@@ -82,7 +81,6 @@ fn round_by<R: Threads + Sync>(
     workers: u32,
 ) -> Result<RoundPivots, AllocError>
     requires some { 1 ≤ workers }
-    requires few { workers ≤ 64 }
     requires selected { Selected triangle.now.rows.matrix workers triangle.now.pairs }
     ensures { IfOk result (IsRoundTaken triangle.now.rows workers) }
 {
@@ -116,7 +114,6 @@ pub(crate) fn take_left<R: Threads + Sync, G: Gate>(
     gate: &G,
 ) -> Result<Option<Left>, AllocError>
     requires some { 1 ≤ workers }
-    requires few { workers ≤ 64 }
     ensures { IfOk result (λ r. IfSome r (IsLeftBy rows.now)) }
 {
     let triangle = any_pivots(rt, alloc, rows, workers, gate)?;
@@ -135,7 +132,6 @@ fn left_by<R: Threads + Sync>(
     workers: u32,
 ) -> Result<Left, AllocError>
     requires some { 1 ≤ workers }
-    requires few { workers ≤ 64 }
     ensures { IfOk result (IsLeftBy triangle.now.rows) }
 {
     // The calls' contracts tell that the entries are residues, and that the pivots are triangular.
@@ -154,7 +150,6 @@ fn rest_of<R: Threads + Sync>(
     workers: u32,
 ) -> Result<Rest, AllocError>
     requires some { 1 ≤ workers }
-    requires few { workers ≤ 64 }
     ensures { IfOk result (IsRestOf triangle.now) }
 {
     let reducer = RowReducer::of(alloc, triangle, workers)?;
@@ -172,7 +167,6 @@ fn basis_rest<R: Threads + Sync>(
     workers: u32,
 ) -> Result<Rest, AllocError>
     requires some { 1 ≤ workers }
-    requires few { workers ≤ 64 }
     ensures { IfOk result (IsRestOf reducer.now) }
 {
     let rows = left_basis(rt, alloc, reducer, workers)?;
@@ -190,7 +184,6 @@ fn whole_rest<R: Threads + Sync>(
     workers: u32,
 ) -> Result<Rest, AllocError>
     requires some { 1 ≤ workers }
-    requires few { workers ≤ 64 }
     ensures { IfOk result (IsRestOf reducer.now) }
 {
     let rows = complement(rt, alloc, reducer, workers)?;
@@ -210,7 +203,6 @@ pub(crate) fn count_round<R: Threads + Sync, G: Gate>(
     gate: &G,
 ) -> Result<Option<Counted>, AllocError>
     requires some { 1 ≤ workers }
-    requires few { workers ≤ 64 }
     ensures { IfOk result (λ r. IfSome r (LeavesRank rows.now)) }
 {
     let triangle = any_pivots(rt, alloc, rows, workers, gate)?;
@@ -229,7 +221,6 @@ fn count_by<R: Threads + Sync>(
     workers: u32,
 ) -> Result<Counted, AllocError>
     requires some { 1 ≤ workers }
-    requires few { workers ≤ 64 }
     ensures { IfOk result (LeavesRank triangle.now.rows) }
 {
     let reducer = RowReducer::of(alloc, triangle, workers)?;
@@ -247,7 +238,6 @@ fn count_stored<R: Threads + Sync>(
     workers: u32,
 ) -> Result<Counted, AllocError>
     requires some { 1 ≤ workers }
-    requires few { workers ≤ 64 }
     ensures { IfOk result (LeavesRank reducer.now.rows) }
 {
     // The law's contract: the rank of the complement gives that of the matrix.
@@ -267,7 +257,6 @@ fn count_left<R: Threads + Sync>(
     workers: u32,
 ) -> Result<Counted, AllocError>
     requires some { 1 ≤ workers }
-    requires few { workers ≤ 64 }
     ensures { IfOk result (LeavesRank reducer.now.rows) }
 {
     let rows = reducer.rows();

@@ -12,7 +12,7 @@ use sparse_rows::{List, Rows};
 use std::alloc::{AllocError, Global};
 use std::thread::Threads;
 
-/// The trace of a search for structural pivots, by so many workers, from 1 to 64, that begins with the leftmost pairs: what
+/// The trace of a search for structural pivots, by so many workers, at least one, that begins with the leftmost pairs: what
 /// `search_traced` finds, in the order in which it was published. It is lawful, so `replay` says yes to it, and nothing can be added
 /// to its pairs.
 ///
@@ -26,7 +26,6 @@ pub fn trace_of<R: Threads + Sync, G: Gate>(
     gate: &G,
 ) -> Result<Trace, AllocError>
     requires some { 1 ≤ workers }
-    requires few { workers ≤ 64 }
     ensures is { IfOk result (IsTraceOf rows.now.modulus rows.now.matrix workers) }
     ensures fits { HasTextSizes rows.now.matrix → IfOk result HasTraceText }
 {

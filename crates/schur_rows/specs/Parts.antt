@@ -1,5 +1,5 @@
 -- What workers make of a round: parts of the matrix, row by row.
-use Rattle.std.specs.Prelude.{◌≡◌, ◌<◌, ◌≤◌, ◌+◌, ◌*◌, ℕ, Bool, true, List, Result, Vec, All, Contains, length, slice_index, IfOk}
+use Rattle.std.specs.Prelude.{◌≡◌, ◌<◌, ◌≤◌, ◌+◌, ℕ, Bool, true, List, Result, Vec, All, Contains, length, slice_index, IfOk}
 use Rattle.std.specs.declared.alloc.Global.{Global}
 use Rattle.residue_words.specs.Matrix.{Matrix, IsMatrix, IsVector, row, zeros}
 use Rattle.residue_words.specs.Residues.{IsPrime}
@@ -108,10 +108,7 @@ pub record IsDeal (deal : Deal) : Type 0 where
   pub order : deal.from ≤ deal.to
   pub end : deal.to ≤ LARGEST_SIZE
   pub several : 2 ≤ deal.workers
-  pub few_workers : deal.workers ≤ 64
   pub some : 1 ≤ deal.stage
-  pub few_a_stage : deal.stage ≤ 512
-  pub few : deal.count ≤ 4096
   pub cuts : ArePartCuts deal.from deal.to deal.count deal.cuts.now
 
 -- where part j begins

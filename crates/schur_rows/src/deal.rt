@@ -48,14 +48,12 @@ pub(crate) fn cuts_between(
 ) -> Result<Vec<u32>, AllocError>
     requires order { from ≤ to }
     requires some { 1 ≤ count }
-    requires few { count ≤ 4096 }
     requires some_a_stage { 1 ≤ stage }
-    requires few_a_stage { stage ≤ 512 }
     ensures { IfOk result (λ cuts. ArePartCuts from to count cuts.items) }
 {
     let stages = count / stage;
     let all = sum_to(stages as u64).saturating_mul(sum_to(stage as u64));
-    let mut cuts = Vec::with_capacity(alloc, count + 1)?;
+    let mut cuts = Vec::with_capacity(alloc, count.saturating_add(1))?;
     cuts.push(from)?;
     let mut last = from;
     let mut passed: u64 = 0;

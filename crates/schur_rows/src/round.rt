@@ -21,7 +21,7 @@ pub struct SchurRows {
     pub coefficients: Rows,
 }
 
-/// The complement with the coefficients, by so many workers, from 1 to 64: for a prime modulus the same for every number of them.
+/// The complement with the coefficients, by so many workers, at least one: for a prime modulus the same for every number of them.
 /// For a modulus that is not prime they are some matrices of these sizes.
 ///
 /// Each worker reduces parts of the rows, in the time of `Triangle::reduce` for each row that has an entry and is no pivot's;
@@ -34,7 +34,6 @@ pub fn schur<R: Threads + Sync>(
     workers: u32,
 ) -> Result<SchurRows, AllocError>
     requires some { 1 ≤ workers }
-    requires few { workers ≤ 64 }
     ensures fits { IfOk result (FitsRound triangle.now) }
     ensures round { IfOk result (λ s. IsPrime triangle.now.rows.modulus → IsRound triangle.now s) }
 {
@@ -45,7 +44,7 @@ pub fn schur<R: Threads + Sync>(
     Ok(left)
 }
 
-/// The complement alone, by so many workers, from 1 to 64, in the way that the reducer has chosen.
+/// The complement alone, by so many workers, at least one, in the way that the reducer has chosen.
 pub fn complement<R: Threads + Sync>(
     rt: &R,
     alloc: Global,
@@ -53,7 +52,6 @@ pub fn complement<R: Threads + Sync>(
     workers: u32,
 ) -> Result<Rows, AllocError>
     requires some { 1 ≤ workers }
-    requires few { workers ≤ 64 }
     ensures fits { IfOk result (FitsComplement reducer.now) }
     ensures complement { IfOk result (λ rows. IsPrime reducer.now.rows.modulus →
         IsComplement reducer.now.rows.modulus

@@ -53,7 +53,7 @@ impl ChunkSize {
 }
 
 /// Independent rows with the row space of what the pivots of a triangle leave of its matrix, for a prime modulus, by so many
-/// workers, from 1 to 64. For a modulus that is not prime they are some rows of its width, no more than it has.
+/// workers, at least one. For a modulus that is not prime they are some rows of its width, no more than it has.
 ///
 /// What is left is never stored whole. The rows are reduced chunk by chunk; each chunk is put below the basis of those before it,
 /// and both are eliminated densely (`dense_finish::finish_right`): the right factor is the next basis. The memory is that of a chunk,
@@ -66,13 +66,12 @@ pub fn left_basis<R: Threads + Sync>(
     workers: u32,
 ) -> Result<Rows, AllocError>
     requires some { 1 ≤ workers }
-    requires few { workers ≤ 64 }
     ensures { IfOk result (IsBasisLeft reducer.now) }
 {
     left_basis_by(rt, alloc, reducer, workers, CHUNK)
 }
 
-/// The same, by 1 to 64 workers too, in chunks of this size. Larger ones take more memory, 4 bytes a place where the modulus is
+/// The same, by at least one worker too, in chunks of this size. Larger ones take more memory, 4 bytes a place where the modulus is
 /// below 2^31 and else 8, and eliminate the basis again less often.
 pub fn left_basis_by<R: Threads + Sync>(
     rt: &R,
@@ -82,7 +81,6 @@ pub fn left_basis_by<R: Threads + Sync>(
     size: ChunkSize,
 ) -> Result<Rows, AllocError>
     requires some { 1 ≤ workers }
-    requires few { workers ≤ 64 }
     ensures { IfOk result (IsBasisLeft reducer.now) }
 {
     let pivot_rows = PivotNumbers::of(alloc, reducer)?;
@@ -104,7 +102,6 @@ fn basis_of<R: Threads + Sync>(
     size: ChunkSize,
 ) -> Result<Rows, AllocError>
     requires some { 1 ≤ workers }
-    requires few { workers ≤ 64 }
     requires numbers { HasNumbers pass.reducer.now.pairs pass.pivot_rows.now }
     ensures { IfOk result (IsBasisLeft pass.entry.reducer.now) }
 {
@@ -158,7 +155,6 @@ fn basis_with<R: Threads + Sync>(
     to: u32,
 ) -> Result<Rows, AllocError>
     requires some { 1 ≤ workers }
-    requires few { workers ≤ 64 }
     requires order { from ≤ to }
     requires inside { to ≤ pass.reducer.now.rows.matrix.height }
     requires numbers { HasNumbers pass.reducer.now.pairs pass.pivot_rows.now }

@@ -49,7 +49,6 @@ pub(crate) fn left_by<R: Threads + Sync>(
     kept: bool,
 ) -> Result<SchurRows, AllocError>
     requires some { 1 ≤ workers }
-    requires few { workers ≤ 64 }
     ensures { IfOk result (IsPartTo reducer.now kept 0 reducer.now.rows.matrix.height) }
 {
     let height = reducer.rows().height();
@@ -78,7 +77,6 @@ pub(crate) fn left_between<R: Threads + Sync>(
     to: u32,
 ) -> Result<SchurRows, AllocError>
     requires some { 1 ≤ workers }
-    requires few { workers ≤ 64 }
     requires order { from ≤ to }
     requires inside { to ≤ pass.reducer.now.rows.matrix.height }
     requires numbers { HasNumbers pass.reducer.now.pairs pass.pivot_rows.now }
@@ -125,7 +123,7 @@ fn left_by_stages<R: Threads + Sync>(
     let mut joined = 0;
     let mut begun = 0;
     while begun < deal.count {
-        let end = deal.count.min(begun + deal.stage);
+        let end = deal.count.min(begun.saturating_add(deal.stage));
         let stage = Stage { joined, begun, end };
         parts = next_stage(rt, alloc, deal, stage, &parts, &mut made)?;
         joined = begun;

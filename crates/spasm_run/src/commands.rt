@@ -64,7 +64,6 @@ pub(crate) fn find_of_matrix<R: Threads + Sync, G: Gate>(
     gate: &G,
 ) -> Result<Answer, Status>
     requires some { 1 ≤ command.workers }
-    requires few { command.workers ≤ 64 }
     requires height { a.now.matrix.height < LARGEST_SIZE }
     requires width { a.now.matrix.width < LARGEST_SIZE }
     requires one { wanted command.task ≡ Header ∷ [] }
@@ -92,7 +91,6 @@ fn find_rank<R: Threads + Sync, G: Gate>(
     gate: &G,
 ) -> Result<Answer, Status>
     requires some { 1 ≤ command.workers }
-    requires few { command.workers ≤ 64 }
     ensures { ComesOf (asking task.Rank a.now.modulus command) (a.now.matrix ∷ []) result }
 {
     if command.rounds == 0 {
@@ -110,7 +108,6 @@ fn count_pivots<R: Threads + Sync>(
     command: Command,
 ) -> Result<Answer, Status>
     requires some { 1 ≤ command.workers }
-    requires few { command.workers ≤ 64 }
     ensures { ComesOf (asking task.Rank a.now.modulus command) (a.now.matrix ∷ []) result }
 {
     // The law's contract: the rank is the number of the pivots of factors. The call tells that the entries are residues.
@@ -129,7 +126,6 @@ fn find_pivots<R: Threads + Sync, G: Gate>(
     gate: &G,
 ) -> Result<Answer, Status>
     requires some { 1 ≤ command.workers }
-    requires few { command.workers ≤ 64 }
     ensures { ComesOf (asking task.Pivots a.now.modulus command) (a.now.matrix ∷ []) result }
 {
     // The call tells that no row is beyond what can be written.
@@ -151,7 +147,6 @@ fn find_form<R: Threads + Sync, G: Gate>(
     gate: &G,
 ) -> Result<Answer, Status>
     requires some { 1 ≤ command.workers }
-    requires few { command.workers ≤ 64 }
     requires width { a.now.matrix.width < LARGEST_SIZE }
     ensures { ComesOf (asking task.Rref a.now.modulus command) (a.now.matrix ∷ []) result }
 {
@@ -169,7 +164,6 @@ pub(crate) fn find_summary<R: Threads + Sync, G: Gate>(
     gate: &G,
 ) -> Result<Answer, Status>
     requires some { 1 ≤ command.workers }
-    requires few { command.workers ≤ 64 }
     requires sizes { HasSizesInRange generator.now }
     ensures { ComesOf (asking (task.Drill generator.now) p.now command) [] result }
 {
@@ -187,7 +181,6 @@ fn find_kernel<R: Threads + Sync, G: Gate>(
     gate: &G,
 ) -> Result<Answer, Status>
     requires some { 1 ≤ command.workers }
-    requires few { command.workers ≤ 64 }
     requires width { a.now.matrix.width < LARGEST_SIZE }
     ensures { ComesOf (asking task.Kernel a.now.modulus command) (a.now.matrix ∷ []) result }
 {
@@ -205,7 +198,6 @@ fn find_left_kernel<R: Threads + Sync, G: Gate>(
     gate: &G,
 ) -> Result<Answer, Status>
     requires some { 1 ≤ command.workers }
-    requires few { command.workers ≤ 64 }
     requires height { a.now.matrix.height < LARGEST_SIZE }
     ensures { ComesOf (asking task.LeftKernel a.now.modulus command) (a.now.matrix ∷ []) result }
 {
@@ -225,7 +217,6 @@ fn find_inverse<R: Threads + Sync, G: Gate>(
     gate: &G,
 ) -> Result<Answer, Status>
     requires some { 1 ≤ command.workers }
-    requires few { command.workers ≤ 64 }
     ensures { ComesOf (asking task.Inverse a.now.modulus command) (a.now.matrix ∷ []) result }
 {
     // The law's contract: a matrix that takes a vector other than zero to zero has no inverse.
@@ -257,7 +248,6 @@ fn inverse_of<R: Threads + Sync, G: Gate>(
     gate: &G,
 ) -> Result<Option<Rows>, AllocError>
     requires some { 1 ≤ plan.workers }
-    requires few { plan.workers ≤ 64 }
     requires square { a.now.matrix.height ≡ a.now.matrix.width }
     requires small { a.now.matrix.height ≤ LARGEST_INVERTED }
     ensures shape { IfOk result (λ found. IfSome found (IsSquareOf a.now.modulus a.now.matrix.width)) }
@@ -285,7 +275,6 @@ pub(crate) fn find_solution<R: Threads + Sync, G: Gate>(
     gate: &G,
 ) -> Result<Answer, Status>
     requires some { 1 ≤ command.workers }
-    requires few { command.workers ≤ 64 }
     requires moduli { a.now.modulus ≡ b.now.modulus }
     requires height { a.now.matrix.height < LARGEST_SIZE }
     requires width { a.now.matrix.width < LARGEST_SIZE }
@@ -316,7 +305,6 @@ fn find_certificate<R: Threads + Sync, G: Gate>(
     gate: &G,
 ) -> Result<Answer, Status>
     requires some { 1 ≤ command.workers }
-    requires few { command.workers ≤ 64 }
     requires height { a.now.matrix.height < LARGEST_SIZE }
     requires width { a.now.matrix.width < LARGEST_SIZE }
     ensures { ComesOf (asking (task.Certify kind) a.now.modulus command) (a.now.matrix ∷ []) result }
@@ -344,7 +332,6 @@ fn claimed<R: Threads + Sync>(
     workers: u32,
 ) -> Result<Option<Rows>, AllocError>
     requires some { 1 ≤ workers }
-    requires few { workers ≤ 64 }
     requires width { basis.now.matrix.width < LARGEST_SIZE }
     ensures { IfOk result (λ extra. (p : ℕ) (A : Matrix) → IsMatrix p A → IsBasis p A basis.now →
         IsClaimed p A kind extra) }
@@ -387,7 +374,6 @@ fn find_trace<R: Threads + Sync, G: Gate>(
     gate: &G,
 ) -> Result<Answer, Status>
     requires some { 1 ≤ command.workers }
-    requires few { command.workers ≤ 64 }
     requires height { a.now.matrix.height < LARGEST_SIZE }
     requires width { a.now.matrix.width < LARGEST_SIZE }
     ensures { ComesOf (asking task.Trace a.now.modulus command) (a.now.matrix ∷ []) result }
@@ -415,7 +401,6 @@ fn solve<R: Threads + Sync, G: Gate>(
     gate: &G,
 ) -> Result<Found, AllocError>
     requires some { 1 ≤ plan.workers }
-    requires few { plan.workers ≤ 64 }
     requires width { 1 ≤ system.matrix.width }
     ensures shape { IfOk result (HasShape system.modulus system.matrix.width) }
     ensures tells { IfOk result (AnswersSystem system.modulus system.matrix) }
@@ -437,7 +422,6 @@ fn refutation<R: Threads + Sync, G: Gate>(
     gate: &G,
 ) -> Result<Rows, AllocError>
     requires some { 1 ≤ plan.workers }
-    requires few { plan.workers ≤ 64 }
     requires matrix { IsMatrix a.now.modulus a.now.matrix }
     requires side { IsMatrix b.now.modulus b.now.matrix }
     requires moduli { a.now.modulus ≡ b.now.modulus }

@@ -148,7 +148,6 @@ fn find_for<R: Threads + Sync, S: Source, G: Gate>(
     requires two_or_more { 2 ≤ command.modulus }
     requires in_range { command.modulus < MODULUS_BOUND }
     requires some { 1 ≤ command.workers }
-    requires few { command.workers ≤ 64 }
     requires generator { IsOfSizes command.task }
     ensures found { (words : List (List ℕ)) → Accepted words command
         → WasFound words limit result (S.state source.old) (S.state source.new) }

@@ -80,7 +80,6 @@ fn made<R: Threads + Sync + Clock>(
     plan: Plan,
 ) -> io::Result<(Certificate, u128)>
     requires some { 1 ≤ plan.workers }
-    requires few { plan.workers ≤ 64 }
     ensures { IfOk result (λ t. IsFormed rows.now.modulus t.0) }
 {
     let start = Instant::now(rt)?;

@@ -19,7 +19,6 @@ pub(crate) fn time_factors<R: Threads + Sync + Clock + Print, I: Read + Drop>(
     workers: u32,
 ) -> io::Result<()>
     requires some { 1 ≤ workers }
-    requires few { workers ≤ 64 }
 {
     let rows = matrix(alloc, input, p)?;
     let (time, rank) = factored(rt, alloc, &rows, workers)?;
@@ -34,7 +33,6 @@ fn factored<R: Threads + Sync + Clock>(
     workers: u32,
 ) -> io::Result<(u128, usize)>
     requires some { 1 ≤ workers }
-    requires few { workers ≤ 64 }
 {
     let start = Instant::now(rt)?;
     let factors = finish(rt, alloc, rows, workers)?;

@@ -35,7 +35,6 @@ pub(crate) fn time_rounds<R: Threads + Sync + Clock + Print, I: Read + Drop>(
     plan: Plan,
 ) -> io::Result<()>
     requires some { 1 ≤ plan.workers }
-    requires few { plan.workers ≤ 64 }
 {
     let rows = matrix(alloc, input, &Modulus::new(PRIME))?;
     time_rank(rt, alloc, &rows, plan)?;
@@ -54,7 +53,6 @@ fn time_rank<R: Threads + Sync + Clock + Print>(
     plan: Plan,
 ) -> io::Result<()>
     requires some { 1 ≤ plan.workers }
-    requires few { plan.workers ≤ 64 }
 {
     let start = Instant::now(rt)?;
     let rank = rank(rt, alloc, rows, plan, &Open)?;
@@ -70,7 +68,6 @@ fn time_round<R: Threads + Sync + Clock + Print>(
     workers: u32,
 ) -> io::Result<Rows>
     requires some { 1 ≤ workers }
-    requires few { workers ≤ 64 }
 {
     let start = Instant::now(rt)?;
     let triangle = pivots(rt, alloc, rows)?;
@@ -97,7 +94,6 @@ fn left<R: Threads + Sync + Clock>(
     workers: u32,
 ) -> io::Result<(Rows, u128)>
     requires some { 1 ≤ workers }
-    requires few { workers ≤ 64 }
 {
     let start = Instant::now(rt)?;
     let reducer = RowReducer::of(alloc, triangle, workers)?;

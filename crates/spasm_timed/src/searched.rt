@@ -35,7 +35,6 @@ pub(crate) fn time_pivots<R: Threads + Sync + Clock + Print, I: Read + Drop>(
     workers: u32,
 ) -> io::Result<()>
     requires some { 1 ≤ workers }
-    requires few { workers ≤ 64 }
 {
     let rows = matrix(alloc, input, &Modulus::new(PRIME))?;
     let counts = Counts::zero();
@@ -65,7 +64,6 @@ fn search_in_phases<R: Threads + Sync + Clock>(
     counts: &Counts,
 ) -> io::Result<Searched>
     requires some { 1 ≤ workers }
-    requires few { workers ≤ 64 }
 {
     let start = Instant::now(rt)?;
     let book = leftmost(alloc, rows)?;
@@ -101,7 +99,6 @@ pub(crate) fn time_board<R: Threads + Sync + Clock + Print, I: Read + Drop>(
     workers: u32,
 ) -> io::Result<()>
     requires some { 1 ≤ workers }
-    requires few { workers ≤ 64 }
 {
     let rows = matrix(alloc, input, &Modulus::new(PRIME))?;
     let counts = Counts::zero();
@@ -120,7 +117,6 @@ fn on_board<R: Threads + Sync + Clock>(
     counts: &Counts,
 ) -> io::Result<(u128, usize, u64)>
     requires some { 1 ≤ workers }
-    requires few { workers ≤ 64 }
 {
     let book = leftmost(alloc, rows)?;
     let start = Instant::now(rt)?;

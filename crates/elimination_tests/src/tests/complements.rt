@@ -20,7 +20,6 @@ fn leaves<R: Threads + Sync>(
     known: &Rows,
 ) -> Result<bool, AllocError>
     requires some { 1 ≤ workers }
-    requires few { workers ≤ 64 }
 {
     let left = complement(rt, alloc, reducer, workers)?;
     have_same_entries(alloc, &left, known)
@@ -36,7 +35,6 @@ fn has_basis<R: Threads + Sync>(
     rank: usize,
 ) -> Result<bool, AllocError>
     requires some { 1 ≤ workers }
-    requires few { workers ≤ 64 }
 {
     let size = ChunkSize { rows, places: 1 };
     let basis = left_basis_by(rt, alloc, reducer, workers, size)?;

@@ -105,7 +105,6 @@ fn assert_same<R: Threads + Sync + Abort>(
     workers: u32,
 ) -> Result<(), Fail>
     requires some { 1 ≤ workers }
-    requires few { workers ≤ 64 }
 {
     let g = finish(rt, alloc, a, workers)?;
     assert!(rt; are_same(alloc, f, &g)?, "by {workers} workers");

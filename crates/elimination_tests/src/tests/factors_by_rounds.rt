@@ -52,7 +52,6 @@ fn ranks<R: Threads + Sync>(
     plan: Plan,
 ) -> Result<(usize, u32), AllocError>
     requires some { 1 ≤ plan.workers }
-    requires few { plan.workers ≤ 64 }
 {
     let factors = factor(rt, alloc, rows, plan, &Open)?;
     let basis = row_basis(rt, alloc, rows, plan, &Open)?;
@@ -102,7 +101,6 @@ fn finds_form<R: Threads + Sync>(
     known: &Echelon,
 ) -> Result<bool, AllocError>
     requires some { 1 ≤ plan.workers }
-    requires few { plan.workers ≤ 64 }
 {
     let at_once = form(rt, alloc, rows, plan, &Open)?;
     are_same(alloc, &at_once, known)
@@ -117,7 +115,6 @@ fn finds_basis<R: Threads + Sync>(
     known: &Echelon,
 ) -> Result<bool, AllocError>
     requires some { 1 ≤ plan.workers }
-    requires few { plan.workers ≤ 64 }
 {
     let basis = row_basis(rt, alloc, rows, plan, &Open)?;
     let of_basis = form_of_basis(rt, alloc, &basis, plan.workers)?;
@@ -133,7 +130,6 @@ fn finds<R: Threads + Sync>(
     known: &Echelon,
 ) -> Result<bool, AllocError>
     requires some { 1 ≤ plan.workers }
-    requires few { plan.workers ≤ 64 }
 {
     let has_form = finds_form(rt, alloc, rows, plan, known)?;
     let has_basis = finds_basis(rt, alloc, rows, plan, known)?;

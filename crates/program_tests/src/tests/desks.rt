@@ -67,7 +67,6 @@ fn replies<R: Threads + Wait + Sync, W: Watch>(
     watch: &W,
 ) -> Result<Vec<Reply>, Fail>
     requires some { 1 ≤ workers }
-    requires few { workers ≤ 64 }
 {
     let a = built(alloc, 3, 3, X)?;
     let prepared = Prepared::of(rt, alloc, &a, workers)?;

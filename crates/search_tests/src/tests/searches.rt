@@ -286,7 +286,6 @@ fn found<'a, R: Threads + Sync>(
     workers: u32,
 ) -> Result<Book<'a>, AllocError>
     requires some { 1 ≤ workers }
-    requires few { workers ≤ 64 }
 {
     search(rt, alloc, Book::empty(alloc, rows)?, workers, &Open)
 }
@@ -300,7 +299,6 @@ fn finds<R: Threads + Sync>(
     pairs: &[Pair],
 ) -> Result<bool, AllocError>
     requires some { 1 ≤ workers }
-    requires few { workers ≤ 64 }
 {
     let again = search(rt, alloc, book, workers, &Open)?;
     Ok(again.pairs() == pairs)
@@ -314,7 +312,6 @@ fn leaves_nothing<R: Threads + Sync>(
     workers: u32,
 ) -> Result<bool, AllocError>
     requires some { 1 ≤ workers }
-    requires few { workers ≤ 64 }
 {
     let several = found(rt, alloc, rows, workers)?;
     let many = several.pairs().len();

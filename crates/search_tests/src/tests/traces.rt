@@ -168,7 +168,6 @@ fn leave_a_lawful_trace<R: Threads + Sync>(
     workers: u32,
 ) -> Result<bool, AllocError>
     requires some { 1 ≤ workers }
-    requires few { workers ≤ 64 }
 {
     let trace = trace_of(rt, alloc, rows, workers, &Open)?;
     replay(alloc, rows, &trace)

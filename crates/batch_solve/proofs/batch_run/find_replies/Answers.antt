@@ -21,6 +21,3 @@ answer_batch-requires-clause-in_range g c κs within = (modulus_in_range (bytes_
 
 pub answer_batch-requires-clause-some : goal.answer_batch-requires-clause-some
 answer_batch-requires-clause-some g c κs within = (workers_in_range (bytes_of c.args.words.now) c.in-Ok-Some.command (rw c.in-Ok-Some.field-0-is at c.in-Ok-Some.ensures)).0
-
-pub answer_batch-requires-clause-few : goal.answer_batch-requires-clause-few
-answer_batch-requires-clause-few g c κs within = (workers_in_range (bytes_of c.args.words.now) c.in-Ok-Some.command (rw c.in-Ok-Some.field-0-is at c.in-Ok-Some.ensures)).1

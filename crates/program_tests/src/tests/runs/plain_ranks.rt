@@ -25,7 +25,6 @@ fn pivots<R: Threads + Sync>(
     workers: u32,
 ) -> Result<usize, AllocError>
     requires some { 1 ≤ workers }
-    requires few { workers ≤ 64 }
 {
     let factors = finish(rt, alloc, rows, workers)?;
     Ok(factors.pivots.items().len())

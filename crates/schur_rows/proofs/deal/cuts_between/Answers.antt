@@ -1,4 +1,4 @@
-use Rattle.std.proofs.Common.{ℕ, ◌≡◌, ◌+◌, ◌-◌, ◌∷◌, [], ◌++◌, ◌∙◌, ap, arith, subst}
+use Rattle.std.proofs.Common.{◌≡◌, ◌+◌, ◌-◌, ◌∷◌, [], ◌++◌, ◌∙◌, ap, arith, subst}
 use Rattle.schur_rows.specs.Parts.{ArePartCuts}
 use Rattle.schur_rows.proofs.Cuts.{cuts_begin, cuts_more}
 use Rattle.schur_rows.proofs.deal.cuts_between.Goals as goal

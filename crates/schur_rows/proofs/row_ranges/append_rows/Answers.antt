@@ -6,8 +6,7 @@ pub loop-i-init : goal.loop-i-init
 loop-i-init c = record {
   low = c.requires.order;
   work = refl;
-  rest_modulus = c.requires.rest_modulus;
-  rest_width = c.requires.rest_width;
+  sizes = c.requires.sizes;
   part = c.requires.part;
 }
 
@@ -18,8 +17,7 @@ pub loop-i-preserved : goal.loop-i-preserved
 loop-i-preserved c = record {
   low = omega (arith, c.in-Some.ensures.1);
   work = c.append_left.ensures.work ∙ c.loop-i.invariant.work;
-  rest_modulus = c.append_left.ensures.rest.0 ∙ c.loop-i.invariant.rest_modulus;
-  rest_width = c.append_left.ensures.rest.1 ∙ c.loop-i.invariant.rest_width;
+  sizes = c.in_ok-append_left.ensures.sizes;
   part = part_step c.rows-rows.ensures c.modulus.ensures.value c.modulus.ensures.two_or_more c.modulus.ensures.sound c.pairs.ensures.triangular (omega (arith, c.requires.inside, c.in-Some.ensures.1)) c.loop-i.invariant.part c.in-Some.ensures.0 c.in_ok-append_zeros.ensures c.in_ok-append_left.ensures.added;
 }
 

@@ -19,8 +19,5 @@ find_for-requires-clause-in_range g c κs within = (modulus_in_range (bytes_of c
 pub find_for-requires-clause-some : goal.find_for-requires-clause-some
 find_for-requires-clause-some g c κs within = (workers_in_range (bytes_of c.args.words.now) c.in-Ok-Some.command (rw c.in-Ok-Some.field-0-is at c.in-Ok-Some.ensures)).0
 
-pub find_for-requires-clause-few : goal.find_for-requires-clause-few
-find_for-requires-clause-few g c κs within = (workers_in_range (bytes_of c.args.words.now) c.in-Ok-Some.command (rw c.in-Ok-Some.field-0-is at c.in-Ok-Some.ensures)).1
-
 pub find_for-requires-clause-generator : goal.find_for-requires-clause-generator
 find_for-requires-clause-generator g c κs within = sizes_in_range (bytes_of c.args.words.now) c.in-Ok-Some.command (rw c.in-Ok-Some.field-0-is at c.in-Ok-Some.ensures)
