@@ -152,5 +152,5 @@ count_in_range words c a =
 pub modulus_in_range : (words : List (List ℕ)) (c : BatchCommand) → AcceptedBatch words c → (2 ≤ c.modulus) × (c.modulus < MODULUS_BOUND)
 modulus_in_range words c a = modulus_set a.options c.modulus (a.set 1 (setting modulus_rule 0) (omega arith))
 
-pub some_workers : (words : List (List ℕ)) (c : BatchCommand) → AcceptedBatch words c → 1 ≤ c.workers
-some_workers words c a = workers_set a.options c.workers (a.set 2 (setting workers_rule 0) (omega arith))
+pub workers_in_range : (words : List (List ℕ)) (c : BatchCommand) → AcceptedBatch words c → (1 ≤ c.workers) × (c.workers ≤ 64)
+workers_in_range words c a = workers_set a.options c.workers (a.set 2 (setting workers_rule 0) (omega arith))

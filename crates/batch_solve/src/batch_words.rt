@@ -9,7 +9,7 @@ ghost use Rattle.batch_solve.specs.BatchWords.{IsBatchOf, IsOneBatch};
 use clap::ArgMatches;
 use residue_words::MODULUS_BOUND;
 use spasm_run::words::command_line::with_options;
-use spasm_run::words::{DEFAULT_MODULUS, MOST_WORKERS, has_dashes, number_of, taken_by};
+use spasm_run::words::{has_dashes, number_of, taken_by};
 use std::alloc::{AllocError, Global};
 
 /// The most right-hand sides of a batch.
@@ -22,7 +22,7 @@ pub struct BatchCommand {
     pub count: u32,
     /// The modulus, from 2 to 2^48 - 1.
     pub modulus: u64,
-    /// How many workers share the work, from 1 to `MOST_WORKERS`.
+    /// How many workers share the work, from 1 to 64.
     pub workers: u32,
 }
 
@@ -71,14 +71,8 @@ fn batch_of(matches: &ArgMatches<'_>) -> Option<BatchCommand>
         (SetBatch (rows_of (found_of matches.now))) }
 {
     let count = number_of(matches, "count", 1, LARGEST_COUNT, None)?;
-    let modulus = number_of(
-        matches,
-        "modulus",
-        2,
-        MODULUS_BOUND - 1,
-        Some(DEFAULT_MODULUS),
-    )?;
-    let workers = number_of(matches, "workers", 1, MOST_WORKERS, Some(1))?;
+    let modulus = number_of(matches, "modulus", 2, MODULUS_BOUND - 1, Some(42_013))?;
+    let workers = number_of(matches, "workers", 1, 64, Some(1))?;
     Some(BatchCommand {
         count: count as u32,
         modulus,

@@ -7,9 +7,11 @@ use kernel_solve::{Prepared, kernel};
 use optimistic_search::Open;
 use pluq_factor::{Plan, factor, form, form_of_basis};
 use sparse_rows::Rows;
-use spasm_run::words::DEFAULT_ROUNDS;
 use std::alloc::{AllocError, Global};
 use std::thread::Threads;
+
+// How many structural rounds come first, as where `spasm` isn't told.
+const ROUNDS: u32 = 3;
 
 // Prepares a matrix by structural rounds: its kernel basis is that of its right factor.
 pub(crate) fn prepare<R: Threads + Sync>(
@@ -25,7 +27,7 @@ pub(crate) fn prepare<R: Threads + Sync>(
     let _ = a.height();
     let plan = Plan {
         workers,
-        rounds: DEFAULT_ROUNDS as u32,
+        rounds: ROUNDS,
     };
     let factors = factor(rt, alloc, a, plan, &Open)?;
     let rows_form = form_of_basis(rt, alloc, &factors.u, workers)?;

@@ -5,7 +5,6 @@ use Rattle.residue_words.specs.declared.modulus.TheConstants.{MODULUS_BOUND}
 use Rattle.spasm_run.specs.declared.generator.TheConstants.{LARGEST_GENERATED}
 use Rattle.spasm_run.specs.declared.words.Command.{Command}
 use Rattle.spasm_run.specs.declared.words.Task.{Task}
-use Rattle.spasm_run.specs.declared.words.TheConstants.{DEFAULT_MODULUS, MOST_WORKERS}
 use Rattle.spasm_run.specs.declared.words.Task.TheVariants.{Rank, Rref, Kernel, Solve, LeftKernel, Inverse, Pivots, Check, Trace, Replay, Grow, Drill, Certify}
 use Rattle.spasm_run.specs.Computed.{IsOfSizes}
 use Rattle.spasm_run.specs.Words.{Accepted, Given, InRange, IsNumber, IsSetBy, Rule, cols_rule, modulus_rule, own_settings, rows_rule, setting, workers_rule}
@@ -24,20 +23,20 @@ by_default low high d m e l h = let same : d ≡ m = ap (λ (o : Option ℕ). un
 pub no_default : (low high m : ℕ) → None ≡ Some m → (low ≤ m) × (m ≤ high)
 no_default low high m e = absurd cc
 
--- the modulus that options set is in its range, and there is a worker
+-- the modulus and the number of workers that options set
 pub modulus_set : (options : List Given) (p : ℕ) → IsSetBy options (setting modulus_rule p) → (2 ≤ p) × (p < MODULUS_BOUND)
 modulus_set options p is =
-    let range = number_in_range modulus_rule.name 2 (MODULUS_BOUND - 1) (Some DEFAULT_MODULUS) is.0 p (λ m e. by_default 2 (MODULUS_BOUND - 1) DEFAULT_MODULUS m e (omega arith) (omega arith)) is.2 in
+    let range = number_in_range modulus_rule.name 2 (MODULUS_BOUND - 1) (Some 42013) is.0 p (λ m e. by_default 2 (MODULUS_BOUND - 1) 42013 m e (omega arith) (omega arith)) is.2 in
     (range.0, omega (arith, range.1))
 
-pub workers_set : (options : List Given) (n : ℕ) → IsSetBy options (setting workers_rule n) → 1 ≤ n
-workers_set options n is = (number_in_range workers_rule.name 1 MOST_WORKERS (Some 1) is.0 n (λ m e. by_default 1 MOST_WORKERS 1 m e (omega arith) (omega arith)) is.2).0
+pub workers_set : (options : List Given) (n : ℕ) → IsSetBy options (setting workers_rule n) → (1 ≤ n) × (n ≤ 64)
+workers_set options n is = number_in_range workers_rule.name 1 64 (Some 1) is.0 n (λ m e. by_default 1 64 1 m e (omega arith) (omega arith)) is.2
 
 pub modulus_in_range : (words : List (List ℕ)) (c : Command) → Accepted words c → (2 ≤ c.modulus) × (c.modulus < MODULUS_BOUND)
 modulus_in_range words c a = modulus_set a.options c.modulus (a.set 0 (setting modulus_rule 0) (omega arith))
 
-pub some_workers : (words : List (List ℕ)) (c : Command) → Accepted words c → 1 ≤ c.workers
-some_workers words c a = workers_set a.options c.workers (a.set 1 (setting workers_rule 0) (omega arith))
+pub workers_in_range : (words : List (List ℕ)) (c : Command) → Accepted words c → (1 ≤ c.workers) × (c.workers ≤ 64)
+workers_in_range words c a = workers_set a.options c.workers (a.set 1 (setting workers_rule 0) (omega arith))
 
 -- what a task's own options set
 own_sizes : (options : List Given) (t : Task) → All (IsSetBy options) (own_settings t) → IsOfSizes t

@@ -9,7 +9,6 @@ use Rattle.certificates.specs.declared.certificate.CertKind.TheVariants as kind
 use Rattle.certificates.specs.CertificateText.{kind_word}
 use Rattle.spasm_run.specs.declared.generator.TheConstants.{LARGEST_GENERATED, MOST_PER_ROW}
 use Rattle.spasm_run.specs.declared.words.Command.{Command}
-use Rattle.spasm_run.specs.declared.words.TheConstants.{DEFAULT_MODULUS, DEFAULT_ROUNDS, MOST_ROUNDS, MOST_WORKERS}
 use Rattle.spasm_run.specs.declared.words.Task.{Task}
 use Rattle.spasm_run.specs.declared.words.Task.TheVariants.{Rank, Rref, Kernel, Solve, LeftKernel, Inverse, Pivots, Check, Trace, Replay, Grow, Drill, Certify}
 
@@ -42,13 +41,13 @@ pub record Rule : Type 0 where
   pub absent : Option ℕ
 
 abbrev pub modulus_rule : Rule
-modulus_rule = record { name = codes "modulus"; values = InRange 2 (MODULUS_BOUND - 1); absent = Some DEFAULT_MODULUS }
+modulus_rule = record { name = codes "modulus"; values = InRange 2 (MODULUS_BOUND - 1); absent = Some 42013 }
 
 abbrev pub workers_rule : Rule
-workers_rule = record { name = codes "workers"; values = InRange 1 MOST_WORKERS; absent = Some 1 }
+workers_rule = record { name = codes "workers"; values = InRange 1 64; absent = Some 1 }
 
 abbrev pub rounds_rule : Rule
-rounds_rule = record { name = codes "rounds"; values = InRange 0 MOST_ROUNDS; absent = Some DEFAULT_ROUNDS }
+rounds_rule = record { name = codes "rounds"; values = InRange 0 16; absent = Some 3 }
 
 abbrev pub seed_rule : Rule
 seed_rule = record { name = codes "seed"; values = InRange 0 (2 ^ 64 - 1); absent = None }

@@ -17,18 +17,6 @@ use clap::error::ErrorKind;
 use residue_words::MODULUS_BOUND;
 use std::alloc::{AllocError, Global};
 
-/// The modulus of a command that names none.
-pub const DEFAULT_MODULUS: u64 = 42_013;
-
-/// The most workers of a command.
-pub const MOST_WORKERS: u64 = 64;
-
-/// The most structural rounds of a command.
-pub const MOST_ROUNDS: u64 = 16;
-
-/// The structural rounds of a command that names none.
-pub const DEFAULT_ROUNDS: u64 = 3;
-
 /// What is asked for.
 #[derive(Clone, Copy, Debug, PartialEq, Eq)]
 pub enum Task {
@@ -67,10 +55,10 @@ pub struct Command {
     pub task: Task,
     /// The modulus, from 2 to 2^48 - 1.
     pub modulus: u64,
-    /// How many workers share the elimination, from 1 to `MOST_WORKERS`.
+    /// How many workers share the elimination, from 1 to 64.
     pub workers: u32,
-    /// How many structural rounds may come first, from 0 to `MOST_ROUNDS`, in each elimination: so the pivots of a certificate are
-    /// chosen, and no other answer depends on it. With 0 a rank is counted by the dense elimination, and a form found by it where that is small.
+    /// How many structural rounds may come first, from 0 to 16, in each elimination: so the pivots of a certificate are chosen, and no
+    /// other answer depends on it. With 0 a rank is counted by the dense elimination, and a form found by it where that is small.
     pub rounds: u32,
 }
 
@@ -132,15 +120,9 @@ fn command_of(matches: &ArgMatches<'_>) -> Option<Command>
         (AsksFor (subcommand_rows_of matches.now)) }
 {
     let (name, options) = matches.subcommand()?;
-    let modulus = number_of(
-        options,
-        "modulus",
-        2,
-        MODULUS_BOUND - 1,
-        Some(DEFAULT_MODULUS),
-    )?;
-    let workers = number_of(options, "workers", 1, MOST_WORKERS, Some(1))?;
-    let rounds = number_of(options, "rounds", 0, MOST_ROUNDS, Some(DEFAULT_ROUNDS))?;
+    let modulus = number_of(options, "modulus", 2, MODULUS_BOUND - 1, Some(42_013))?;
+    let workers = number_of(options, "workers", 1, 64, Some(1))?;
+    let rounds = number_of(options, "rounds", 0, 16, Some(3))?;
     let task = task_of(name, options)?;
     Some(Command {
         task,

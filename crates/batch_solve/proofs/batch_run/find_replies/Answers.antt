@@ -1,6 +1,6 @@
 -- Words that aren't accepted are refused; others are a batch, whose numbers lie in their ranges.
 use Rattle.spasm_run.specs.Options.{bytes_of}
-use Rattle.batch_solve.proofs.BatchOptions.{count_in_range, modulus_in_range, some_workers}
+use Rattle.batch_solve.proofs.BatchOptions.{count_in_range, modulus_in_range, workers_in_range}
 use Rattle.batch_solve.proofs.BatchWhole.{found_memory, found_refused}
 use Rattle.batch_solve.proofs.batch_run.find_replies.Goals as goal
 
@@ -20,4 +20,4 @@ pub answer_batch-requires-clause-in_range : goal.answer_batch-requires-clause-in
 answer_batch-requires-clause-in_range g c κs within = (modulus_in_range (bytes_of c.args.words.now) c.in-Ok-Some.command (rw c.in-Ok-Some.field-0-is at c.in-Ok-Some.ensures)).1
 
 pub answer_batch-requires-clause-some : goal.answer_batch-requires-clause-some
-answer_batch-requires-clause-some g c κs within = some_workers (bytes_of c.args.words.now) c.in-Ok-Some.command (rw c.in-Ok-Some.field-0-is at c.in-Ok-Some.ensures)
+answer_batch-requires-clause-some g c κs within = (workers_in_range (bytes_of c.args.words.now) c.in-Ok-Some.command (rw c.in-Ok-Some.field-0-is at c.in-Ok-Some.ensures)).0

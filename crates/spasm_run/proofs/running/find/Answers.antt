@@ -1,7 +1,7 @@
 -- Words that aren't accepted are refused; others are a command, whose numbers lie in their ranges.
 use Rattle.spasm_run.proofs.Whole.{found_memory, found_refused}
 use Rattle.spasm_run.specs.Options.{bytes_of}
-use Rattle.spasm_run.proofs.InRange.{modulus_in_range, sizes_in_range, some_workers}
+use Rattle.spasm_run.proofs.InRange.{modulus_in_range, sizes_in_range, workers_in_range}
 use Rattle.spasm_run.proofs.running.find.Goals as goal
 
 pub returns-in-Ok-None-clause-found : goal.returns-in-Ok-None-clause-found
@@ -17,7 +17,7 @@ pub find_for-requires-clause-in_range : goal.find_for-requires-clause-in_range
 find_for-requires-clause-in_range g c κs within = (modulus_in_range (bytes_of c.args.words.now) c.in-Ok-Some.command (rw c.in-Ok-Some.field-0-is at c.in-Ok-Some.ensures)).1
 
 pub find_for-requires-clause-some : goal.find_for-requires-clause-some
-find_for-requires-clause-some g c κs within = some_workers (bytes_of c.args.words.now) c.in-Ok-Some.command (rw c.in-Ok-Some.field-0-is at c.in-Ok-Some.ensures)
+find_for-requires-clause-some g c κs within = (workers_in_range (bytes_of c.args.words.now) c.in-Ok-Some.command (rw c.in-Ok-Some.field-0-is at c.in-Ok-Some.ensures)).0
 
 pub find_for-requires-clause-generator : goal.find_for-requires-clause-generator
 find_for-requires-clause-generator g c κs within = sizes_in_range (bytes_of c.args.words.now) c.in-Ok-Some.command (rw c.in-Ok-Some.field-0-is at c.in-Ok-Some.ensures)
