@@ -5,8 +5,7 @@
 set -eu
 cd "$(dirname "$0")/.."
 . bench/common.sh
-./spasm rank < examples/x.sms > /dev/null
-cat examples/x.sms examples/questions.sms | ./spasm_batch --count 3 --modulus 7 > /dev/null
+need_programs
 matrix=bench/out/batch_matrix.sms
 random_text 2000 2000 5 "$matrix" 11
 

@@ -6,7 +6,7 @@ set -eu
 other=$(realpath "$1")
 cd "$(dirname "$0")/.."
 . bench/common.sh
-./spasm rank < examples/x.sms > /dev/null
+need_programs
 test -f bench/out/mk11-b3.sms || matching_text 11 3 bench/out/mk11-b3.sms
 test -f bench/out/ch7-6-b4.sms || chessboard_text 7 6 4 bench/out/ch7-6-b4.sms
 test -f bench/out/random_5000.sms || random_text 5000 5000 3 bench/out/random_5000.sms 5

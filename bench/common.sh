@@ -71,6 +71,14 @@ timed_program() {
     echo "$program"
 }
 
+# need_programs: stops if the programs aren't built; what is compiled without proofs tells nothing about times.
+need_programs() {
+    local program
+    for program in spasm_main spasm_batch; do
+        test -x "crates/$program/out/$program" || { echo "$program isn't built: run ./build" >&2; exit 1; }
+    done
+}
+
 # best FIELD TEXT COMMAND..: the least of the numbers that stand as the FIELD-th word in the output of three runs on the text.
 best() {
     local field=$1 text=$2

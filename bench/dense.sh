@@ -31,7 +31,7 @@ for p in 42013 2147483647; do
     test -z "$ffpack" || awk -v f="$ffpack" -v o="$one" \
         'BEGIN { printf "  fflas-ffpack Rank: %.2f s; the factors take %.2f times as long\n", f, o / 1e6 / f }'
 done
-./spasm rank < examples/x.sms > /dev/null
+need_programs
 for rounds in "--rounds 0" ""; do
     for workers in 1 4; do
         seconds=$(best 1 "$text" seconds_and_peak ./spasm rank $rounds --workers "$workers")

@@ -5,7 +5,7 @@
 set -eu
 cd "$(dirname "$0")/.."
 . bench/common.sh
-./spasm rank < examples/x.sms > /dev/null
+need_programs
 whole=bench/out/grown.sms
 script=bench/out/grown.txt
 random_text 5000 5000 3 "$whole" 7

@@ -7,7 +7,7 @@ set -eu
 cd "$(dirname "$0")/.."
 . bench/common.sh
 runs=${1:-9}
-./spasm rank < examples/x.sms > /dev/null
+need_programs
 test -f bench/out/mk10-b3.sms || matching_text 10 3 bench/out/mk10-b3.sms
 test -f bench/out/mk11-b3.sms || matching_text 11 3 bench/out/mk11-b3.sms
 test -f bench/out/mk12-b3.sms || matching_text 12 3 bench/out/mk12-b3.sms

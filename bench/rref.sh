@@ -7,7 +7,7 @@ cd "$(dirname "$0")/.."
 . bench/common.sh
 random_text 2000 2000 3 bench/out/square.sms 3
 test -f bench/out/wide.sms || random_text 20000 30000 2 bench/out/wide.sms 5
-./spasm rank < examples/x.sms > /dev/null
+need_programs
 for text in bench/out/square.sms bench/out/wide.sms; do
     rank=$(./spasm rank < "$text")
     for workers in 1 4; do

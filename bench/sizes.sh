@@ -4,7 +4,7 @@
 set -eu
 cd "$(dirname "$0")/.."
 . bench/common.sh
-./spasm rank < examples/x.sms > /dev/null
+need_programs
 few='1 1 3\n2 2147483647 5\n0 0 0\n'
 turned='1 1 3\n2147483647 2 5\n0 0 0\n'
 printf "6 2147483647 M\n$few" > bench/out/broad.sms
