@@ -5,7 +5,7 @@ from __future__ import annotations
 import argparse
 import os
 import sys
-from typing import Optional, Sequence
+from typing import Callable, Optional, Sequence
 
 from . import commands, complexes
 from .faults import SpasmError
@@ -64,7 +64,7 @@ def answer(options: argparse.Namespace) -> int:
     return 0
 
 
-def guarded(run, *words) -> int:
+def guarded(run: Callable[..., int], *words: object) -> int:
     """The status of a run: 1 and a line on the error stream if it fails, 130 if it is interrupted."""
     try:
         return run(*words)

@@ -29,7 +29,7 @@ DEFAULT_ROUNDS = 3
 MOST_WORKERS = 64
 MOST_ROUNDS = 16
 
-Path = Union[str, "os.PathLike[str]"]
+FilePath = Union[str, "os.PathLike[str]"]
 Pairs = Iterable[tuple[int, Any]]
 
 
@@ -46,22 +46,22 @@ def _rank(matrix: Any, modulus: int, workers: int, rounds: int, group: Optional[
 
 
 def rref(matrix: Any, *, modulus: int = DEFAULT_MODULUS, workers: int = DEFAULT_WORKERS, rounds: int = DEFAULT_ROUNDS,
-         output: Optional[Path] = None) -> Matrix:
+         output: Optional[FilePath] = None) -> Matrix:
     """The reduced row echelon form of A without its zero rows: rank x n.
 
-    output: a file that gets the answer; the Matrix then stands for this file.
+    output: a file that gets the answer; the Matrix then stands for this file. After a fault it may hold a part.
     """
     return _matrix_answer("rref", matrix, modulus, workers, rounds, output)
 
 
 def kernel(matrix: Any, *, modulus: int = DEFAULT_MODULUS, workers: int = DEFAULT_WORKERS, rounds: int = DEFAULT_ROUNDS,
-           output: Optional[Path] = None) -> Matrix:
+           output: Optional[FilePath] = None) -> Matrix:
     """The reduced basis of all x with `A x = 0`, a vector in each row: (n - rank) x n. output: as for `rref`."""
     return _matrix_answer("kernel", matrix, modulus, workers, rounds, output)
 
 
 def left_kernel(matrix: Any, *, modulus: int = DEFAULT_MODULUS, workers: int = DEFAULT_WORKERS,
-                rounds: int = DEFAULT_ROUNDS, output: Optional[Path] = None) -> Matrix:
+                rounds: int = DEFAULT_ROUNDS, output: Optional[FilePath] = None) -> Matrix:
     """The reduced basis of all y with `y A = 0`, a vector in each row: (m - rank) x m. output: as for `rref`."""
     return _matrix_answer("leftkernel", matrix, modulus, workers, rounds, output)
 
@@ -128,7 +128,7 @@ def certify(matrix: Any, *, kind: str = "rank", modulus: int = DEFAULT_MODULUS, 
         return Certificate.read(reader.stream)
 
 
-def check(matrix: Any, certificate: Union[Certificate, Path], *, modulus: int = DEFAULT_MODULUS) -> bool:
+def check(matrix: Any, certificate: Union[Certificate, FilePath], *, modulus: int = DEFAULT_MODULUS) -> bool:
     """Whether a certificate, or the one in a file, is valid for A. Nothing is eliminated; the modulus needn't be prime."""
     text = certificate.text() if isinstance(certificate, Certificate) else _content(certificate)
     name = "certificate" if isinstance(certificate, Certificate) else os.fspath(certificate)
@@ -154,7 +154,7 @@ def _part(matrix: Any) -> Part:
     return Part("matrix", Matrix.of(matrix))
 
 
-def _content(path: Path) -> bytes:
+def _content(path: FilePath) -> bytes:
     """The bytes of a file."""
     with open(path, "rb") as stream:
         return stream.read()
@@ -163,7 +163,7 @@ def _content(path: Path) -> bytes:
 @contextmanager
 def _run(command: str, parts: Sequence[Part], modulus: int, workers: int, rounds: Optional[int], *,
          prime: bool = True, more: Sequence[str] = (), group: Optional[Group] = None,
-         output: Optional[Path] = None) -> Iterator[tuple[int, Reader]]:
+         output: Optional[FilePath] = None) -> Iterator[tuple[int, Reader]]:
     """Runs a command, or `spasm_batch` if there is none, and gives the status and a reader of its answer."""
     words = ["--modulus", str(checked_modulus(operator.index(modulus), prime)),
              "--workers", _checked("workers", workers, 1, MOST_WORKERS)]
@@ -185,7 +185,7 @@ def _checked(option: str, value: int, least: int, most: int) -> str:
     return str(value)
 
 
-def _matrix_answer(command: str, matrix: Any, modulus: int, workers: int, rounds: int, output: Optional[Path]) -> Matrix:
+def _matrix_answer(command: str, matrix: Any, modulus: int, workers: int, rounds: int, output: Optional[FilePath]) -> Matrix:
     """The answer of a command that writes one matrix."""
     with _run(command, [_part(matrix)], modulus, workers, rounds, output=output) as (_, reader):
         return _matrix_of(reader) if output is None else Matrix.read(output)

@@ -214,7 +214,8 @@ def _fault(status: int, told: str, parts: Sequence[Part], lines: Sequence[int], 
     if status == 8:
         return OutOfMemory("there is too little memory for this run")
     if status < 0:
-        return ProgramFault(f"the program was ended by the signal {-status}")
+        cause = ", as the system does if memory runs out" if status == -signal.SIGKILL else ""
+        return ProgramFault(f"the program was ended by the signal {-status}{cause}")
     return ProgramFault(f"the program ended with the status {status}: {told or 'nothing was told'}")
 
 

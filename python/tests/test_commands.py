@@ -328,6 +328,26 @@ class Faults(unittest.TestCase):
         return [int(word) for word in path.read_text().split()] if path.exists() else []
 
 
+class CommandLine(unittest.TestCase):
+    """python -m spasm."""
+
+    def test_answers_and_faults(self) -> None:
+        example, faulty = str(ROOT / "examples" / "x.sms"), str(ROOT / "examples" / "faulty.sms")
+        for words, status, output, told in (
+                (["rank", example, "--modulus", "7"], 0, "2\n", ""),
+                (["kernel", example, "--modulus=7", "--workers", "2"], 0, "1 3 M\n1 1 5\n1 2 1\n0 0 0\n", ""),
+                (["betti", example, "--primes", "7", "--jobs", "1"], 0, "faces: 3 3\nunreduced Betti numbers modulo 7: 1 1\n", ""),
+                (["rank", faulty], 1, "", "faulty.sms, line 4: the row isn't"),
+                (["rank", example, "--modulus", "9"], 1, "", "error: the modulus 9 isn't prime\n"),
+                (["inverse", example, "--modulus", "7"], 1, "", "A has no inverse"),
+                (["rank", "none"], 1, "", "No such file"),
+                (["rang", example], 2, "", "invalid choice")):
+            with self.subTest(words):
+                run = subprocess.run([sys.executable, "-m", "spasm", *words], cwd=ROOT / "python", capture_output=True, text=True)
+                self.assertEqual((run.returncode, run.stdout), (status, output))
+                self.assertIn(told, run.stderr)
+
+
 class RandomMatrices(unittest.TestCase):
     """The program beside a plain elimination."""
 
