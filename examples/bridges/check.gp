@@ -1,0 +1,10 @@
+read("spasm.gp");
+A = [2, 4, 1; 1, 2, 0; 3, 6, 1];
+print("rank ", spasm_rank(A, 7));
+print("kernel ", lift(spasm_kernel(A, 7)));
+B = [1, -1, 0; 0, 1, -1];
+print("kernel ", lift(spasm_kernel(B, 2^48 - 59)));
+C = matrix(20, 30, i, j, if (random(10), 0, random(65537)));
+print(spasm_rank(C, 65537) == matrank(C * Mod(1, 65537)), " ", C * spasm_kernel(C, 65537) == 0);
+print(matrank(spasm_kernel(C, 65537)) == 30 - spasm_rank(C, 65537));
+iferr(spasm_run("rang", A, 7), E, print(E));

@@ -1,0 +1,10 @@
+load "spasm.m2";
+A = matrix(ZZ/7, {{2, 4, 1}, {1, 2, 0}, {3, 6, 1}});
+<< "rank " << spasmRank A << endl;
+<< "kernel " << toString entries spasmKernel A << endl;
+B = matrix(ZZ/42013, {{1, -1, 0}, {0, 1, -1}});
+<< "kernel " << toString entries spasmKernel B << endl;
+C = matrix apply(20, i -> apply(30, j -> if random 10 == 0 then random(ZZ/42013) else 0_(ZZ/42013)));
+K = spasmKernel C;
+<< (spasmRank C == rank C) << " " << (C * K == 0) << " " << (image K == ker C) << endl;
+<< (try spasmRun("rang", A) else "refused") << endl;
