@@ -27,6 +27,7 @@ G
 
 draw flint 1000,360 <<'G'
 set title "Beside FLINT, which eliminates as if all were dense: 2000 x 2000"
+set xlabel "matrix and modulus"
 set ylabel "seconds"
 set logscale y
 set yrange [0.01:20]
