@@ -12,6 +12,7 @@ Number = Union[int, Fraction]
 LARGEST_SIZE = 2147483647
 CLOSING = re.compile(rb"^[ \t]*0+[ \t]+0+[ \t]+[+-]?0+[ \t]*\r?\n?$")
 VALUE = re.compile(rb"^([+-]?)([0-9]+)(?:/([0-9]+))?$")
+PLAIN_ENTRY = re.compile(rb"^([0-9]{1,10}) ([0-9]{1,10}) (-?[0-9]{1,20})\n$")  # as answers have them: read at once
 DIGITS_AT_ONCE = 4000  # below the number of digits from which int() refuses
 
 
@@ -84,24 +85,39 @@ class Reader:
 
     def entries(self, rows: int, columns: int) -> Iterator[Tuple[int, int, Number]]:
         """Reads the entries of a text and its closing line: (row, column, value) in the text's order. Raises TextError."""
-        while True:
-            found = self.next_words()
-            if not found:
-                raise self.fault(7)
-            if len(found) != 3:
-                raise self.fault(1, found)
-            row, column, value = natural(found[0]), natural(found[1]), value_of(found[2])
-            if row is None or column is None or not VALUE.match(found[2]):
-                raise self.fault(2, found)
-            if row == column == value == 0 and b"/" not in found[2]:
-                return
-            if not 1 <= row <= rows:
-                raise self.fault(4, found)
-            if not 1 <= column <= columns:
-                raise self.fault(5, found)
-            if value is None:
-                raise self.fault(10, found)
-            yield row, column, value
+        for line in self.stream:
+            self.line += 1
+            plain = PLAIN_ENTRY.match(line)
+            if plain:
+                row, column, value = map(int, plain.groups())
+                if 1 <= row <= rows and 1 <= column <= columns:
+                    yield row, column, value
+                    continue
+            found = words(line)
+            if found:
+                entry = self._entry(found, rows, columns)
+                if entry is None:
+                    return
+                yield entry
+        self.line += 1
+        raise self.fault(7)
+
+    def _entry(self, found: list[bytes], rows: int, columns: int) -> Optional[Tuple[int, int, Number]]:
+        """The entry of a line of these words; None for a closing line. Raises TextError."""
+        if len(found) != 3:
+            raise self.fault(1, found)
+        row, column, value = natural(found[0]), natural(found[1]), value_of(found[2])
+        if row is None or column is None or not VALUE.match(found[2]):
+            raise self.fault(2, found)
+        if row == column == value == 0 and b"/" not in found[2]:
+            return None
+        if not 1 <= row <= rows:
+            raise self.fault(4, found)
+        if not 1 <= column <= columns:
+            raise self.fault(5, found)
+        if value is None:
+            raise self.fault(10, found)
+        return row, column, value
 
 
 def copy_text(stream: BinaryIO, target: BinaryIO) -> Tuple[int, bool]:

@@ -236,6 +236,14 @@ class Faults(unittest.TestCase):
             with self.assertRaises(spasm.TextError) as caught:
                 spasm.rank(self.text("b.sms", content), modulus=7)
             self.assertEqual((caught.exception.line, caught.exception.kind), (line, kind), content)
+        for content, line, kind in (("1 1 M\n1 1 1\n", 3, 7), ("1 1 M\n1 1\n", 2, 1), ("1 1 M\n2 1 1\n", 2, 4), ("1 1 M\n1 2 1\n", 2, 5),
+                                    ("1 1 M\n# void\n1 1 1/0\n", 3, 10), ("1 1 M\n1 1 0x1\n", 2, 2), ("1 1 M\n0 0 0/1\n", 2, 4)):
+            with self.assertRaises(spasm.TextError) as caught:
+                list(Matrix.read(self.text("c.sms", content)).entries())
+            self.assertEqual((caught.exception.line, caught.exception.kind), (line, kind), content)
+            with self.assertRaises(spasm.TextError) as caught:
+                spasm.rank(self.text("c.sms", content))
+            self.assertEqual((caught.exception.line, caught.exception.kind), (line, kind), content)
 
     def test_which_text(self) -> None:
         wrong = self.text("b.sms", "3 1 M\n1 2 1\n0 0 0\n")
