@@ -1,5 +1,5 @@
 #!/bin/sh
-# Draws what stands in bench/data as pictures in docs/pictures: seconds beside LinBox and FLINT, seconds against size, and by workers.
+# Draws what stands in bench/data as pictures in docs/pictures: seconds beside LinBox, Sage and FLINT, seconds against size, and by workers.
 # It needs gnuplot (Debian: gnuplot-nox) and measures nothing.
 set -eu
 cd "$(dirname "$0")/.."
@@ -16,13 +16,15 @@ draw() {
 }
 
 draw linbox 900,420 <<'G'
+set datafile missing "-"
 set title "The rank, by elimination alone"
 set ylabel "seconds"
 set logscale y
 set yrange [0.003:200]
 set xtics rotate by -25
 plot "bench/data/rank.txt" using 3:xtic(1) title "spasm, 1 worker" lc rgb one, \
-     "" using 4 title "spasm, 4 workers" lc rgb four, "" using 5 title "LinBox" lc rgb peer
+     "" using 4 title "spasm, 4 workers" lc rgb four, "" using 5 title "LinBox" lc rgb peer, \
+     "" using 6 title "Sage" lc rgb "#e8a33d"
 G
 
 draw flint 1000,360 <<'G'
