@@ -206,7 +206,7 @@ def _fault(status: int, told: str, parts: Sequence[Part], lines: Sequence[int], 
     if status == 3 and len(numbers) == 2:
         return _text_fault(numbers[0], numbers[1], parts, lines, stream)
     if status in (4, 9) and len(numbers) >= 2:
-        return _shape_fault(status, numbers)
+        return _shape_fault(status, numbers, words[0])
     if status == 6:
         return ReadFault("the input can't be read to its end: " + ", ".join(part.source for part in parts))
     if status == 7:
@@ -230,11 +230,12 @@ def _text_fault(line: int, kind: int, parts: Sequence[Part], lines: Sequence[int
     return TextError(parts[which].source, line, kind, content[:SHOWN_CHARACTERS])
 
 
-def _shape_fault(status: int, numbers: Sequence[int]) -> ShapeError:
+def _shape_fault(status: int, numbers: Sequence[int], command: str) -> ShapeError:
     """The fault of a shape. The program counts right-hand sides from 1."""
+    wanted = "square" if command == "inverse" else "a column of the height of A"
     shape = f"{numbers[0]} rows and {numbers[1]} columns"
     question = numbers[2] - 1 if len(numbers) > 2 else None
     if status == 9:
         return ShapeError(f"a matrix of {shape} is larger than the program takes here", *numbers[:2])
     which = "" if question is None else f", right-hand side {question} (counted from 0)"
-    return ShapeError(f"a matrix of {shape} isn't of the shape that is wanted{which}", *numbers[:2], question=question)
+    return ShapeError(f"a matrix of {shape} isn't {wanted}{which}", *numbers[:2], question=question)

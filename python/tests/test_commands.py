@@ -265,7 +265,8 @@ class Faults(unittest.TestCase):
         with self.assertRaises(spasm.ShapeError) as caught:
             spasm.inverse(Matrix(2, 3))
         self.assertEqual((caught.exception.rows, caught.exception.columns), (2, 3))
-        with self.assertRaises(spasm.ShapeError):
+        self.assertIn("isn't square", str(caught.exception))
+        with self.assertRaisesRegex(spasm.ShapeError, "isn't a column of the height of A"):
             spasm.solve(self.matrix, [1, 2])
         with self.assertRaises(spasm.ShapeError) as caught:
             spasm.solve_many(self.matrix, [[1, 2, 3], [1, 2]])

@@ -85,6 +85,9 @@ class MatrixMarket(unittest.TestCase):
                 self.assertEqual((ran.returncode, ran.stdout), (1, ""))
                 self.assertIn("line 1: the first line", ran.stderr)
 
+    def test_byte_order_mark(self) -> None:
+        self.assertEqual(run(f"\ufeff{BANNER}array integer general\n1 1\n5\n").stdout, "1 1 M\n1 1 5\n0 0 0\n")
+
     def test_a_file_that_is_not_there(self) -> None:
         ran = subprocess.run([TOOL, "/no/such/file"], capture_output=True, text=True)
         self.assertEqual(ran.returncode, 1)
