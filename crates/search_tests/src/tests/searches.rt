@@ -148,28 +148,41 @@ fn rows_are_taken_in_turn(rt: HostRuntime) -> Result<(), Fail> {
     Ok(())
 }
 
-// Holds whoever has row 1 before it publishes, until whoever has row 2 has published.
+// Holds whoever has row 2 before it publishes, until another has claimed row 1, and that one before it publishes, until row 2 is
+// published. It notes that row 2 was published only if row 1 was in another's hand then, so it does not if one thread does all.
 #[derive(Drop)]
 struct Hold {
-    owner: AtomicU64,
-    published: AtomicU64,
+    held: AtomicU64,
+    other: AtomicU64,
+    overtaken: AtomicU64,
+}
+
+// A worker, as a number that isn't 0.
+fn named(worker: u32) -> u64 {
+    u64::from(worker) + 1
+}
+
+// Waits until the flag is set, for a second or so.
+fn wait_for(flag: &AtomicU64) {
+    for _ in 0..500_000_000u64 {
+        if flag.load(Ordering::SeqCst) != 0 {
+            return;
+        }
+    }
 }
 
 impl Gate for Hold {
     fn at(&self, worker: u32, point: Point) {
-        let worker = u64::from(worker) + 1;
         match point {
-            Point::Claimed(2) => self.owner.store(worker, Ordering::SeqCst),
+            Point::Claimed(1) => self.held.store(named(worker), Ordering::SeqCst),
+            Point::Claimed(2) => self.other.store(named(worker), Ordering::SeqCst),
+            Point::Before(1, _, _) => wait_for(&self.overtaken),
+            Point::Before(2, _, _) => wait_for(&self.held),
             Point::Published(_) => {
-                if self.owner.load(Ordering::SeqCst) == worker {
-                    self.published.store(1, Ordering::SeqCst);
-                }
-            }
-            Point::Before(1, _, _) => {
-                for _ in 0..8_000_000_000u64 {
-                    if self.published.load(Ordering::SeqCst) == 1 {
-                        return;
-                    }
+                let held = self.held.load(Ordering::SeqCst);
+                let other = self.other.load(Ordering::SeqCst);
+                if other == named(worker) && held != 0 && held != other {
+                    self.overtaken.store(1, Ordering::SeqCst);
                 }
             }
             _ => {}
@@ -197,14 +210,15 @@ fn find_row_2<R: Threads + Sync>(
     Ok(has_row_2(&found))
 }
 
-// Whether row 2 overtakes row 1, which is dead then, where the gate holds it: two workers go at once.
+// Whether row 2 overtakes row 1, which is dead then, while another worker has it: two workers go at once.
 fn is_overtaken<R: Threads + Sync>(rt: &R, alloc: Global) -> Result<bool, AllocError> {
     let gate = Hold {
-        owner: AtomicU64::new(0),
-        published: AtomicU64::new(0),
+        held: AtomicU64::new(0),
+        other: AtomicU64::new(0),
+        overtaken: AtomicU64::new(0),
     };
     let rows = example_rows(alloc)?;
-    Ok(find_row_2(rt, alloc, &rows, &gate)? && gate.published.load(Ordering::SeqCst) == 1)
+    Ok(find_row_2(rt, alloc, &rows, &gate)? && gate.overtaken.load(Ordering::SeqCst) == 1)
 }
 
 #[test]
