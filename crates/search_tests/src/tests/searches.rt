@@ -193,7 +193,7 @@ impl Gate for Hold {
 // Whether the pair of row 2 stands behind the first, published by a worker that had seen that one.
 fn has_row_2(found: &Traced<'_>) -> bool {
     let wanted = [Pair { row: 0, col: 0 }, Pair { row: 2, col: 1 }];
-    found.book.pairs() == wanted.as_slice() && found.versions.items() == [0u64, 1].as_slice()
+    found.book.pairs() == wanted.as_slice() && found.versions.as_slice() == [0u64, 1].as_slice()
 }
 
 // Whether two workers at this gate find that.
