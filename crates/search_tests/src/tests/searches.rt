@@ -1,6 +1,6 @@
 // The walk on the example of histories, and both searches on small matrices.
 ghost use Rattle.sparse_rows.specs.declared.rows.TheConstants.{LARGEST_SIZE};
-ghost use Rattle.std.specs.Prelude.{◌≡◌, ◌<◌, ◌≤◌, ◌+◌, [], ◌∷◌, None, IfOk};
+ghost use Rattle.std.specs.Prelude.{◌≡◌, ◌<◌, ◌≤◌, ◌+◌, [], ◌∷◌, None, Some, IfOk};
 ghost use Rattle.pivot_table.specs.Board.{IsSeatOf};
 ghost use Rattle.pivot_table.specs.Core.{opened};
 ghost use Rattle.pivot_table.specs.Example.{pivot_example};
@@ -36,23 +36,67 @@ fn example_rows(alloc: Global) -> Result<Rows, AllocError>
     builder.finish()
 }
 
-// What is alive least for row 1 with the pair (0, 0), and then once row 2 has the column 1: the first takes at most 4 steps, the
-// second at most 3 more, and the pair (0, 0) none.
-fn overtaken<L: Ledger>(walk: &mut Walk, steps: &mut Steps<L>) -> [Option<u32>; 2]
+// The pair (0, 0) takes no step. Answers how many it took.
+fn extend_first<L: Ledger>(walk: &mut Walk, steps: &mut Steps<L>) -> u64
     requires matrix { walk.old.rows.matrix ≡ pivot_example }
     requires pairs { walk.old.pairs ≡ [] }
     requires closed { walk.old.current ≡ None }
-    ensures { steps.new ≤ steps.old + 7 }
+    ensures rows { walk.new.rows ≡ walk.old.rows }
+    ensures pairs { walk.new.pairs ≡ pair 0 0 ∷ [] }
+    ensures closed { walk.new.current ≡ None }
+    ensures steps { steps.new ≡ steps.old }
 {
+    let before = steps.count();
     walk.extend(Pair { row: 0, col: 0 }, steps);
+    steps.count().wrapping_sub(before)
+}
+
+// The walk from row 1 takes at most 4 steps. Answers how many it took.
+fn begin_second<L: Ledger>(walk: &mut Walk, steps: &mut Steps<L>) -> u64
+    requires matrix { walk.old.rows.matrix ≡ pivot_example }
+    requires pairs { walk.old.pairs ≡ pair 0 0 ∷ [] }
+    requires closed { walk.old.current ≡ None }
+    ensures rows { walk.new.rows ≡ walk.old.rows }
+    ensures pairs { walk.new.pairs ≡ walk.old.pairs }
+    ensures open { walk.new.current ≡ Some 1 }
+    ensures steps { steps.new ≤ steps.old + 4 }
+{
+    let before = steps.count();
     walk.begin(1, steps);
-    let first = walk.least_alive();
+    steps.count().wrapping_sub(before)
+}
+
+// The pair (2, 1) takes at most 3 steps more. Answers how many it took.
+fn extend_late<L: Ledger>(walk: &mut Walk, steps: &mut Steps<L>) -> u64
+    requires matrix { walk.old.rows.matrix ≡ pivot_example }
+    requires pairs { walk.old.pairs ≡ pair 0 0 ∷ [] }
+    requires open { walk.old.current ≡ Some 1 }
+    ensures open { walk.new.current ≡ Some 1 }
+    ensures steps { steps.new ≤ steps.old + 3 }
+{
+    let before = steps.count();
     walk.extend(Pair { row: 2, col: 1 }, steps);
-    [first, walk.least_alive()]
+    steps.count().wrapping_sub(before)
+}
+
+// What is alive least for row 1 with the pair (0, 0), and then once row 2 has the column 1; and how many steps each call took.
+fn overtaken<L: Ledger>(walk: &mut Walk, steps: &mut Steps<L>) -> ([Option<u32>; 2], [u64; 3])
+    requires matrix { walk.old.rows.matrix ≡ pivot_example }
+    requires pairs { walk.old.pairs ≡ [] }
+    requires closed { walk.old.current ≡ None }
+{
+    let extended = extend_first(walk, steps);
+    let begun = begin_second(walk, steps);
+    let first = walk.least_alive();
+    let late = extend_late(walk, steps);
+    ([first, walk.least_alive()], [extended, begun, late])
 }
 
 // The same with a count of its own.
-fn answers<L: Ledger>(alloc: Global, blank: Blank) -> Result<[Option<u32>; 2], AllocError>
+fn answers<L: Ledger>(
+    alloc: Global,
+    blank: Blank,
+) -> Result<([Option<u32>; 2], [u64; 3]), AllocError>
     requires name { blank.name ≡ L.name }
     requires parts { blank.parts ≡ L.parts }
     requires some { 0 < blank.parts }
@@ -65,8 +109,11 @@ fn answers<L: Ledger>(alloc: Global, blank: Blank) -> Result<[Option<u32>; 2], A
 
 #[test]
 fn a_walk_is_carried_on(rt: HostRuntime) -> Result<(), Fail> {
-    let found = answers::<Brand>(rt.alloc(), Blank::new(1))?;
+    let (found, [extended, begun, late]) = answers::<Brand>(rt.alloc(), Blank::new(1))?;
     assert_eq!(rt; found, [Some(1), None]);
+    assert_eq!(rt; extended, 0);
+    assert!(rt; begun <= 4);
+    assert!(rt; late <= 3);
     Ok(())
 }
 
