@@ -1,5 +1,5 @@
 -- The example worked: what is reached is decided by computing.
-use Rattle.std.proofs.Common.{ℕ, ◌≡◌, ◌≤◌, ◌+◌, List, [], ◌∷◌, ◌++◌, None, Some, refl, sym, ap, subst, ◌∙◌, arith}
+use Rattle.std.proofs.Common.{ℕ, ◌≡◌, ◌≤◌, ◌+◌, List, [], ◌∷◌, ◌++◌, Some, refl, sym, ap, subst, ◌∙◌, arith}
 use Rattle.residue_words.specs.Matrix.{Matrix}
 use Rattle.residue_words.specs.declared.plain.Pair.{Pair}
 use Rattle.residue_words.proofs.Deciding.{shown}
@@ -27,19 +27,15 @@ worked = record {
   };
 }
 
--- the steps of the walk that is overtaken
-pub overtaken_steps : (w0 w1 w2 w3 : Walked) (s0 s1 s2 s3 : ℕ) → w0.rows.matrix ≡ pivot_example → w0.pairs ≡ [] → w0.current ≡ None →
-    w1 ≡ extended w0 (pair 0 0) → (w1.current ≡ None → s1 ≡ s0) → w2 ≡ record { rows = w1.rows; pairs = w1.pairs; current = Some 1 } →
-    TakesItsCost w1.rows.matrix w1.pairs 1 s1 s2 → w3 ≡ extended w2 (pair 2 1) → TakesTheRise w2 w3 s2 s3 → s3 ≤ s0 + 7
-overtaken_steps w0 w1 w2 w3 s0 s1 s2 s3 a h n e1 none e2 begun e3 rise =
-    let a1 : w1.rows.matrix ≡ pivot_example = ap (λ (w : Walked). w.rows.matrix) e1 ∙ a in
-    let h1 : w1.pairs ≡ pair 0 0 ∷ [] = ap (λ (w : Walked). w.pairs) e1 ∙ ap (λ (l : List Pair). l ++ pair 0 0 ∷ []) h in
-    let n1 : w1.current ≡ None = ap (λ (w : Walked). w.current) e1 ∙ ap (open_after (pair 0 0)) n in
-    let a2 : w2.rows.matrix ≡ pivot_example = ap (λ (w : Walked). w.rows.matrix) e2 ∙ a1 in
-    let h2 : w2.pairs ≡ pair 0 0 ∷ [] = ap (λ (w : Walked). w.pairs) e2 ∙ h1 in
-    let n3 : w3.current ≡ Some 1 = ap (λ (w : Walked). w.current) e3 ∙ ap (λ (w : Walked). open_after (pair 2 1) w.current) e2 in
-    let h3 : w3.pairs ≡ other_history = ap (λ (w : Walked). w.pairs) e3 ∙ ap (λ (l : List Pair). l ++ pair 2 1 ∷ []) h2 in
-    let c1 : IsCost w1.rows.matrix w1.pairs 1 4 = subst (λ (l : List Pair). IsCost w1.rows.matrix l 1 4) (sym h1) (subst (λ (m : Matrix). IsCost m (pair 0 0 ∷ []) 1 4) (sym a1) worked.begun) in
-    let c2 : IsCost w2.rows.matrix w2.pairs 1 4 = subst (λ (l : List Pair). IsCost w2.rows.matrix l 1 4) (sym h2) (subst (λ (m : Matrix). IsCost m (pair 0 0 ∷ []) 1 4) (sym a2) worked.begun) in
-    let c3 : IsCost w2.rows.matrix w3.pairs 1 7 = subst (λ (l : List Pair). IsCost w2.rows.matrix l 1 7) (sym h3) (subst (λ (m : Matrix). IsCost m other_history 1 7) (sym a2) worked.overtaken) in
-    omega (arith, none n1, begun 4 c1, rise 1 4 7 n3 c2 c3)
+-- the steps of the walk from row 1 and, once row 2 has the second pair, of the walk that is carried on
+pub begun_steps : (w : Walked) (s t : ℕ) → w.rows.matrix ≡ pivot_example → w.pairs ≡ pair 0 0 ∷ [] → TakesItsCost w.rows.matrix w.pairs 1 s t → t ≤ s + 4
+begun_steps w s t a h within =
+    within 4 (subst (λ (l : List Pair). IsCost w.rows.matrix l 1 4) (sym h) (subst (λ (m : Matrix). IsCost m (pair 0 0 ∷ []) 1 4) (sym a) worked.begun))
+
+pub carried_steps : (w v : Walked) (s t : ℕ) → w.rows.matrix ≡ pivot_example → w.pairs ≡ pair 0 0 ∷ [] → w.current ≡ Some 1 → v ≡ extended w (pair 2 1) → TakesTheRise w v s t → t ≤ s + 3
+carried_steps w v s t a h n e rise =
+    let open_still : v.current ≡ Some 1 = ap (λ (x : Walked). x.current) e ∙ ap (open_after (pair 2 1)) n in
+    let more : v.pairs ≡ other_history = ap (λ (x : Walked). x.pairs) e ∙ ap (λ (l : List Pair). l ++ pair 2 1 ∷ []) h in
+    let before : IsCost w.rows.matrix w.pairs 1 4 = subst (λ (l : List Pair). IsCost w.rows.matrix l 1 4) (sym h) (subst (λ (m : Matrix). IsCost m (pair 0 0 ∷ []) 1 4) (sym a) worked.begun) in
+    let after : IsCost w.rows.matrix v.pairs 1 7 = subst (λ (l : List Pair). IsCost w.rows.matrix l 1 7) (sym more) (subst (λ (m : Matrix). IsCost m other_history 1 7) (sym a) worked.overtaken) in
+    omega (arith, rise 1 4 7 open_still before after)

@@ -3,7 +3,7 @@ ghost use Rattle.std.specs.Prelude.{◌≡◌, ◌<◌, ◌≤◌, None, length,
 ghost use Rattle.pivot_table.specs.Greedy.{IsGreedy, IsTried};
 ghost use Rattle.pivot_table.specs.History.{Grown, HasRow, Maximal, StartsWith};
 ghost use Rattle.optimistic_search.specs.Candidate.{IsCovered};
-ghost use Rattle.optimistic_search.specs.Cost.{TakesItsCost};
+ghost use Rattle.optimistic_search.specs.Cost.{TakesCostOfRows, TakesItsCost};
 ghost use Rattle.pivot_table.specs.Book.{HasRoom};
 
 use crate::steps::Steps;
@@ -71,6 +71,8 @@ fn try_all<L: Ledger>(book: &mut Book, walk: &mut Walk, steps: &mut Steps<L>)
     requires room { HasRoom book.old.rows.matrix book.old }
     ensures rows { book.new.rows ≡ book.old.rows }
     ensures greedy { IsGreedy book.old.rows.matrix book.old.pairs book.new.pairs }
+    ensures cost { TakesCostOfRows book.old.rows.matrix book.new.pairs book.old.rows.matrix.height
+        steps.old steps.new }
 {
     for row in 0..book.rows().height() {
         try_row(book, walk, row, steps);
@@ -85,6 +87,8 @@ fn search_with<'a, L: Ledger>(
 ) -> Result<Book<'a>, AllocError>
     ensures rows { IfOk result (λ b. b.rows ≡ book.entry.rows) }
     ensures greedy { IfOk result (λ b. IsGreedy book.entry.rows.matrix book.entry.pairs b.pairs) }
+    ensures cost { IfOk result (λ b. TakesCostOfRows book.entry.rows.matrix b.pairs
+        book.entry.rows.matrix.height steps.old steps.new) }
 {
     let mut book = book;
     let rows = book.rows();
@@ -99,8 +103,9 @@ fn search_with<'a, L: Ledger>(
 /// What `search` with one worker does, by a walk from each row alone: the rows are tried in ascending order, and each that has an
 /// alive column is appended with the least. Nothing is alive afterwards.
 ///
-/// It is kept to compare with, counts its steps, though no clause covers their number, and takes two to five times as long as
-/// `search`. It takes 9 bytes a column and 16 bytes a pair that there can be, all before the first row.
+/// It is kept to compare with, and takes two to five times as long as `search`. It counts its steps: they are at most the costs of all
+/// rows in the list that it leaves, and that they are no fewer isn't claimed, since a row that is tried in a shorter list costs less. It
+/// takes 9 bytes a column and 16 bytes a pair that there can be, all before the first row.
 pub fn search_by_walk<'a, L: Ledger>(
     alloc: Global,
     book: Book<'a>,
@@ -110,6 +115,8 @@ pub fn search_by_walk<'a, L: Ledger>(
     ensures greedy { IfOk result (λ b. IsGreedy book.entry.rows.matrix book.entry.pairs b.pairs) }
     ensures begins { IfOk result (λ b. StartsWith b.pairs book.entry.pairs) }
     ensures maximal { IfOk result (λ b. Maximal book.entry.rows.matrix b.pairs) }
+    ensures cost { IfOk result (λ b. TakesCostOfRows book.entry.rows.matrix b.pairs
+        book.entry.rows.matrix.height steps.old steps.new) }
 {
     search_with(alloc, book, steps)
 }

@@ -2,8 +2,9 @@
 ghost use Rattle.std.specs.Prelude.{◌≡◌, ◌<◌, ◌≤◌, ℕ, None, length, take, vec_len, All, IfOk};
 ghost use Rattle.pivot_table.specs.Board.{IsSeatOf};
 ghost use Rattle.pivot_table.specs.Book.{HasRoom};
-ghost use Rattle.pivot_table.specs.Closing.{AreStartsFrom, IsDone};
+ghost use Rattle.pivot_table.specs.Closing.{IsDone};
 ghost use Rattle.pivot_table.specs.History.{Maximal, StandsOrIsDead, StartsWith};
+ghost use Rattle.optimistic_search.specs.Versions.{AreStartsOf};
 ghost use Rattle.optimistic_search.specs.Workers.{DoneAreSettled, IsWorkerOf};
 
 use crate::by_walk::{follow, try_row};
@@ -169,7 +170,8 @@ fn search_with<'a, R: Threads + Sync, G: Gate, L: Ledger>(
     ensures rows { IfOk result (λ t. t.0.rows ≡ book.entry.rows) }
     ensures begins { IfOk result (λ t. StartsWith t.0.pairs book.entry.pairs) }
     ensures maximal { IfOk result (λ t. Maximal book.entry.rows.matrix t.0.pairs) }
-    ensures starts { IfOk result (λ t. (n : ℕ) × AreStartsFrom (length book.entry.pairs) n t.1) }
+    ensures starts { IfOk result (λ t.
+        AreStartsOf book.entry.rows.matrix book.entry.pairs t.0.pairs t.1) }
 {
     let mut steps = Steps::<L>::new(blank);
     let first = book.pairs().len();
@@ -200,7 +202,8 @@ pub(crate) fn search_together<'a, R: Threads + Sync, G: Gate>(
     ensures rows { IfOk result (λ t. t.0.rows ≡ book.entry.rows) }
     ensures begins { IfOk result (λ t. StartsWith t.0.pairs book.entry.pairs) }
     ensures maximal { IfOk result (λ t. Maximal book.entry.rows.matrix t.0.pairs) }
-    ensures starts { IfOk result (λ t. (n : ℕ) × AreStartsFrom (length book.entry.pairs) n t.1) }
+    ensures starts { IfOk result (λ t.
+        AreStartsOf book.entry.rows.matrix book.entry.pairs t.0.pairs t.1) }
 {
     search_with::<R, G, Brand>(rt, alloc, book, workers, gate, Blank::new(1))
 }

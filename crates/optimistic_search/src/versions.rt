@@ -1,18 +1,28 @@
 // The versions of a book's pairs.
-ghost use Rattle.std.specs.Prelude.{◌≡◌, ◌<◌, ◌≤◌, ℕ, IfOk};
-ghost use Rattle.pivot_table.specs.Closing.{AreStartsFrom};
-ghost use Rattle.optimistic_search.specs.Versions.{AreVersions};
+ghost use Rattle.std.specs.Prelude.{◌≡◌, [], IfOk};
+ghost use Rattle.pivot_table.specs.Closing.{start_at};
+ghost use Rattle.optimistic_search.specs.Versions.{AreOwnPlaces, AreStarted, start_or};
 
 use pivot_table::Starts;
-use sparse_rows::List;
+use sparse_rows::Rows;
 use std::alloc::{AllocError, Global};
 
-// Each place is its own version.
-pub(crate) fn own_places(alloc: Global, count: usize) -> Result<List<u64>, AllocError>
-    ensures { IfOk result (AreVersions count count) }
+// Room for a version of each pair that there can be: each has a row, a column and an entry of its own.
+pub(crate) fn version_room(alloc: Global, rows: &Rows) -> Result<Vec<u64>, AllocError>
+    ensures { IfOk result (λ v. v.items ≡ []) }
 {
-    let mut versions = List::new(alloc);
+    let most = u64::from(rows.height().min(rows.width())).min(rows.entries());
+    Vec::with_capacity(alloc, most as usize)
+}
+
+// Each place is its own version.
+pub(crate) fn own_places(room: Vec<u64>, count: usize) -> Result<Vec<u64>, AllocError>
+    requires { room.items ≡ [] }
+    ensures { IfOk result (λ v. AreOwnPlaces count v.items) }
+{
+    let mut versions = room;
     for place in 0..count {
+        // There is room, so nothing is asked for.
         versions.push(place as u64)?;
     }
     Ok(versions)
@@ -20,8 +30,7 @@ pub(crate) fn own_places(alloc: Global, count: usize) -> Result<List<u64>, Alloc
 
 // The start at a place, or the place itself.
 fn version_at(starts: &Starts, place: u64) -> u64
-    ensures low { (first n : ℕ) → AreStartsFrom first n starts.now → result ≤ place }
-    ensures given { (first n : ℕ) → AreStartsFrom first n starts.now → place < first → result ≡ place }
+    ensures { result ≡ start_or place (start_at starts.now place) }
 {
     match starts.at(place) {
         Some(start) => start,
@@ -30,11 +39,13 @@ fn version_at(starts: &Starts, place: u64) -> u64
 }
 
 // The start of each published pair, and the place of each other one.
-pub(crate) fn started(alloc: Global, starts: &Starts, count: usize) -> Result<List<u64>, AllocError>
-    ensures { (first n : ℕ) → AreStartsFrom first n starts.now → IfOk result (AreVersions first count) }
+pub(crate) fn started(room: Vec<u64>, starts: &Starts, count: usize) -> Result<Vec<u64>, AllocError>
+    requires { room.items ≡ [] }
+    ensures { IfOk result (λ v. AreStarted starts.now count v.items) }
 {
-    let mut versions = List::new(alloc);
+    let mut versions = room;
     for place in 0..count {
+        // There is room, so nothing is asked for.
         versions.push(version_at(starts, place as u64))?;
     }
     Ok(versions)

@@ -2,13 +2,13 @@
 ghost use Rattle.std.specs.Prelude.{◌≡◌, ◌≤◌, IfOk, length};
 ghost use Rattle.pivot_table.specs.History.{Maximal, StartsWith};
 ghost use Rattle.optimistic_search.specs.Search.{IsGreedyFrom};
-ghost use Rattle.optimistic_search.specs.Versions.{AreVersions};
+ghost use Rattle.optimistic_search.specs.Versions.{AreOwnPlaces, TellsStarts};
 
 use crate::gate::Gate;
 use crate::narrow::{has_few_entries, search_by_entries};
 use crate::together::search_together;
 use crate::traced::Traced;
-use crate::versions::{own_places, started};
+use crate::versions::{own_places, started, version_room};
 use pivot_table::Book;
 use std::alloc::{AllocError, Global};
 use std::thread::Threads;
@@ -60,10 +60,10 @@ fn search_alone(alloc: Global, book: Book) -> Result<Book, AllocError>
     search_by_entries(alloc, book)
 }
 
-/// What `search` does, by at least one worker, and a version for each pair: how much of the history was seen when its row was claimed.
+/// What `search` does, by at least one worker, and a version for each pair: how many pairs its worker had seen when it claimed the row.
 /// That is the place itself for the pairs that the book had, for those that one worker finds, and for what is swept.
 ///
-/// Besides what `search` takes, it takes 8 bytes a pair at the end.
+/// Besides what `search` takes, it takes 8 bytes a pair that there can be, no more than there are entries, before the first row.
 pub fn search_traced<'a, R: Threads + Sync, G: Gate>(
     rt: &R,
     alloc: Global,
@@ -77,20 +77,21 @@ pub fn search_traced<'a, R: Threads + Sync, G: Gate>(
     ensures maximal { IfOk result (λ t. Maximal book.entry.rows.matrix t.book.pairs) }
     ensures greedy { workers ≡ 1 → IfOk result (λ t. IsGreedyFrom book.entry t.book) }
     ensures versions { IfOk result (λ t.
-        AreVersions (length book.entry.pairs) (length t.book.pairs) t.versions) }
+        TellsStarts book.entry.rows.matrix book.entry.pairs t.book.pairs t.versions.items) }
     ensures alone { workers ≡ 1 → IfOk result (λ t.
-        AreVersions (length t.book.pairs) (length t.book.pairs) t.versions) }
+        AreOwnPlaces (length t.book.pairs) t.versions.items) }
 {
+    let room = version_room(alloc, book.rows())?;
     if workers == 1 || has_few_entries(book.rows()) {
         let found = search_alone(alloc, book)?;
-        let versions = own_places(alloc, found.pairs().len())?;
+        let versions = own_places(room, found.pairs().len())?;
         return Ok(Traced {
             book: found,
             versions,
         });
     }
     let (found, starts, _steps) = search_together(rt, alloc, book, workers, gate)?;
-    let versions = started(alloc, &starts, found.pairs().len())?;
+    let versions = started(room, &starts, found.pairs().len())?;
     Ok(Traced {
         book: found,
         versions,

@@ -9,7 +9,7 @@ use Rattle.pivot_table.specs.Greedy.{IsGreedy}
 use Rattle.pivot_table.specs.History.{Grown, Maximal, StartsWith}
 use Rattle.pivot_table.specs.Leftmost.{IsLeftmost}
 use Rattle.pivot_table.proofs.Short.{grown_short}
-use Rattle.optimistic_search.specs.Versions.{AreVersions}
+use Rattle.optimistic_search.specs.Versions.{AreOwnPlaces, TellsStarts}
 use Rattle.optimistic_search.proofs.Searching.{grown_at}
 use Rattle.run_trace.specs.declared.publication.Publication.{Publication}
 use Rattle.run_trace.specs.declared.trace.Trace.{Trace}
@@ -19,19 +19,19 @@ use Rattle.run_trace.proofs.ReplayedTraces.{at, no_publication, pair_at, version
 
 -- what was found, with these pairs and versions
 pub traced : (p : ℕ) (A : Matrix) (workers : ℕ) (t : Trace) (first all : List Pair) (versions : List ℕ) → t.p ≡ p → history_of t.publications ≡ all → versions_of t.publications ≡ versions →
-    Grown A all → Maximal A all → IsLeftmost A first → StartsWith all first → AreVersions (length first) (length all) versions →
-    (workers ≡ 1 → IsGreedy A first all) → (workers ≡ 1 → AreVersions (length all) (length all) versions) → IsTraceOf p A workers t
+    Grown A all → Maximal A all → IsLeftmost A first → StartsWith all first → TellsStarts A first all versions →
+    (workers ≡ 1 → IsGreedy A first all) → (workers ≡ 1 → AreOwnPlaces (length all) versions) → IsTraceOf p A workers t
 traced p A workers t first all versions modulus history given grown maximal leftmost begins are greedy places =
     let list = t.publications in
     let long : length all ≡ length list = ap length (sym history) ∙ length-map list (λ (x : Publication). x.pair) in
-    let each : AreVersions (length first) (length list) (versions_of list) =
-    subst (λ n. AreVersions (length first) n (versions_of list)) long (subst (AreVersions (length first) (length all)) (sym given) are) in
+    let each : TellsStarts A first (history_of list) (versions_of list) =
+    subst (λ (h : List Pair). TellsStarts A first h (versions_of list)) (sym history) (subst (TellsStarts A first all) (sym given) are) in
     record {
       lawful = record {
         modulus = modulus;
         lawful = record {
           grown = subst (Grown A) (sym history) grown;
-          low = λ k l. each.low k (omega (arith, length-map list (λ (x : Publication). x.version)));
+          low = λ k l. each.low k (omega (arith, each.long));
         };
       };
       maximal = subst (Maximal A) (sym history) maximal;
@@ -41,7 +41,7 @@ traced p A workers t first all versions modulus history given grown maximal left
       versions = each;
       alone = λ one. (
         subst (IsGreedy A first) (sym history) (greedy one),
-        subst (λ n. AreVersions n n (versions_of list)) long (subst (AreVersions (length all) (length all)) (sym given) (places one)),
+        subst (λ n. AreOwnPlaces n (versions_of list)) long (subst (AreOwnPlaces (length all)) (sym given) (places one)),
       );
     }
 

@@ -5,7 +5,7 @@ use Rattle.residue_words.specs.declared.plain.Pair.{Pair}
 use Rattle.pivot_table.specs.Greedy.{IsGreedy}
 use Rattle.pivot_table.specs.History.{Grown, Maximal, StartsWith}
 use Rattle.pivot_table.specs.Leftmost.{IsLeftmost}
-use Rattle.optimistic_search.specs.Versions.{AreVersions}
+use Rattle.optimistic_search.specs.Versions.{AreOwnPlaces, TellsStarts}
 use Rattle.run_trace.specs.declared.publication.Publication.{Publication}
 use Rattle.run_trace.specs.declared.trace.Trace.{Trace}
 
@@ -33,15 +33,15 @@ pub record IsLawfulTrace (p : ℕ) (A : Matrix) (t : Trace) : Type 0 where
 -- the first pairs, and the greedy list that begins with them, each with its place for a version
 abbrev pub IsGreedyTrace : Matrix → List Pair → List Publication → Type 0
 IsGreedyTrace A first list =
-    IsGreedy A first (history_of list) × AreVersions (length list) (length list) (versions_of list)
+    IsGreedy A first (history_of list) × AreOwnPlaces (length list) (versions_of list)
 
--- a trace of a search by so many workers: it is lawful, no pair can be added, and it begins with the leftmost pairs, each with its
--- place for a version; that of one worker is the greedy list
+-- a trace of a search by so many workers: it is lawful, no pair can be added, it begins with the leftmost pairs, and its versions are
+-- the starts of the rows that the workers published and the places of the other pairs; that of one worker is the greedy list
 pub record IsTraceOf (p : ℕ) (A : Matrix) (workers : ℕ) (t : Trace) : Type 0 where
   pub lawful : IsLawfulTrace p A t
   pub maximal : Maximal A (history_of t.publications)
   pub first : List Pair
   pub leftmost : IsLeftmost A first
   pub begins : StartsWith (history_of t.publications) first
-  pub versions : AreVersions (length first) (length t.publications) (versions_of t.publications)
+  pub versions : TellsStarts A first (history_of t.publications) (versions_of t.publications)
   pub alone : workers ≡ 1 → IsGreedyTrace A first t.publications

@@ -31,7 +31,7 @@ pub fn trace_of<R: Threads + Sync, G: Gate>(
 {
     let first = leftmost(alloc, rows)?;
     let found = search_traced(rt, alloc, first, workers, gate)?;
-    let publications = published(alloc, found.book.pairs(), found.versions.items())?;
+    let publications = published(alloc, found.book.pairs(), found.versions.as_slice())?;
     Ok(Trace {
         p: rows.modulus().p(),
         publications,

@@ -5,7 +5,7 @@ use Rattle.residue_words.specs.Matrix.{Matrix}
 use Rattle.residue_words.specs.declared.plain.Pair.{Pair}
 use Rattle.pivot_table.specs.Greedy.{IsGreedy}
 use Rattle.pivot_table.proofs.Selecting.{greedy_one}
-use Rattle.optimistic_search.specs.Versions.{AreVersions}
+use Rattle.optimistic_search.specs.Versions.{AreOwnPlaces}
 use Rattle.run_trace.specs.declared.publication.Publication.{Publication}
 use Rattle.run_trace.specs.declared.trace.Trace.{Trace}
 use Rattle.run_trace.specs.Lawful.{IsTraceOf, history_of, versions_of}
@@ -13,9 +13,9 @@ use Rattle.run_trace.specs.TraceText.{trace_text}
 use Rattle.spasm_run.proofs.OneSelection.{leftmost_one}
 
 -- places that are their own versions
-places_one : (n : ℕ) (vs ws : List ℕ) → AreVersions n n vs → AreVersions n n ws → vs ≡ ws
+places_one : (n : ℕ) (vs ws : List ℕ) → AreOwnPlaces n vs → AreOwnPlaces n ws → vs ≡ ws
 places_one n vs ws v w =
-    ext_get_or 0 vs ws (v.long ∙ sym w.long) (λ k l. v.given k (omega (arith, v.long)) (omega (arith, v.long)) ∙ sym (w.given k (omega (arith, v.long)) (omega (arith, v.long))))
+    ext_get_or 0 vs ws (v.long ∙ sym w.long) (λ k l. v.places k (omega arith) (omega (arith, v.long)) ∙ sym (w.places k (omega arith) (omega (arith, v.long))))
 
 made : Pair → ℕ → Publication
 made q v = record { pair = q; version = v }
@@ -45,5 +45,5 @@ trace_one p A workers s t one a b =
     let many : length t.publications ≡ length s.publications =
     sym (length-map t.publications (λ (x : Publication). x.pair)) ∙ ap length (sym pairs) ∙ length-map s.publications (λ (x : Publication). x.pair) in
     let versions : versions_of s.publications ≡ versions_of t.publications =
-    places_one (length s.publications) (versions_of s.publications) (versions_of t.publications) g.1 (subst (λ n. AreVersions n n (versions_of t.publications)) many h.1) in
+    places_one (length s.publications) (versions_of s.publications) (versions_of t.publications) g.1 (subst (λ n. AreOwnPlaces n (versions_of t.publications)) many h.1) in
     ap₂ trace_text (a.lawful.modulus ∙ sym b.lawful.modulus) (published_one s.publications t.publications pairs versions)

@@ -122,9 +122,9 @@ impl Watch for Holds {
     }
 }
 
-// Whether the flag is set within some seconds.
+// Whether the flag is set within a second or so.
 fn is_set(flag: &AtomicU64) -> bool {
-    for _ in 0..8_000_000_000u64 {
+    for _ in 0..500_000_000u64 {
         if flag.load(Ordering::SeqCst) == 1 {
             return true;
         }

@@ -110,19 +110,25 @@ fn pivots_are_among_those_that_may_be_found(rt: HostRuntime) -> Result<(), Fail>
     check_pivots(&rt, rt.alloc())
 }
 
-// Holds whoever has the third row until the second is claimed, and whoever has the second row before it publishes, until whoever has
-// the third row has published.
+// Holds whoever has the third row before it publishes, until another has claimed the second, and that one before it publishes,
+// until the third is published. It notes that the third was published only if the second was in another's hand then, so it does
+// not if one thread does all.
 #[derive(Drop)]
 struct Hold {
-    claimed: AtomicU64,
-    owner: AtomicU64,
-    published: AtomicU64,
+    held: AtomicU64,
+    other: AtomicU64,
+    overtaken: AtomicU64,
 }
 
-// Waits until the flag is set, or for some seconds.
+// A worker, as a number that isn't 0.
+fn named(worker: u32) -> u64 {
+    u64::from(worker) + 1
+}
+
+// Waits until the flag is set, for a second or so.
 fn wait_for(flag: &AtomicU64) {
-    for _ in 0..8_000_000_000u64 {
-        if flag.load(Ordering::SeqCst) == 1 {
+    for _ in 0..500_000_000u64 {
+        if flag.load(Ordering::SeqCst) != 0 {
             return;
         }
     }
@@ -130,17 +136,18 @@ fn wait_for(flag: &AtomicU64) {
 
 impl Gate for Hold {
     fn at(&self, worker: u32, point: Point) {
-        let worker = u64::from(worker) + 1;
         match point {
-            Point::Claimed(1) => self.claimed.store(1, Ordering::SeqCst),
-            Point::Claimed(2) => self.owner.store(worker, Ordering::SeqCst),
+            Point::Claimed(1) => self.held.store(named(worker), Ordering::SeqCst),
+            Point::Claimed(2) => self.other.store(named(worker), Ordering::SeqCst),
+            Point::Before(1, _, _) => wait_for(&self.overtaken),
+            Point::Before(2, _, _) => wait_for(&self.held),
             Point::Published(_) => {
-                if self.owner.load(Ordering::SeqCst) == worker {
-                    self.published.store(1, Ordering::SeqCst);
+                let held = self.held.load(Ordering::SeqCst);
+                let other = self.other.load(Ordering::SeqCst);
+                if other == named(worker) && held != 0 && held != other {
+                    self.overtaken.store(1, Ordering::SeqCst);
                 }
             }
-            Point::Before(2, _, _) => wait_for(&self.claimed),
-            Point::Before(1, _, _) => wait_for(&self.published),
             _ => {}
         }
     }
@@ -172,7 +179,7 @@ const OVERTAKEN: &[(&[&str], &str, &str)] = &[
     ),
 ];
 
-// Whether the third row overtakes the second where the gate holds it, and this is answered: two workers go at once.
+// Whether the third row overtakes the second while another worker has that, and this is answered: two workers go at once.
 fn is_overtaken<'a, R: Threads + Sync>(
     rt: &R,
     alloc: Global,
@@ -181,12 +188,12 @@ fn is_overtaken<'a, R: Threads + Sync>(
     answer: &str,
 ) -> Result<bool, AllocError> {
     let gate = Hold {
-        claimed: AtomicU64::new(0),
-        owner: AtomicU64::new(0),
-        published: AtomicU64::new(0),
+        held: AtomicU64::new(0),
+        other: AtomicU64::new(0),
+        overtaken: AtomicU64::new(0),
     };
     let out = written(rt, alloc, words, text.as_bytes(), &gate)?;
-    Ok(is_among(&out, &[answer]) && gate.published.load(Ordering::SeqCst) == 1)
+    Ok(is_among(&out, &[answer]) && gate.overtaken.load(Ordering::SeqCst) == 1)
 }
 
 #[test]

@@ -111,9 +111,9 @@ fn be_late(board: &Board<'_>, first: &mut Seat) -> bool
     }
 }
 
-// Whether the counter comes to n within some seconds.
+// Whether the counter comes to n within a second or so.
 fn comes_to(counter: &AtomicU64, n: u64) -> bool {
-    for _ in 0..8_000_000_000u64 {
+    for _ in 0..500_000_000u64 {
         if counter.load(Ordering::SeqCst) == n {
             return true;
         }

@@ -1,6 +1,6 @@
 // The walk on the example of histories, and both searches on small matrices.
 ghost use Rattle.sparse_rows.specs.declared.rows.TheConstants.{LARGEST_SIZE};
-ghost use Rattle.std.specs.Prelude.{◌≡◌, ◌<◌, ◌≤◌, ◌+◌, [], ◌∷◌, None, IfOk};
+ghost use Rattle.std.specs.Prelude.{◌≡◌, ◌<◌, ◌≤◌, ◌+◌, [], ◌∷◌, None, Some, IfOk};
 ghost use Rattle.pivot_table.specs.Board.{IsSeatOf};
 ghost use Rattle.pivot_table.specs.Core.{opened};
 ghost use Rattle.pivot_table.specs.Example.{pivot_example};
@@ -36,23 +36,67 @@ fn example_rows(alloc: Global) -> Result<Rows, AllocError>
     builder.finish()
 }
 
-// What is alive least for row 1 with the pair (0, 0), and then once row 2 has the column 1: the first takes at most 4 steps, the
-// second at most 3 more, and the pair (0, 0) none.
-fn overtaken<L: Ledger>(walk: &mut Walk, steps: &mut Steps<L>) -> [Option<u32>; 2]
+// The pair (0, 0) takes no step. Answers how many it took.
+fn extend_first<L: Ledger>(walk: &mut Walk, steps: &mut Steps<L>) -> u64
     requires matrix { walk.old.rows.matrix ≡ pivot_example }
     requires pairs { walk.old.pairs ≡ [] }
     requires closed { walk.old.current ≡ None }
-    ensures { steps.new ≤ steps.old + 7 }
+    ensures rows { walk.new.rows ≡ walk.old.rows }
+    ensures pairs { walk.new.pairs ≡ pair 0 0 ∷ [] }
+    ensures closed { walk.new.current ≡ None }
+    ensures steps { steps.new ≡ steps.old }
 {
+    let before = steps.count();
     walk.extend(Pair { row: 0, col: 0 }, steps);
+    steps.count().wrapping_sub(before)
+}
+
+// The walk from row 1 takes at most 4 steps. Answers how many it took.
+fn begin_second<L: Ledger>(walk: &mut Walk, steps: &mut Steps<L>) -> u64
+    requires matrix { walk.old.rows.matrix ≡ pivot_example }
+    requires pairs { walk.old.pairs ≡ pair 0 0 ∷ [] }
+    requires closed { walk.old.current ≡ None }
+    ensures rows { walk.new.rows ≡ walk.old.rows }
+    ensures pairs { walk.new.pairs ≡ walk.old.pairs }
+    ensures open { walk.new.current ≡ Some 1 }
+    ensures steps { steps.new ≤ steps.old + 4 }
+{
+    let before = steps.count();
     walk.begin(1, steps);
-    let first = walk.least_alive();
+    steps.count().wrapping_sub(before)
+}
+
+// The pair (2, 1) takes at most 3 steps more. Answers how many it took.
+fn extend_late<L: Ledger>(walk: &mut Walk, steps: &mut Steps<L>) -> u64
+    requires matrix { walk.old.rows.matrix ≡ pivot_example }
+    requires pairs { walk.old.pairs ≡ pair 0 0 ∷ [] }
+    requires open { walk.old.current ≡ Some 1 }
+    ensures open { walk.new.current ≡ Some 1 }
+    ensures steps { steps.new ≤ steps.old + 3 }
+{
+    let before = steps.count();
     walk.extend(Pair { row: 2, col: 1 }, steps);
-    [first, walk.least_alive()]
+    steps.count().wrapping_sub(before)
+}
+
+// What is alive least for row 1 with the pair (0, 0), and then once row 2 has the column 1; and how many steps each call took.
+fn overtaken<L: Ledger>(walk: &mut Walk, steps: &mut Steps<L>) -> ([Option<u32>; 2], [u64; 3])
+    requires matrix { walk.old.rows.matrix ≡ pivot_example }
+    requires pairs { walk.old.pairs ≡ [] }
+    requires closed { walk.old.current ≡ None }
+{
+    let extended = extend_first(walk, steps);
+    let begun = begin_second(walk, steps);
+    let first = walk.least_alive();
+    let late = extend_late(walk, steps);
+    ([first, walk.least_alive()], [extended, begun, late])
 }
 
 // The same with a count of its own.
-fn answers<L: Ledger>(alloc: Global, blank: Blank) -> Result<[Option<u32>; 2], AllocError>
+fn answers<L: Ledger>(
+    alloc: Global,
+    blank: Blank,
+) -> Result<([Option<u32>; 2], [u64; 3]), AllocError>
     requires name { blank.name ≡ L.name }
     requires parts { blank.parts ≡ L.parts }
     requires some { 0 < blank.parts }
@@ -65,8 +109,11 @@ fn answers<L: Ledger>(alloc: Global, blank: Blank) -> Result<[Option<u32>; 2], A
 
 #[test]
 fn a_walk_is_carried_on(rt: HostRuntime) -> Result<(), Fail> {
-    let found = answers::<Brand>(rt.alloc(), Blank::new(1))?;
+    let (found, [extended, begun, late]) = answers::<Brand>(rt.alloc(), Blank::new(1))?;
     assert_eq!(rt; found, [Some(1), None]);
+    assert_eq!(rt; extended, 0);
+    assert!(rt; begun <= 4);
+    assert!(rt; late <= 3);
     Ok(())
 }
 
@@ -148,28 +195,41 @@ fn rows_are_taken_in_turn(rt: HostRuntime) -> Result<(), Fail> {
     Ok(())
 }
 
-// Holds whoever has row 1 before it publishes, until whoever has row 2 has published.
+// Holds whoever has row 2 before it publishes, until another has claimed row 1, and that one before it publishes, until row 2 is
+// published. It notes that row 2 was published only if row 1 was in another's hand then, so it does not if one thread does all.
 #[derive(Drop)]
 struct Hold {
-    owner: AtomicU64,
-    published: AtomicU64,
+    held: AtomicU64,
+    other: AtomicU64,
+    overtaken: AtomicU64,
+}
+
+// A worker, as a number that isn't 0.
+fn named(worker: u32) -> u64 {
+    u64::from(worker) + 1
+}
+
+// Waits until the flag is set, for a second or so.
+fn wait_for(flag: &AtomicU64) {
+    for _ in 0..500_000_000u64 {
+        if flag.load(Ordering::SeqCst) != 0 {
+            return;
+        }
+    }
 }
 
 impl Gate for Hold {
     fn at(&self, worker: u32, point: Point) {
-        let worker = u64::from(worker) + 1;
         match point {
-            Point::Claimed(2) => self.owner.store(worker, Ordering::SeqCst),
+            Point::Claimed(1) => self.held.store(named(worker), Ordering::SeqCst),
+            Point::Claimed(2) => self.other.store(named(worker), Ordering::SeqCst),
+            Point::Before(1, _, _) => wait_for(&self.overtaken),
+            Point::Before(2, _, _) => wait_for(&self.held),
             Point::Published(_) => {
-                if self.owner.load(Ordering::SeqCst) == worker {
-                    self.published.store(1, Ordering::SeqCst);
-                }
-            }
-            Point::Before(1, _, _) => {
-                for _ in 0..8_000_000_000u64 {
-                    if self.published.load(Ordering::SeqCst) == 1 {
-                        return;
-                    }
+                let held = self.held.load(Ordering::SeqCst);
+                let other = self.other.load(Ordering::SeqCst);
+                if other == named(worker) && held != 0 && held != other {
+                    self.overtaken.store(1, Ordering::SeqCst);
                 }
             }
             _ => {}
@@ -180,7 +240,7 @@ impl Gate for Hold {
 // Whether the pair of row 2 stands behind the first, published by a worker that had seen that one.
 fn has_row_2(found: &Traced<'_>) -> bool {
     let wanted = [Pair { row: 0, col: 0 }, Pair { row: 2, col: 1 }];
-    found.book.pairs() == wanted.as_slice() && found.versions.items() == [0u64, 1].as_slice()
+    found.book.pairs() == wanted.as_slice() && found.versions.as_slice() == [0u64, 1].as_slice()
 }
 
 // Whether two workers at this gate find that.
@@ -197,14 +257,15 @@ fn find_row_2<R: Threads + Sync>(
     Ok(has_row_2(&found))
 }
 
-// Whether row 2 overtakes row 1, which is dead then, where the gate holds it: two workers go at once.
+// Whether row 2 overtakes row 1, which is dead then, while another worker has it: two workers go at once.
 fn is_overtaken<R: Threads + Sync>(rt: &R, alloc: Global) -> Result<bool, AllocError> {
     let gate = Hold {
-        owner: AtomicU64::new(0),
-        published: AtomicU64::new(0),
+        held: AtomicU64::new(0),
+        other: AtomicU64::new(0),
+        overtaken: AtomicU64::new(0),
     };
     let rows = example_rows(alloc)?;
-    Ok(find_row_2(rt, alloc, &rows, &gate)? && gate.published.load(Ordering::SeqCst) == 1)
+    Ok(find_row_2(rt, alloc, &rows, &gate)? && gate.overtaken.load(Ordering::SeqCst) == 1)
 }
 
 #[test]

@@ -1,5 +1,5 @@
-use Rattle.optimistic_search.specs.Versions.{AreVersions}
+use Rattle.optimistic_search.specs.Versions.{AreOwnPlaces}
 use Rattle.optimistic_search.proofs.versions.own_places.Given as goal
 
 abbrev pub invariant-loop-place : goal.invariant-loop-place
-invariant-loop-place l = AreVersions l.count l.place l.versions
+invariant-loop-place l = AreOwnPlaces l.place l.versions.items

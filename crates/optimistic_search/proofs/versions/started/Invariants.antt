@@ -1,7 +1,5 @@
-use Rattle.std.proofs.Common.{ℕ}
-use Rattle.pivot_table.specs.Closing.{AreStartsFrom}
-use Rattle.optimistic_search.specs.Versions.{AreVersions}
+use Rattle.optimistic_search.specs.Versions.{AreStarted}
 use Rattle.optimistic_search.proofs.versions.started.Given as goal
 
 abbrev pub invariant-loop-place : goal.invariant-loop-place
-invariant-loop-place l = (first n : ℕ) → AreStartsFrom first n l.starts → AreVersions first l.place l.versions
+invariant-loop-place l = AreStarted l.starts l.place l.versions.items
