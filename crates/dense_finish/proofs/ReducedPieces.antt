@@ -1,13 +1,13 @@
 -- Pieces of rows, reduced and put in their places.
-use Rattle.std.proofs.Common.{ℕ, ◌≡◌, ◌+◌, ◌-◌, ◌<◌, ◌≤◌, ◌∙◌, Bool, true, false, cond, inl, inr, IfOk, List, ◌++◌, All, Err, Ok, Result, Contains, drop, length, length-drop, take, ap, arith, subst, sym}
+use Rattle.std.proofs.Common.{ℕ, ◌≡◌, ◌+◌, ◌-◌, ◌<◌, ◌≤◌, ◌∙◌, Bool, true, false, cond, inl, inr, IfOk, List, ◌++◌, All, Err, Ok, Result, Contains, drop, length, length-drop, take, ap, arith, refl, subst, sym}
 use Rattle.std.proofs.lemmas.Bool.{cases_lt}
 use Rattle.std.proofs.lemmas.List.{length-take-le}
-use Rattle.std.proofs.lemmas.List.Elements.{All-append, All-contains, All-weaker}
+use Rattle.std.proofs.lemmas.List.Elements.{All-append, All-contains, All-drop, All-nil, All-take, All-weaker}
 use borrow.Rule.Slice.PartMut.{put_mid}
 use Rattle.residue_words.specs.Matrix.{IsVector}
 use Rattle.dense_finish.specs.Block.{block_row}
 use Rattle.dense_finish.specs.Panel.{PanelReduces, PanelReducesEach, PanelRows}
-use Rattle.dense_finish.specs.Pieces.{ArePut, AreReducible, IsInPieces, IsPieceOf, IsReducedPiece, LiesIn, RowsFrom}
+use Rattle.dense_finish.specs.Pieces.{ArePut, AreReducible, AreSharesOf, IsInPieces, IsPieceOf, IsReady, IsReducedPiece, IsShareOf, KeepShares, LiesIn, RowsFrom, ShareOf, new_share}
 use Rattle.dense_finish.specs.Units.{FoundPanel}
 use Rattle.dense_finish.proofs.BlockRows.{put_row_at, put_row_below}
 
@@ -73,3 +73,27 @@ appended_or_not P false xs ys zs e first second = subst (All P) (sym e) first
 pub both_clauses : {T E : Type 0} (r : Result T E) (P Q R : T → Type 0) → ((x : T) → P x → Q x → R x) → IfOk r P → IfOk r Q → IfOk r R
 both_clauses (Ok x) P Q R f first second = f x first second
 both_clauses (Err y) P Q R f first second = tt
+
+-- what holds of new shares: the rows that they know are reducible where those are, and they are shares of them
+pub new_ready : {p : ℕ} {found : FoundPanel} (rows : List (List ℕ)) (shares : List ShareOf) → AreReducible p found rows → All (λ share. share ≡ new_share rows) shares → All (IsReady p found) shares
+new_ready {p} {found} rows shares ready new =
+    All-weaker (λ share. share ≡ new_share rows) (IsReady p found) (λ share e. subst (IsReady p found) (sym e) ready) shares new
+
+pub new_shares : (p : ℕ) (panel : PanelRows) (rows : List (List ℕ)) (shares : List ShareOf) → All (λ share. share ≡ new_share rows) shares → AreSharesOf p panel rows shares
+new_shares p panel rows shares new =
+    All-weaker (λ share. share ≡ new_share rows) (IsShareOf p panel rows)
+    (λ share e. subst (IsShareOf p panel rows) (sym e) (record { known = refl; pieces = All-nil (IsReducedPiece p panel rows) })) shares new
+
+-- the same where they know what is equal to these rows
+pub new_from : (others rows : List (List ℕ)) (shares : List ShareOf) → others ≡ rows → All (λ share. share ≡ new_share others) shares → All (λ share. share ≡ new_share rows) shares
+new_from others rows shares e = subst (λ r. All (λ share. share ≡ new_share r) shares) e
+
+-- shares that were lent, and lent as a slice and put back
+pub kept_from : (p : ℕ) (panel : PanelRows) (given olds news : List ShareOf) → given ≡ olds → KeepShares p panel given news → KeepShares p panel olds news
+kept_from p panel given olds news same kept = subst (λ shares. KeepShares p panel shares news) same kept
+
+pub kept_back : (p : ℕ) (panel : PanelRows) (n : ℕ) (given olds news : List ShareOf) → given ≡ olds → KeepShares p panel given news → KeepShares p panel olds (take n (news ++ drop (length news) olds))
+kept_back p panel n given olds news same kept = λ block of_block.
+    let P : ShareOf → Type 0 = IsShareOf p panel block in
+    All-take P n (news ++ drop (length news) olds)
+    (All-append P news (drop (length news) olds) (kept block (subst (AreSharesOf p panel block) (sym same) of_block)) (All-drop P (length news) olds of_block))

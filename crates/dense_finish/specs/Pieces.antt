@@ -1,5 +1,5 @@
 -- Pieces of the rows behind a panel, which workers reduce.
-use Rattle.std.specs.Prelude.{◌≡◌, ◌<◌, ◌≤◌, ◌+◌, ℕ, List, Vec, All, Contains, length}
+use Rattle.std.specs.Prelude.{◌≡◌, ◌<◌, ◌≤◌, ◌+◌, ℕ, List, [], Vec, All, Contains, length}
 use Rattle.std.specs.declared.alloc.Global.{Global}
 use Rattle.dense_finish.specs.Block.{AreVectors, block_row}
 use Rattle.dense_finish.specs.Panel.{ArePivots, PanelReduces, PanelRows}
@@ -45,16 +45,45 @@ pub record IsReducedPiece (p : ℕ) (panel : PanelRows) (block : List (List ℕ)
   pub reduced : (t : ℕ) → t < length piece.rows →
       PanelReduces p panel (block_row block (piece.start + t)) (block_row piece.rows t)
 
--- pieces that a worker made
+-- pieces that were made of the block
 abbrev pub AreReducedPieces : ℕ → PanelRows → List (List ℕ) → Vec RowsFrom Global → Type 0
 AreReducedPieces p panel block share = All (IsReducedPiece p panel block) share.items
 
--- pieces that workers made, and shares of them, where all workers know the same block
-abbrev pub AreReducedBy : ℕ → PanelRows → Vec (List (List ℕ)) Global → Vec RowsFrom Global → Type 0
-AreReducedBy p panel known pieces = (block : List (List ℕ)) → All (λ rows. rows ≡ block) known.items →
+-- a worker's share: the rows that its queue was made of, and the pieces of these that it reduced
+pub record ShareOf : Type 0 where
+  pub known : List (List ℕ)
+  pub pieces : List RowsFrom
+
+-- a share without a piece
+abbrev pub new_share : List (List ℕ) → ShareOf
+new_share known = record { known = known; pieces = [] }
+
+-- a share of rows of which the panel's pivots can be taken out
+abbrev pub IsReady : ℕ → FoundPanel → ShareOf → Type 0
+IsReady p found share = AreReducible p found share.known
+
+-- a share of the block: its pieces are what the panel leaves of some
+pub record IsShareOf (p : ℕ) (panel : PanelRows) (block : List (List ℕ)) (share : ShareOf) : Type 0 where
+  pub known : share.known ≡ block
+  pub pieces : All (IsReducedPiece p panel block) share.pieces
+
+abbrev pub AreSharesOf : ℕ → PanelRows → List (List ℕ) → List ShareOf → Type 0
+AreSharesOf p panel block shares = All (IsShareOf p panel block) shares
+
+-- a share of a block stays one
+abbrev pub KeepsShare : ℕ → PanelRows → ShareOf → ShareOf → Type 0
+KeepsShare p panel old new = (block : List (List ℕ)) → IsShareOf p panel block old → IsShareOf p panel block new
+
+abbrev pub KeepShares : ℕ → PanelRows → List ShareOf → List ShareOf → Type 0
+KeepShares p panel olds news = (block : List (List ℕ)) → AreSharesOf p panel block olds →
+    AreSharesOf p panel block news
+
+-- pieces that are made of the block of these shares
+abbrev pub AreReducedBy : ℕ → PanelRows → List ShareOf → Vec RowsFrom Global → Type 0
+AreReducedBy p panel shares pieces = (block : List (List ℕ)) → AreSharesOf p panel block shares →
     AreReducedPieces p panel block pieces
 
-abbrev pub AreSharesOf : ℕ → PanelRows → Vec (List (List ℕ)) Global → Vec (Vec RowsFrom Global) Global →
-    Type 0
-AreSharesOf p panel known shares = (block : List (List ℕ)) → All (λ rows. rows ≡ block) known.items →
-    All (AreReducedPieces p panel block) shares.items
+-- the pieces of shares of a block are made of it
+abbrev pub ArePiecesOf : List ShareOf → List RowsFrom → Type 0
+ArePiecesOf shares pieces = (p : ℕ) (panel : PanelRows) (block : List (List ℕ)) → AreSharesOf p panel block shares →
+    All (IsReducedPiece p panel block) pieces

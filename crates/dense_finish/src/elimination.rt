@@ -6,7 +6,7 @@ ghost use Rattle.sparse_rows.specs.Rows.{AreRising};
 ghost use Rattle.sparse_rows.specs.declared.rows.TheConstants.{LARGEST_SIZE};
 ghost use Rattle.dense_finish.specs.Block.{AreLastRowsOf, AreRowsOf, AreVectors, IsDense};
 ghost use Rattle.dense_finish.specs.Panel.{PanelReducesEach};
-ghost use Rattle.dense_finish.specs.Pieces.{AreReducedBy, AreReducible, AreReducedPieces};
+ghost use Rattle.dense_finish.specs.Pieces.{AreReducedBy, AreReducible, AreReducedPieces, IsReady};
 ghost use Rattle.dense_finish.specs.Dense.{IsFirstFree, IsPivotOf, KeepsCoefficients};
 ghost use Rattle.dense_finish.specs.Factors.{IsFactored};
 ghost use Rattle.sparse_rows.specs.Rows.{AreBelow};
@@ -23,12 +23,12 @@ use crate::pivots::Pivots;
 use crate::reducing::Reducing;
 use crate::residue::Residue;
 use crate::right_factor::RightFactor;
+use crate::share::Share;
 use crate::shared_pieces::queue_of;
 use crate::taker::Taker;
 use residue_words::{LANE_BOUND, Modulus};
 use sparse_rows::Rows;
 use std::alloc::{AllocError, Global};
-use std::sync::atomic::AtomicU64;
 use std::thread::{Threads, join_mut};
 
 // How many of a panel's rows are reduced by one another one by one, before their pivots are taken out of the others at once.
@@ -229,8 +229,7 @@ impl<'a> Elimination<'a> {
             PanelReducesEach self.now.p found.now.panel others.old others.new) }
     {
         let (queue, pass) = queue_of(self.alloc, others)?;
-        let begun = AtomicU64::new(0);
-        let taker = Taker::new(&queue, &begun, pass);
+        let taker = Taker::new(&queue, pass);
         let (next, pieces) = self.find_and_reduce(rt, found, rows, pivots, own, taker, left)?;
         put_pieces(pieces, others)?;
         Ok(next)
@@ -259,26 +258,26 @@ impl<'a> Elimination<'a> {
         ensures others { IfOk result (λ made.
             AreReducedPieces self.now.p found.now.panel taker.entry made.1) }
     {
-        // In a list too, as the borrow checker covers no closure that is lent a taker itself.
-        let mut own_taker = taker.others(self.alloc, 1)?;
+        // In a list too, as the borrow checker covers no closure that is lent a share itself.
+        let mut own_share = Share::several(self.alloc, &mut taker, 1)?;
         let helpers = (self.workers - 1).min(taker.count());
-        let mut takers = taker.others(self.alloc, helpers)?;
+        let mut shares = Share::several(self.alloc, &mut taker, helpers)?;
         let mut find = || -> (Result<Found<W>, AllocError>, Vec<Piece<W>>)
-            requires { W.serves self.now.p × All (AreReducible self.now.p found.now) own_taker.items
+            requires { W.serves self.now.p × All (IsReady self.now.p found.now) own_share.items
                 × AreLastRowsOf own.now rows × CanGoOn self.now.p self.now.columns.now
                 (panel_stage pivots.now found.now own.now rows.start) }
-            ensures { AreReducedBy self.entry.now.p found.entry.now.panel own_taker.entry result.1
+            ensures { AreReducedBy self.entry.now.p found.entry.now.panel own_share.entry.items result.1
                 × IfOk result.0 (λ next. FindsPanel self.entry.now.p self.entry.now.columns.now
                 (panel_stage pivots.entry.now found.entry.now own.entry.now rows.start)
                 (panel_stage pivots.exit.now next own.exit.now rows.end)) }
         {
             let next = self.reduce_and_find(found, rows, pivots, own);
-            (next, self.pieces_by(rt, found, &mut own_taker))
+            (next, self.pieces_by(rt, found, &mut own_share))
         };
         let mut help = || -> Vec<Piece<W>>
-            requires { W.serves self.now.p × All (AreReducible self.now.p found.now) takers.items }
-            ensures { AreReducedBy self.entry.now.p found.entry.now.panel takers.entry result }
-        { self.pieces_and_left(rt, found, &mut takers, left) };
+            requires { W.serves self.now.p × All (IsReady self.now.p found.now) shares.items }
+            ensures { AreReducedBy self.entry.now.p found.entry.now.panel shares.entry.items result }
+        { self.pieces_and_left(rt, found, &mut shares, left) };
         let (mut more, (next, mut pieces)) = join_mut(rt, &mut help, &mut find);
         pieces.append(&mut more)?;
         Ok((next?, pieces))

@@ -18,6 +18,7 @@ mod residue;
 mod right_factor;
 mod row_addition;
 mod row_room;
+mod share;
 mod shared_pieces;
 mod taker;
 

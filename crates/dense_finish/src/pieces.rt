@@ -1,7 +1,7 @@
 // The rows behind a panel, reduced by several workers: piece by piece, as they become free.
-ghost use Rattle.std.specs.Prelude.{◌≡◌, ◌<◌, ◌≤◌, All, length, IfOk, IfSome, OnOk};
+ghost use Rattle.std.specs.Prelude.{◌≡◌, ◌<◌, ◌≤◌, All, length, IfSome, OnOk};
 ghost use Rattle.dense_finish.specs.Panel.{PanelReducesEach};
-ghost use Rattle.dense_finish.specs.Pieces.{ArePut, AreReducedBy, AreReducible, AreReducedPieces, AreSharesOf, IsReducedPiece, LiesIn};
+ghost use Rattle.dense_finish.specs.Pieces.{ArePut, AreReducedBy, AreReducible, IsReady, IsReducedPiece, KeepShares, KeepsShare, LiesIn};
 
 use crate::dense::Dense;
 use crate::elimination::Elimination;
@@ -10,12 +10,13 @@ use crate::left_room::LeftRoom;
 use crate::products::TILE_ROWS;
 use crate::reducing::Reducing;
 use crate::residue::Residue;
+use crate::share::{Share, gathered};
 use crate::taker::Taker;
-use std::alloc::{AllocError, Global};
+use rayon::prelude::par_for_each_mut;
+use std::alloc::AllocError;
 use std::cmp::Reverse;
 use std::marker::Model;
 use std::mem::replace;
-use std::thread;
 use std::thread::{Threads, join_mut};
 
 // How many rows a worker takes at a time, at most: as many as the products take at once (`BLOCK_ROWS`), so that a panel's tile is copied
@@ -101,85 +102,76 @@ impl<'a> Elimination<'a> {
         &self,
         rt: &R,
         found: &Found<W>,
-        takers: &mut Vec<Taker<W>>,
+        shares: &mut Vec<Share<W>>,
         left: &mut LeftRoom,
     ) -> Vec<Piece<W>>
         requires modulus { W.serves self.now.p }
-        requires ready { All (AreReducible self.now.p found.now) takers.old.items }
-        ensures { AreReducedBy self.now.p found.now.panel takers.old result }
+        requires ready { All (IsReady self.now.p found.now) shares.old.items }
+        ensures { AreReducedBy self.now.p found.now.panel shares.old.items result }
     {
         // In a list of its own, as the borrow checker covers no closure that is lent its caller's.
-        let mut takers = replace(takers, Vec::new(self.alloc));
+        let mut own = replace(shares, Vec::new(self.alloc));
         let mut write = || left.write();
         let mut reduce = || -> Vec<Piece<W>>
-            requires { W.serves self.now.p × All (AreReducible self.now.p found.now) takers.items }
-            ensures { AreReducedBy self.entry.now.p found.entry.now.panel takers.entry result }
-        { self.pieces_by(rt, found, &mut takers) };
+            requires { W.serves self.now.p × All (IsReady self.now.p found.now) own.items }
+            ensures { AreReducedBy self.entry.now.p found.entry.now.panel own.entry.items result }
+        { self.pieces_by(rt, found, &mut own) };
         let (_, pieces) = join_mut(rt, &mut write, &mut reduce);
         pieces
     }
 
-    // The pieces that these workers reduce. Those that there is no memory for in a list of them are missed in the end.
+    // The pieces that these workers reduce. Those that there is no memory for in one list are missed in the end.
     pub(crate) fn pieces_by<R: Threads + Sync, W: Reducing>(
         &self,
         rt: &R,
         found: &Found<W>,
-        takers: &mut Vec<Taker<W>>,
+        shares: &mut Vec<Share<W>>,
     ) -> Vec<Piece<W>>
         requires modulus { W.serves self.now.p }
-        requires ready { All (AreReducible self.now.p found.now) takers.old.items }
-        ensures { AreReducedBy self.now.p found.now.panel takers.old result }
+        requires ready { All (IsReady self.now.p found.now) shares.old.items }
+        ensures { AreReducedBy self.now.p found.now.panel shares.old.items result }
     {
-        let mut pieces = Vec::new(self.alloc);
-        let Ok(mut shares) = self.shares(rt, found, replace(takers, Vec::new(self.alloc))) else {
-            return pieces;
-        };
-        while let Some(mut share) = shares.pop() {
-            let _ = pieces.append(&mut share);
-        }
-        pieces
+        let mut own = replace(shares, Vec::new(self.alloc));
+        self.reduce_shares(rt, found, own.as_mut_slice());
+        gathered(self.alloc, own)
     }
 
-    // What each of them reduces.
-    fn shares<R: Threads + Sync, W: Reducing>(
+    // Runs these workers, in threads of their own where there are as many processors; else some share a thread, and the later ones of
+    // these find what the others left.
+    fn reduce_shares<R: Threads + Sync, W: Reducing>(
         &self,
         rt: &R,
         found: &Found<W>,
-        takers: Vec<Taker<W>>,
-    ) -> Result<Vec<Vec<Piece<W>>>, AllocError>
+        shares: &mut [Share<W>],
+    )
         requires modulus { W.serves self.now.p }
-        requires ready { All (AreReducible self.now.p found.now) takers.items }
-        ensures { IfOk result (AreSharesOf self.now.p found.now.panel takers.entry) }
+        requires ready { All (IsReady self.now.p found.now) shares.old }
+        ensures { KeepShares self.now.p found.now.panel shares.old shares.new }
     {
-        thread::map_vec(
+        par_for_each_mut(
             rt,
-            takers,
-            &|mut taker: Taker<W>| -> Vec<Piece<W>>
-                requires { W.serves self.now.p × AreReducible self.now.p found.now taker }
-                ensures { AreReducedPieces self.entry.now.p found.entry.now.panel taker.entry result }
-            { self.pieces_of_worker(found, &mut taker) },
-        )
+            shares,
+            |_: usize, share: &mut Share<W>|
+                requires { W.serves self.now.p × IsReady self.now.p found.now share.now }
+                ensures { KeepsShare self.entry.now.p found.entry.now.panel share.entry.now share.exit.now }
+            { self.reduce_share(found, share) },
+        );
     }
 
-    // The pieces that one worker reduces: it takes the next one as long as there is one and memory for a list of them.
-    fn pieces_of_worker<W: Reducing>(&self, found: &Found<W>, taker: &mut Taker<W>) -> Vec<Piece<W>>
+    // Takes pieces from the queue as long as there are any, and the panel's pivots out of their rows.
+    fn reduce_share<W: Reducing>(&self, found: &Found<W>, share: &mut Share<W>)
         requires modulus { W.serves self.now.p }
-        requires ready { AreReducible self.now.p found.now taker.old }
-        ensures same { taker.new ≡ taker.old }
-        ensures pieces { AreReducedPieces self.now.p found.now.panel taker.old result }
+        requires ready { IsReady self.now.p found.now share.old }
+        ensures { KeepsShare self.now.p found.now.panel share.old share.new }
     {
-        let mut pieces = Vec::new(self.alloc);
         // No worker can take more.
-        for _ in 0..taker.count() {
-            if pieces.reserve(1).is_err() {
-                return pieces;
-            }
-            let Some(piece) = self.next_piece(found, taker) else {
-                return pieces;
+        for _ in 0..share.taker.count() {
+            let Some(piece) = self.next_piece(found, &mut share.taker) else {
+                return;
             };
-            let _ = pieces.push(piece);
+            // There is room.
+            let _ = share.pieces.push(piece);
         }
-        pieces
     }
 
     // The next piece, if there is one, with the panel's pivots taken out of its rows.

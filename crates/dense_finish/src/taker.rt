@@ -1,5 +1,5 @@
 // A worker at a queue of pieces, which takes one after another.
-ghost use Rattle.std.specs.Prelude.{◌≡◌, All, IfOk, IfSome};
+ghost use Rattle.std.specs.Prelude.{◌≡◌, IfSome};
 ghost use Rattle.crossbeam_queue.specs.Passes.{view, IsPassOf};
 ghost use Rattle.dense_finish.specs.Pieces.{IsPieceOf};
 
@@ -7,16 +7,13 @@ use crate::pieces::Piece;
 use crate::residue::Residue;
 use crate::shared_pieces::{Another, Known, PieceQueue, Taken};
 use crossbeam_queue::Pass;
-use std::alloc::{AllocError, Global};
+use crossbeam_queue::protocol::Free;
 use std::marker::Model;
-use std::sync::atomic::{AtomicU64, Ordering};
 
 // A worker at such a queue. Contracts see the rows that were put.
 #[derive(Drop)]
 pub(crate) struct Taker<'q, W: Residue> {
     queue: &'q PieceQueue<W>,
-    // How many times a piece was asked for, by all workers.
-    begun: &'q AtomicU64,
     pass: Pass<Piece<W>, Known>,
 }
 
@@ -33,43 +30,22 @@ impl<'q, W: Residue> Model for Taker<'q, W> {
 
 impl<'q, W: Residue> Taker<'q, W> {
     // The worker with this pass.
-    pub(crate) fn new(
-        queue: &'q PieceQueue<W>,
-        begun: &'q AtomicU64,
-        pass: Pass<Piece<W>, Known>,
-    ) -> Taker<'q, W>
+    pub(crate) fn new(queue: &'q PieceQueue<W>, pass: Pass<Piece<W>, Known>) -> Taker<'q, W>
         requires { IsPassOf queue.now pass }
         ensures { result ≡ (view pass).rows }
     {
-        Taker { queue, begun, pass }
+        Taker { queue, pass }
     }
 
     // One more worker.
-    fn another(&mut self) -> Taker<'q, W>
+    pub(crate) fn another(&mut self) -> Taker<'q, W>
         ensures same { self.new ≡ self.old }
         ensures other { result ≡ self.old }
     {
         Taker {
             queue: self.queue,
-            begun: self.begun,
             pass: self.queue.another::<Another>(&mut self.pass),
         }
-    }
-
-    // So many more.
-    pub(crate) fn others(
-        &mut self,
-        alloc: Global,
-        count: usize,
-    ) -> Result<Vec<Taker<'q, W>>, AllocError>
-        ensures same { self.new ≡ self.old }
-        ensures others { IfOk result (λ takers. All (λ taker. taker ≡ self.old) takers.items) }
-    {
-        let mut takers = Vec::with_capacity(alloc, count)?;
-        for _ in 0..count {
-            takers.push(self.another())?;
-        }
-        Ok(takers)
     }
 
     // How many pieces were put.
@@ -77,31 +53,29 @@ impl<'q, W: Residue> Taker<'q, W> {
         self.queue.capacity()
     }
 
-    // The next piece, if there is one. As many calls get past the counter as there are pieces, so each of them finds one.
+    // The next piece, if there is one. Where the queue isn't empty, an attempt fails only because another worker took a piece, and no
+    // more are taken than there are.
     pub(crate) fn take(&mut self) -> Option<Piece<W>>
         ensures same { self.new ≡ self.old }
         ensures piece { IfSome result (IsPieceOf self.old) }
     {
-        let before = self.begun.fetch_add(1, Ordering::SeqCst);
-        if before >= self.count() as u64 {
-            return None;
-        }
-        self.take_remaining()
-    }
-
-    // A piece, where one remains for this worker: an attempt fails only because another one took a piece, and no more are taken than
-    // there are.
-    fn take_remaining(&mut self) -> Option<Piece<W>>
-        ensures same { self.new ≡ self.old }
-        ensures piece { IfSome result (IsPieceOf self.old) }
-    {
         for _ in 0..=self.count() {
+            if self.is_done() {
+                return None;
+            }
             let piece = self.try_take();
             if piece.is_some() {
                 return piece;
             }
         }
         None
+    }
+
+    // Whether the queue is empty.
+    fn is_done(&mut self) -> bool
+        ensures { self.new ≡ self.old }
+    {
+        self.queue.is_empty_as::<Free>(&mut self.pass)
     }
 
     // One attempt to take a piece.

@@ -1,5 +1,6 @@
 pub mod AtLeads
 pub mod Basis
+pub mod Example
 pub mod Free
 pub mod Inverting
 pub mod Matrices

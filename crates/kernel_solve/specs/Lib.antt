@@ -1,4 +1,5 @@
 pub mod Column
+pub mod Example
 pub mod Found
 pub mod Inverted
 pub mod Prepared

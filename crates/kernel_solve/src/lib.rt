@@ -16,9 +16,16 @@ mod substitution;
 mod systems;
 mod vectors;
 
+ghost use Rattle.kernel_solve.specs.Example.{AreWorkedReplies};
+
 pub use bases::{kernel, left_kernel};
 pub use inverses::{doubled, inverse, inverse_in, null_row};
 pub use outcome::Inverse;
 pub use prepared::{Prepared, Reply};
 pub use refutations::{first_hit_refutes, unsolvable_is_hit};
 pub use systems::{Found, refuting_system, solution};
+
+/// What replies are, worked on an example of 3 x 3.
+pub fn replies_are_worked()
+    ensures { AreWorkedReplies }
+{}

@@ -1,0 +1,66 @@
+// What one worker reduces of the rows behind a panel.
+ghost use Rattle.std.specs.Prelude.{◌≡◌, [], All, IfOk};
+ghost use Rattle.dense_finish.specs.Pieces.{ArePiecesOf, new_share};
+
+use crate::pieces::Piece;
+use crate::residue::Residue;
+use crate::taker::Taker;
+use std::alloc::{AllocError, Global};
+use std::marker::Model;
+
+// A worker at a queue of pieces, and those that it took there and reduced. Contracts see it as a `ShareOf`.
+#[derive(Drop)]
+pub(crate) struct Share<'q, W: Residue> {
+    pub(crate) taker: Taker<'q, W>,
+    pub(crate) pieces: Vec<Piece<W>>,
+}
+
+impl<'q, W: Residue> Model for Share<'q, W> {
+    ghost use Rattle.dense_finish.specs.Pieces.{ShareOf};
+
+    ghost Value = { ShareOf };
+
+    ghost view = { λ share. record { known = share.taker; pieces = share.pieces.items } };
+}
+
+impl<'q, W: Residue> Share<'q, W> {
+    // A worker more, with room for all pieces, so that none wants memory for them.
+    fn of(alloc: Global, taker: &mut Taker<'q, W>) -> Result<Share<'q, W>, AllocError>
+        ensures same { taker.new ≡ taker.old }
+        ensures share { IfOk result (λ share. share ≡ new_share taker.old) }
+    {
+        let pieces = Vec::with_capacity(alloc, taker.count())?;
+        Ok(Share {
+            taker: taker.another(),
+            pieces,
+        })
+    }
+
+    // So many more.
+    pub(crate) fn several(
+        alloc: Global,
+        taker: &mut Taker<'q, W>,
+        count: usize,
+    ) -> Result<Vec<Share<'q, W>>, AllocError>
+        ensures same { taker.new ≡ taker.old }
+        ensures shares { IfOk result (λ shares. All (λ share. share ≡ new_share taker.old) shares.items) }
+    {
+        let mut shares = Vec::with_capacity(alloc, count)?;
+        for _ in 0..count {
+            shares.push(Share::of(alloc, taker)?)?;
+        }
+        Ok(shares)
+    }
+}
+
+// The pieces of all these shares, as far as there is memory for a list of them.
+pub(crate) fn gathered<W: Residue>(alloc: Global, shares: Vec<Share<W>>) -> Vec<Piece<W>>
+    ensures { ArePiecesOf shares.entry.items result.items }
+{
+    let mut shares = shares;
+    let mut pieces = Vec::new(alloc);
+    while let Some(mut share) = shares.pop() {
+        let _ = pieces.append(&mut share.pieces);
+    }
+    pieces
+}
