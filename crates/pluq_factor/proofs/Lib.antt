@@ -1,4 +1,5 @@
 pub mod Bases
+pub mod Example
 pub mod Factoring
 pub mod Ranking
 pub mod Selecting

@@ -3,9 +3,16 @@ use Rattle.std.specs.Prelude.{◌≡◌, ℕ, suc, List, ◌++◌}
 use Rattle.residue_words.specs.Residues.{IsPrime}
 use Rattle.residue_words.specs.Matrix.{Matrix, IsMatrix}
 use Rattle.residue_words.specs.declared.plain.Pair.{Pair}
+use Rattle.row_space.specs.Echelon.{SameSpan}
+use Rattle.row_space.specs.Factors.{AreFactors}
 use Rattle.pivot_table.specs.Selected.{Selected}
 use Rattle.triangular_solve.specs.Reduced.{IsComplement}
 use Rattle.pluq_factor.specs.Staged.{Staged}
+
+-- valid factors A = L U: A and U have one row space
+abbrev pub FactorsKeepRows : Type 0
+FactorsKeepRows = (p : ℕ) (A : Matrix) (pivots : List Pair) (L U : Matrix) → IsPrime p → IsMatrix p A →
+    AreFactors p A pivots L U → SameSpan p A U
 
 -- a list begins with the pivots of at most one round
 abbrev pub SelectedIsOne : Type 0

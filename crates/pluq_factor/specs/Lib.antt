@@ -1,5 +1,6 @@
 pub mod Basis
 pub mod Counted
+pub mod Example
 pub mod Joined
 pub mod Laws
 pub mod Rounds

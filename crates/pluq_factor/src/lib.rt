@@ -13,7 +13,8 @@ mod plan;
 mod rank_by_rounds;
 mod round_pivots;
 
-ghost use Rattle.pluq_factor.specs.Laws.{SelectedIsOne, StagedGoesOn};
+ghost use Rattle.pluq_factor.specs.Example.{AreWorkedFactors};
+ghost use Rattle.pluq_factor.specs.Laws.{FactorsKeepRows, SelectedIsOne, StagedGoesOn};
 
 pub use basis::row_basis;
 pub use by_rounds::factor;
@@ -21,6 +22,16 @@ pub use dense_finish::Factors;
 pub use form_by_rounds::{form, form_of_basis};
 pub use plan::Plan;
 pub use rank_by_rounds::rank;
+
+/// A matrix and the right factor of valid factors have one row space, for a prime modulus.
+pub fn factors_keep_rows()
+    ensures { FactorsKeepRows }
+{}
+
+/// What factors are, worked on an example of 3 x 3 and on a matrix of zeros.
+pub fn factors_are_worked()
+    ensures { AreWorkedFactors }
+{}
 
 /// A list begins with the pivots of at most one round, and what stands behind them is staged on the complement, for a prime
 /// modulus.
