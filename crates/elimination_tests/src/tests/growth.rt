@@ -7,6 +7,7 @@ ghost use Rattle.grow_form.specs.Scripts.{AnswerFitsText};
 use grow_form::{Answer, Grow, ScriptLine, answer_line, answer_script, script_line, write_answers};
 use residue_words::Modulus;
 use sms_text::{Kind, Line, MemorySink, Reader, SteadySource, TextError, read_rows};
+use sparse_rows::Rows;
 use std::alloc::{AllocError, Global};
 use std::process::Abort;
 use std::test::Fail;
@@ -196,6 +197,53 @@ fn answers_to(alloc: Global, width: u32, lines: &[&[u8]]) -> Result<Vec<u64>, Al
         push_answer_to(alloc, &mut grow, width, &seven, text, &mut said)?;
     }
     Ok(said)
+}
+
+// Whether a row of a matrix is no combination of those before.
+fn rises(grow: &mut Grow, rows: &Rows, i: u32) -> Result<bool, AllocError>
+    requires inside { i < rows.now.matrix.height }
+    requires modulus { grow.old.modulus ≡ rows.now.modulus }
+    requires width { grow.old.matrix.width ≡ rows.now.matrix.width }
+    ensures modulus { grow.new.modulus ≡ grow.old.modulus }
+    ensures width { grow.new.matrix.width ≡ grow.old.matrix.width }
+{
+    // The call tells that the entries are residues.
+    let _ = rows.height();
+    grow.append(rows.cols(i), rows.vals(i))
+}
+
+// The rows (2, 4, 0), (0, 2, 1) and their sum, modulo 7.
+fn two_rows_and_their_sum(alloc: Global) -> Result<Rows, AllocError> {
+    let entries = [
+        (0, 0, 2),
+        (0, 1, 4),
+        (1, 1, 2),
+        (1, 2, 1),
+        (2, 0, 2),
+        (2, 1, 6),
+        (2, 2, 1),
+    ];
+    Rows::from_triples(alloc, 3, 3, &Modulus::new(7), &entries)
+}
+
+// For each of the first three rows whether it is no combination of those before.
+fn rising_rows(alloc: Global, rows: &Rows) -> Result<(bool, bool, bool), AllocError>
+    requires { 3 ≤ rows.now.matrix.height }
+{
+    let mut grow = Grow::new(alloc, rows.width(), &rows.modulus())?;
+    let first = rises(&mut grow, rows, 0)?;
+    let second = rises(&mut grow, rows, 1)?;
+    let third = rises(&mut grow, rows, 2)?;
+    Ok((first, second, third))
+}
+
+#[test]
+fn a_sum_of_rows_does_not_rise(rt: HostRuntime) -> Result<(), Fail> {
+    let alloc = rt.alloc();
+    let rows = two_rows_and_their_sum(alloc)?;
+    assert!(rt; rows.height() == 3);
+    assert_eq!(rt; rising_rows(alloc, &rows)?, (true, true, false));
+    Ok(())
 }
 
 #[test]
