@@ -1,3 +1,4 @@
+pub mod Example
 pub mod BatchOptions
 pub mod BatchReading
 pub mod BatchReplies

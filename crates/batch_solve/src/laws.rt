@@ -1,4 +1,5 @@
-// Laws of the rule that desks are served by: each contract is a fact, and the body is empty.
+// Laws of the rule that desks are served by, and examples: each contract is a fact, and the body is empty.
+ghost use Rattle.batch_solve.specs.Example.{AreWorkedBatches};
 ghost use Rattle.batch_solve.specs.Laws.{DrainedLeavesNone, ListsShareNoNumber};
 
 /// No two takers' lists share a number, at any moment.
@@ -9,4 +10,9 @@ pub fn lists_share_no_number()
 /// Once a taker was told that no number is left, each of the desk's numbers stands in just one taker's list.
 pub fn drained_leaves_none()
     ensures { DrainedLeavesNone }
+{}
+
+/// How batches are refused, worked on small ones.
+pub fn batches_are_worked()
+    ensures { AreWorkedBatches }
 {}

@@ -21,7 +21,7 @@ pub use batch_run::{at_most_one_batch_answer, run_batch, run_batch_within};
 pub use batch_status::BatchStatus;
 pub use batch_words::{BatchCommand, LARGEST_COUNT, at_most_one_batch, read_batch_words};
 pub use desk::Desk;
-pub use laws::{drained_leaves_none, lists_share_no_number};
+pub use laws::{batches_are_worked, drained_leaves_none, lists_share_no_number};
 pub use taker::Taker;
 pub use together::answer_all;
 pub use watch::{Unwatched, Watch};
