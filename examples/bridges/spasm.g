@@ -1,7 +1,6 @@
 # Ranks and kernels of GAP's matrices over prime fields by the program spasm: Read("spasm.g").
 
-# The lines that the program writes for A over GF(p). Without formatting GAP cuts no line. Above 65536 the elements of a field are of
-# another kind, and Int takes both.
+# The lines that the program writes for A over GF(p), in words. Without formatting GAP cuts no line. Int takes elements above 65536 too.
 SpasmRun := function(command, A, p)
     local folder, input, output, text, program, status, i, j;
     folder := DirectoryTemporary();
@@ -11,23 +10,17 @@ SpasmRun := function(command, A, p)
     for i in [1 .. Length(A)] do
         for j in PositionsProperty(A[i], v -> not IsZero(v)) do AppendTo(text, i, " ", j, " ", Int(A[i][j]), "\n"); od;
     od;
-    AppendTo(text, "0 0 0\n");
-    CloseStream(text);
+    AppendTo(text, "0 0 0\n"); CloseStream(text);
     program := Filename(DirectoriesSystemPrograms(), "spasm");
     if IsBound(GAPInfo.SystemEnvironment.SPASM) then program := GAPInfo.SystemEnvironment.SPASM; fi;
-    input := InputTextFile(Filename(folder, "in"));
-    output := OutputTextFile(Filename(folder, "out"), false);
+    input := InputTextFile(Filename(folder, "in")); output := OutputTextFile(Filename(folder, "out"), false);
     status := Process(folder, program, input, output, [command, "--modulus", String(p)]);
     CloseStream(input); CloseStream(output);
     if status <> 0 then Error("spasm ended with the status ", status); fi;
     return List(SplitString(StringFile(Filename(folder, "out")), "\n"), line -> SplitString(line, " "));
 end;
-
-# The rank of A.
 SpasmRank := {A, p} -> Int(SpasmRun("rank", A, p)[1][2]);
-
-# A basis of all y with y A = 0, a vector in each row: one basis of the space of NullspaceMat(A).
-SpasmNullspace := function(A, p)
+SpasmNullspace := function(A, p) # a basis of all y with y A = 0, a vector in each row: one basis of the space of NullspaceMat(A)
     local lines, basis, k;
     lines := SpasmRun("leftkernel", A, p);
     basis := NullMat(Int(lines[1][1]), Int(lines[1][2]), GF(p));

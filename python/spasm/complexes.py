@@ -104,6 +104,6 @@ def table(told: Homology, reduced: bool = False) -> str:
     for prime in told.primes:
         for dimension, count in enumerate(told.torsion(prime)):
             if count:
-                lines.append(f"torsion in dimension {dimension}: at least {count} of the summands "
-                             f"{'has' if count == 1 else 'have'} an order that {prime} divides")
+                summands = "summand has" if count == 1 else "summands have"
+                lines.append(f"torsion in dimension {dimension}: at least {count} {summands} an order divisible by {prime}")
     return "\n".join(lines) + "\n"

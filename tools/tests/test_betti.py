@@ -17,14 +17,14 @@ PLANE = "1 2 5\n1 2 6\n1 3 4\n1 3 6\n1 4 5\n2 3 4\n2 3 5\n2 4 6\n3 5 6\n4 5 6\n"
 CASES = [
     ("chessboard 5 5", None, "--primes 3 42013",
      ["faces: 25 200 600 600 120", "unreduced Betti numbers modulo 3: 1 0 1 57 0", "unreduced Betti numbers modulo 42013: 1 0 0 56 0",
-      "torsion in dimension 2: at least 1 of the summands has an order that 3 divides"]),
+      "torsion in dimension 2: at least 1 summand has an order divisible by 3"]),
     ("matching 7", None, "--primes 3 42013",
      ["faces: 21 105 105", "unreduced Betti numbers modulo 3: 1 1 21", "unreduced Betti numbers modulo 42013: 1 0 20",
-      "torsion in dimension 1: at least 1 of the summands has an order that 3 divides"]),
+      "torsion in dimension 1: at least 1 summand has an order divisible by 3"]),
     ("matching 7", None, "--primes 42013 --reduced", ["faces: 21 105 105", "reduced Betti numbers modulo 42013: 0 0 20"]),
     ("facets TEXT", PLANE, "--primes 2 3",
      ["faces: 6 15 10", "unreduced Betti numbers modulo 2: 1 1 1", "unreduced Betti numbers modulo 3: 1 0 0",
-      "torsion in dimension 1: at least 1 of the summands has an order that 2 divides"]),
+      "torsion in dimension 1: at least 1 summand has an order divisible by 2"]),
     ("facets TEXT", "1\n2\n", "--primes 2", ["faces: 2", "unreduced Betti numbers modulo 2: 2"]),
     ("facets TEXT", "1 2\n2 3\n1 3\n", "--primes 5 --reduced", ["faces: 3 3", "reduced Betti numbers modulo 5: 0 1"]),
 ]
