@@ -7,7 +7,7 @@ use borrow.Rule.Slice.PartMut.{put_mid}
 use Rattle.residue_words.specs.Matrix.{IsVector}
 use Rattle.dense_finish.specs.Block.{block_row}
 use Rattle.dense_finish.specs.Panel.{PanelReduces, PanelReducesEach, PanelRows}
-use Rattle.dense_finish.specs.Pieces.{ArePut, AreReducible, AreSharesOf, IsInPieces, IsPieceOf, IsReady, IsReducedPiece, IsShareOf, KeepShares, LiesIn, RowsFrom, ShareOf, new_share}
+use Rattle.dense_finish.specs.Pieces.{ArePut, AreReducible, AreSharesOf, IsInPieces, IsPieceOf, HasReducible, IsReducedPiece, IsShareOf, KeepShares, LiesIn, RowsFrom, ShareOf, new_share}
 use Rattle.dense_finish.specs.Units.{FoundPanel}
 use Rattle.dense_finish.proofs.BlockRows.{put_row_at, put_row_below}
 
@@ -75,9 +75,9 @@ both_clauses (Ok x) P Q R f first second = f x first second
 both_clauses (Err y) P Q R f first second = tt
 
 -- what holds of new shares: the rows that they know are reducible where those are, and they are shares of them
-pub new_ready : {p : ℕ} {found : FoundPanel} (rows : List (List ℕ)) (shares : List ShareOf) → AreReducible p found rows → All (λ share. share ≡ new_share rows) shares → All (IsReady p found) shares
+pub new_ready : {p : ℕ} {found : FoundPanel} (rows : List (List ℕ)) (shares : List ShareOf) → AreReducible p found rows → All (λ share. share ≡ new_share rows) shares → All (HasReducible p found) shares
 new_ready {p} {found} rows shares ready new =
-    All-weaker (λ share. share ≡ new_share rows) (IsReady p found) (λ share e. subst (IsReady p found) (sym e) ready) shares new
+    All-weaker (λ share. share ≡ new_share rows) (HasReducible p found) (λ share e. subst (HasReducible p found) (sym e) ready) shares new
 
 pub new_shares : (p : ℕ) (panel : PanelRows) (rows : List (List ℕ)) (shares : List ShareOf) → All (λ share. share ≡ new_share rows) shares → AreSharesOf p panel rows shares
 new_shares p panel rows shares new =

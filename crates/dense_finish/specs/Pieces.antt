@@ -59,8 +59,8 @@ abbrev pub new_share : List (List ℕ) → ShareOf
 new_share known = record { known = known; pieces = [] }
 
 -- a share of rows of which the panel's pivots can be taken out
-abbrev pub IsReady : ℕ → FoundPanel → ShareOf → Type 0
-IsReady p found share = AreReducible p found share.known
+abbrev pub HasReducible : ℕ → FoundPanel → ShareOf → Type 0
+HasReducible p found share = AreReducible p found share.known
 
 -- a share of the block: its pieces are what the panel leaves of some
 pub record IsShareOf (p : ℕ) (panel : PanelRows) (block : List (List ℕ)) (share : ShareOf) : Type 0 where

@@ -6,7 +6,7 @@ ghost use Rattle.sparse_rows.specs.Rows.{AreRising};
 ghost use Rattle.sparse_rows.specs.declared.rows.TheConstants.{LARGEST_SIZE};
 ghost use Rattle.dense_finish.specs.Block.{AreLastRowsOf, AreRowsOf, AreVectors, IsDense};
 ghost use Rattle.dense_finish.specs.Panel.{PanelReducesEach};
-ghost use Rattle.dense_finish.specs.Pieces.{AreReducedBy, AreReducible, AreReducedPieces, IsReady};
+ghost use Rattle.dense_finish.specs.Pieces.{AreReducedBy, AreReducible, AreReducedPieces, HasReducible};
 ghost use Rattle.dense_finish.specs.Dense.{IsFirstFree, IsPivotOf, KeepsCoefficients};
 ghost use Rattle.dense_finish.specs.Factors.{IsFactored};
 ghost use Rattle.sparse_rows.specs.Rows.{AreBelow};
@@ -263,7 +263,7 @@ impl<'a> Elimination<'a> {
         let helpers = (self.workers - 1).min(taker.count());
         let mut shares = Share::several(self.alloc, &mut taker, helpers)?;
         let mut find = || -> (Result<Found<W>, AllocError>, Vec<Piece<W>>)
-            requires { W.serves self.now.p × All (IsReady self.now.p found.now) own_share.items
+            requires { W.serves self.now.p × All (HasReducible self.now.p found.now) own_share.items
                 × AreLastRowsOf own.now rows × CanGoOn self.now.p self.now.columns.now
                 (panel_stage pivots.now found.now own.now rows.start) }
             ensures { AreReducedBy self.entry.now.p found.entry.now.panel own_share.entry.items result.1
@@ -275,7 +275,7 @@ impl<'a> Elimination<'a> {
             (next, self.pieces_by(rt, found, &mut own_share))
         };
         let mut help = || -> Vec<Piece<W>>
-            requires { W.serves self.now.p × All (IsReady self.now.p found.now) shares.items }
+            requires { W.serves self.now.p × All (HasReducible self.now.p found.now) shares.items }
             ensures { AreReducedBy self.entry.now.p found.entry.now.panel shares.entry.items result }
         { self.pieces_and_left(rt, found, &mut shares, left) };
         let (mut more, (next, mut pieces)) = join_mut(rt, &mut help, &mut find);

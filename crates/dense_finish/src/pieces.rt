@@ -1,7 +1,7 @@
 // The rows behind a panel, reduced by several workers: piece by piece, as they become free.
 ghost use Rattle.std.specs.Prelude.{◌≡◌, ◌<◌, ◌≤◌, All, length, IfSome, OnOk};
 ghost use Rattle.dense_finish.specs.Panel.{PanelReducesEach};
-ghost use Rattle.dense_finish.specs.Pieces.{ArePut, AreReducedBy, AreReducible, IsReady, IsReducedPiece, KeepShares, KeepsShare, LiesIn};
+ghost use Rattle.dense_finish.specs.Pieces.{ArePut, AreReducedBy, AreReducible, HasReducible, IsReducedPiece, KeepShares, KeepsShare, LiesIn};
 
 use crate::dense::Dense;
 use crate::elimination::Elimination;
@@ -106,14 +106,14 @@ impl<'a> Elimination<'a> {
         left: &mut LeftRoom,
     ) -> Vec<Piece<W>>
         requires modulus { W.serves self.now.p }
-        requires ready { All (IsReady self.now.p found.now) shares.old.items }
+        requires ready { All (HasReducible self.now.p found.now) shares.old.items }
         ensures { AreReducedBy self.now.p found.now.panel shares.old.items result }
     {
         // In a list of its own, as the borrow checker covers no closure that is lent its caller's.
         let mut own = replace(shares, Vec::new(self.alloc));
         let mut write = || left.write();
         let mut reduce = || -> Vec<Piece<W>>
-            requires { W.serves self.now.p × All (IsReady self.now.p found.now) own.items }
+            requires { W.serves self.now.p × All (HasReducible self.now.p found.now) own.items }
             ensures { AreReducedBy self.entry.now.p found.entry.now.panel own.entry.items result }
         { self.pieces_by(rt, found, &mut own) };
         let (_, pieces) = join_mut(rt, &mut write, &mut reduce);
@@ -128,7 +128,7 @@ impl<'a> Elimination<'a> {
         shares: &mut Vec<Share<W>>,
     ) -> Vec<Piece<W>>
         requires modulus { W.serves self.now.p }
-        requires ready { All (IsReady self.now.p found.now) shares.old.items }
+        requires ready { All (HasReducible self.now.p found.now) shares.old.items }
         ensures { AreReducedBy self.now.p found.now.panel shares.old.items result }
     {
         let mut own = replace(shares, Vec::new(self.alloc));
@@ -145,14 +145,14 @@ impl<'a> Elimination<'a> {
         shares: &mut [Share<W>],
     )
         requires modulus { W.serves self.now.p }
-        requires ready { All (IsReady self.now.p found.now) shares.old }
+        requires ready { All (HasReducible self.now.p found.now) shares.old }
         ensures { KeepShares self.now.p found.now.panel shares.old shares.new }
     {
         par_for_each_mut(
             rt,
             shares,
             |_: usize, share: &mut Share<W>|
-                requires { W.serves self.now.p × IsReady self.now.p found.now share.now }
+                requires { W.serves self.now.p × HasReducible self.now.p found.now share.now }
                 ensures { KeepsShare self.entry.now.p found.entry.now.panel share.entry.now share.exit.now }
             { self.reduce_share(found, share) },
         );
@@ -161,7 +161,7 @@ impl<'a> Elimination<'a> {
     // Takes pieces from the queue as long as there are any, and the panel's pivots out of their rows.
     fn reduce_share<W: Reducing>(&self, found: &Found<W>, share: &mut Share<W>)
         requires modulus { W.serves self.now.p }
-        requires ready { IsReady self.now.p found.now share.old }
+        requires ready { HasReducible self.now.p found.now share.old }
         ensures { KeepsShare self.now.p found.now.panel share.old share.new }
     {
         // No worker can take more.

@@ -92,7 +92,7 @@ pub(crate) fn write_basis_row(
     Ok(())
 }
 
-/// The kernel basis of the transposed matrix: its rows y are those with y A = 0.
+/// The plain form of `spasm_lib::left_kernel`: the kernel basis of the transposed matrix, whose rows y are those with y A = 0.
 pub fn left_kernel<R: Threads + Sync>(
     rt: &R,
     alloc: Global,

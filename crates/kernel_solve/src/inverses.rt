@@ -17,8 +17,8 @@ use sparse_rows::{Rows, Sparse};
 use std::alloc::{AllocError, Global};
 use std::thread::Threads;
 
-/// The inverse of a square matrix A of at most 2^30 rows, or the first row of its kernel basis. It is read off the
-/// echelon form of [A | I] (the method of Gauss and Jordan), and where A has no inverse off that of A. A caller who makes
+/// The plain form of `spasm_lib::inverse`: the inverse of a square matrix A of at most 2^30 rows, or the first row of its kernel basis.
+/// It is read off the echelon form of [A | I] (the method of Gauss and Jordan), and where A has no inverse off that of A. A caller who makes
 /// the forms by another way calls `doubled`, `inverse_in` and `null_row`.
 pub fn inverse<R: Threads + Sync>(
     rt: &R,

@@ -60,7 +60,7 @@ impl Model for Prepared {
 }
 
 impl Prepared {
-    /// Prepares A by a dense elimination of its rows and columns that have an entry, and by the echelon forms of A and of A
+    /// The plain form of `spasm_lib::prepare`: prepares A by a dense elimination of its rows and columns that have an entry, and by the echelon forms of A and of A
     /// transposed. A caller who makes factors and kernel bases by another way, as by structural rounds where A is large and
     /// sparse, calls `by_factors`.
     pub fn of<R: Threads + Sync>(

@@ -1,11 +1,11 @@
 use Rattle.std.proofs.Common.{Vec, Global, ap, rules, subst}
 use Rattle.std.proofs.lemmas.List.Elements.{All-same}
-use Rattle.dense_finish.specs.Pieces.{AreReducedBy, IsReady, ShareOf}
+use Rattle.dense_finish.specs.Pieces.{AreReducedBy, HasReducible, ShareOf}
 use Rattle.dense_finish.proofs.elimination.Elimination.pieces_and_left.Goals as goal
 
 pub join_mut-pieces-requires-after_bounds : goal.join_mut-pieces-requires-after_bounds
 join_mut-pieces-requires-after_bounds g c κs within =
-    let ready = All-same (IsReady c.args.self.now.p c.args.found.now) c.replace-own.result.items c.args.shares.now.items (ap (λ (v : Vec ShareOf Global). v.items) c.replace-own.ensures.value) c.requires.ready in
+    let ready = All-same (HasReducible c.args.self.now.p c.args.found.now) c.replace-own.result.items c.args.shares.now.items (ap (λ (v : Vec ShareOf Global). v.items) c.replace-own.ensures.value) c.requires.ready in
     search
 
 pub returns : goal.returns

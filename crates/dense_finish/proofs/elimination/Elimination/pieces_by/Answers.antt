@@ -1,12 +1,12 @@
 use Rattle.std.proofs.Common.{Vec, Global, ap}
 use Rattle.std.proofs.lemmas.List.Elements.{All-same}
-use Rattle.dense_finish.specs.Pieces.{IsReady, ShareOf}
+use Rattle.dense_finish.specs.Pieces.{HasReducible, ShareOf}
 use Rattle.dense_finish.proofs.ReducedPieces.{kept_back, kept_from}
 use Rattle.dense_finish.proofs.elimination.Elimination.pieces_by.Goals as goal
 
 pub reduce_shares-requires-clause-ready : goal.reduce_shares-requires-clause-ready
 reduce_shares-requires-clause-ready g c κs within =
-    let P = IsReady c.args.self.now.p c.args.found.now in
+    let P = HasReducible c.args.self.now.p c.args.found.now in
     All-same P c.as_mut_slice.result.now c.replace-own.result.items c.as_mut_slice.ensures.value
     (All-same P c.replace-own.result.items c.args.shares.now.items (ap (λ (v : Vec ShareOf Global). v.items) c.replace-own.ensures.value) c.requires.ready)
 

@@ -1,10 +1,10 @@
 use Rattle.std.proofs.Common.{◌<◌, arith, length, subst, sym}
-use Rattle.dense_finish.specs.Pieces.{IsReady, IsShareOf}
+use Rattle.dense_finish.specs.Pieces.{HasReducible, IsShareOf}
 use Rattle.dense_finish.proofs.elimination.Elimination.reduce_shares.Goals as goal
 
 pub par_for_each_mut-requires-after_bounds : goal.par_for_each_mut-requires-after_bounds
 par_for_each_mut-requires-after_bounds g c κs within =
-    λ i x l e. ((c.requires.modulus, subst (IsReady c.args.self.now.p c.args.found.now) (sym e) (c.requires.ready i x.now l)), (search, search))
+    λ i x l e. ((c.requires.modulus, subst (HasReducible c.args.self.now.p c.args.found.now) (sym e) (c.requires.ready i x.now l)), (search, search))
 
 pub returns : goal.returns
 returns g c = λ block of_block k d l.
