@@ -1,0 +1,4 @@
+pub mod Example
+pub mod Keeping
+pub mod Selecting
+pub mod Transposing

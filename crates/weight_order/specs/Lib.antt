@@ -1,0 +1,3 @@
+pub mod Example
+pub mod Keeping
+pub mod Laws
