@@ -46,7 +46,7 @@ pub selecting_keeps : {R S : ResidueMatrix} {order : List ℕ} → 2 ≤ R.modul
     S.matrix ≡ selected R.matrix order → KeepsRank R S
 selecting_keeps {R} {S} {order} two sound h modulus matrix = rw (modulus, matrix) record {
   modulus = refl;
-  sound = selected_matrix R.modulus R.matrix order two sound (each_filled h);
+  sound = selected_matrix R.modulus R.matrix order sound (each_filled h);
   rank = λ prime r. (selecting_rank R.modulus R.matrix order r two sound (each_filled h)).1;
   least = omega (arith, no_more h);
 }

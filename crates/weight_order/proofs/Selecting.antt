@@ -17,8 +17,8 @@ zeros_combination : (p : ℕ) (B : Matrix) → 0 < p → IsCombination p B (zero
 zeros_combination p B pos = combination_of p B (zeros B.width) (λ k. 0) pos (zeros_vector p B.width pos) (λ j l.
     ap (λ x. x % p) (at_zeros B.width j l ∙ sym (sum_zero B.height (λ k. 0 * entry B k j) (λ k b. zero-mul (entry B k j)))))
 
-module _ (p : ℕ) (A : Matrix) (rows : List ℕ) (two : 2 ≤ p) (m : IsMatrix p A) (h : HasEachFilled A rows) where
-  row_selected : (k : ℕ) → k < length rows → row (selected A rows) k ≡ row A (slice_index rows k)
+module _ (p : ℕ) (A : Matrix) (rows : List ℕ) (m : IsMatrix p A) (h : HasEachFilled A rows) where
+  pub row_selected : (k : ℕ) → k < length rows → row (selected A rows) k ≡ row A (slice_index rows k)
   row_selected k l = get_or-map (row A) rows k 0 [] l
 
   pub selected_matrix : IsMatrix p (selected A rows)
@@ -28,19 +28,19 @@ module _ (p : ℕ) (A : Matrix) (rows : List ℕ) (two : 2 ≤ p) (m : IsMatrix 
   }
 
   -- a row that isn't picked has no entry
-  row_kept : (i : ℕ) → i < A.height → IsCombination p (selected A rows) (row A i)
-  row_kept i l = ⊎_elim
+  row_kept : 2 ≤ p → (i : ℕ) → i < A.height → IsCombination p (selected A rows) (row A i)
+  row_kept two i l = ⊎_elim
       (λ f. let at = place_in rows i (h.all i l f) in
       subst (IsCombination p (selected A rows)) (row_selected at.0 at.1 ∙ ap (row A) at.2) (row_combination p (selected A rows) at.0 two selected_matrix at.1))
       (λ z. subst (IsCombination p (selected A rows)) (sym (zero_row m i l z)) (zeros_combination p (selected A rows) (omega arith)))
       (filled_or_zero A i)
 
-  pub selected_span : SameSpan p A (selected A rows)
-  selected_span = same_span_of_rows p A (selected A rows) (omega arith) refl row_kept (λ k l.
+  pub selected_span : 2 ≤ p → SameSpan p A (selected A rows)
+  selected_span two = same_span_of_rows p A (selected A rows) (omega arith) refl (row_kept two) (λ k l.
       subst (IsCombination p A) (sym (row_selected k l)) (row_combination p A (slice_index rows k) two m (h.inside k 0 l)))
 
 pub selecting_span : SelectingKeepsSpan
-selecting_span p A rows two m h = selected_span p A rows two m h
+selecting_span p A rows two m h = selected_span p A rows m h two
 
 -- a form of one is the form of the other
 rank_moved : (p : ℕ) (A B : Matrix) (r : ℕ) → A.width ≡ B.width → SameSpan p A B → HasRank p A r → HasRank p B r
@@ -57,7 +57,7 @@ rank_moved p A B r width same rank = (
 
 pub selecting_rank : SelectingKeepsRank
 selecting_rank p A rows r two m h =
-    let same : SameSpan p A (selected A rows) = selected_span p A rows two m h in (
+    let same : SameSpan p A (selected A rows) = selected_span p A rows m h two in (
       rank_moved p A (selected A rows) r refl same,
       rank_moved p (selected A rows) A r refl (same_span_turned p A (selected A rows) same),
     )

@@ -3,6 +3,7 @@ ghost use Rattle.std.specs.Prelude.{◌≡◌, length, map, All, IfOk};
 ghost use Rattle.residue_words.specs.Matrix.{row};
 ghost use Rattle.sparse_rows.specs.Rows.{AreFilled, support};
 ghost use Rattle.weight_order.specs.Keeping.{AreFilledInSomeOrder};
+ghost use Rattle.weight_order.specs.Shape.{AreByWeight};
 
 use sparse_rows::Rows;
 use std::alloc::{AllocError, Global};
@@ -16,7 +17,8 @@ pub(crate) struct WeighedRow {
 
 // Those with the fewest entries first, those with as many by ascending numbers.
 pub(crate) fn rarest_first(alloc: Global, rows: &Rows) -> Result<Vec<u32>, AllocError>
-    ensures { IfOk result (λ order. AreFilledInSomeOrder rows.now.matrix order.items) }
+    ensures filled { IfOk result (λ order. AreFilledInSomeOrder rows.now.matrix order.items) }
+    ensures by_weight { IfOk result (λ order. AreByWeight rows.now.matrix order.items) }
 {
     let mut weighed = weighed(alloc, rows)?;
     weighed.sort_unstable();

@@ -3,10 +3,12 @@
 
 mod filled_rows;
 
-ghost use Rattle.std.specs.Prelude.{IfOk};
+ghost use Rattle.std.specs.Prelude.{◌≡◌, IfOk};
+ghost use Rattle.sparse_rows.specs.Rows.{selected};
 ghost use Rattle.weight_order.specs.Example.{IsTurnedExample};
 ghost use Rattle.weight_order.specs.Keeping.{AreFilledInSomeOrder, KeepsRank};
 ghost use Rattle.weight_order.specs.Laws.{SelectingKeepsRank, SelectingKeepsSpan, TransposingKeepsRank};
+ghost use Rattle.weight_order.specs.Shape.{HasFewRisingRows, HasRarestFirst, HasRowsByWeight};
 
 use filled_rows::{last_first, rarest_first};
 use sparse_rows::Rows;
@@ -20,7 +22,8 @@ use std::alloc::{AllocError, Global};
 /// the inverse and its application to linear programming, 1957). It takes time by the entries, and by the logarithm of how many
 /// columns there are for each of them; and memory for two such matrices beside the given one, a great height or width costs nothing.
 pub fn by_weight(alloc: Global, rows: &Rows) -> Result<Rows, AllocError>
-    ensures { IfOk result (KeepsRank rows.now) }
+    ensures rank { IfOk result (KeepsRank rows.now) }
+    ensures shape { IfOk result (λ made. HasRarestFirst made.matrix) }
 {
     let columns = columns_by_weight(alloc, rows)?;
     from_columns(alloc, columns)
@@ -48,20 +51,22 @@ pub fn example_is_turned()
 
 // What will be the columns, as rows: the columns that have an entry, the rarest first; or the rows, if fewer of them have one.
 fn columns_by_weight(alloc: Global, rows: &Rows) -> Result<Rows, AllocError>
-    ensures { IfOk result (KeepsRank rows.now) }
+    ensures rank { IfOk result (KeepsRank rows.now) }
+    ensures shape { IfOk result (λ made. HasFewRisingRows made.matrix) }
 {
+    // The contract of this call tells that the rows are a matrix of residues.
+    let _ = rows.height();
     if rows.occupied(alloc)?.len() > rows.filled(alloc)?.len() {
         return with_rarest_first(alloc, rows);
     }
-    // The contract of this call tells that the rows are a matrix of residues.
-    let _ = rows.height();
     let columns = rows.transpose(alloc)?;
     with_rarest_first(alloc, &columns)
 }
 
 // The rows that have an entry, the rarest first.
 fn with_rarest_first(alloc: Global, rows: &Rows) -> Result<Rows, AllocError>
-    ensures { IfOk result (KeepsRank rows.now) }
+    ensures rank { IfOk result (KeepsRank rows.now) }
+    ensures rows { IfOk result (λ made. HasRowsByWeight rows.now.matrix made.matrix) }
 {
     let order = rarest_first(alloc, rows)?;
     in_order(alloc, rows, &order)
@@ -69,7 +74,9 @@ fn with_rarest_first(alloc: Global, rows: &Rows) -> Result<Rows, AllocError>
 
 // The matrix with these columns, of which the rows that have an entry stand from the last to the first.
 fn from_columns(alloc: Global, columns: Rows) -> Result<Rows, AllocError>
-    ensures { IfOk result (KeepsRank columns) }
+    requires { HasFewRisingRows columns.matrix }
+    ensures rank { IfOk result (KeepsRank columns) }
+    ensures shape { IfOk result (λ made. HasRarestFirst made.matrix) }
 {
     // The contract of this call tells that the columns are a matrix of residues.
     let _ = columns.height();
@@ -82,7 +89,8 @@ fn from_columns(alloc: Global, columns: Rows) -> Result<Rows, AllocError>
 // The rows that have an entry, in this order.
 fn in_order(alloc: Global, rows: &Rows, order: &[u32]) -> Result<Rows, AllocError>
     requires { AreFilledInSomeOrder rows.now.matrix order.now }
-    ensures { IfOk result (KeepsRank rows.now) }
+    ensures rank { IfOk result (KeepsRank rows.now) }
+    ensures rows { IfOk result (λ made. made.matrix ≡ selected rows.now.matrix order.now) }
 {
     // The contracts of these calls tell that the rows are a matrix of residues, and bound their number.
     let _ = (rows.height(), rows.modulus());

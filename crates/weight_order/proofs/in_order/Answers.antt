@@ -8,5 +8,6 @@ select-requires-clause-many c = omega (arith, no_more c.requires, c.height.ensur
 pub select-requires-clause-inside : goal.select-requires-clause-inside
 select-requires-clause-inside c = (each_filled c.requires).inside
 
-pub returns : goal.returns
-returns c = selecting_keeps (omega (arith, c.modulus.ensures.value, c.modulus.ensures.two_or_more)) c.height.ensures.sound c.requires c.in_ok-picked.ensures.modulus c.in_ok-picked.ensures.matrix
+pub returns-clause-rank : goal.returns-clause-rank
+returns-clause-rank c =
+    selecting_keeps (omega (arith, c.modulus.ensures.value, c.modulus.ensures.two_or_more)) c.height.ensures.sound c.requires c.in_ok-picked.ensures.modulus c.in_ok-picked.ensures.matrix
