@@ -1,11 +1,11 @@
 -- Matrices that are transposed and whose rows are picked keep the rank.
-use Rattle.std.proofs.Common.{ℕ, ◌≡◌, ◌<◌, ◌≤◌, ◌∙◌, List, length, min, slice_index, sym, refl, ap, subst, arith}
+use Rattle.std.proofs.Common.{ℕ, ◌≡◌, ◌<◌, ◌≤◌, ◌∙◌, List, length, sym, refl, subst, arith}
 use Rattle.std.proofs.lemmas.List.{get_or_default}
 use Rattle.std.proofs.lemmas.List.Sorted.{All-permutation, Contains-permutation, length_permutation}
 use Rattle.residue_words.specs.Matrix.{Matrix, IsMatrix}
 use Rattle.residue_words.specs.Residues.{IsPrime}
 use Rattle.row_space.specs.Echelon.{HasRank}
-use Rattle.sparse_rows.specs.Rows.{AreFilled, ResidueMatrix, selected, transposed}
+use Rattle.sparse_rows.specs.Rows.{ResidueMatrix, selected, transposed}
 use Rattle.sparse_rows.proofs.Renaming.{rising_short}
 use Rattle.weight_order.specs.Keeping.{AreFilledInSomeOrder, KeepsRank}
 use Rattle.weight_order.specs.Laws.{HasEachFilled}

@@ -1,6 +1,5 @@
 -- Rows picked in any order, each filled one among them, have the row space of the matrix.
-use Rattle.std.proofs.Common.{ℕ, ◌≡◌, ◌*◌, ◌%◌, ◌<◌, ◌≤◌, ◌⊎◌, inl, inr, ⊎_elim, List, [], length, slice_index, refl, sym, ap, subst, ◌∙◌, arith, zero-mul}
-use Rattle.std.specs.List.{Contains}
+use Rattle.std.proofs.Common.{ℕ, ◌≡◌, ◌*◌, ◌%◌, ◌<◌, ◌≤◌, ⊎_elim, List, [], length, slice_index, refl, sym, ap, subst, ◌∙◌, arith, zero-mul}
 use Rattle.std.proofs.lemmas.List.{get_or-map, length-map}
 use Rattle.residue_words.specs.Matrix.{Matrix, IsCombination, IsMatrix, IsVector, entry, row, zeros}
 use Rattle.residue_words.proofs.Lists.{place_in}

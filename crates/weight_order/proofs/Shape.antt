@@ -1,7 +1,6 @@
 -- Rows picked by weight, and their transpose.
-use Rattle.std.proofs.Common.{ℕ, ◌≡◌, ◌≢◌, ◌<◌, ◌≤◌, List, [], length, slice_index, sym, refl, ap, subst, ◌∙◌, arith}
-use Rattle.std.specs.List.{All, Contains}
-use Rattle.std.specs.List.Sorted.{IsPermutation}
+use Rattle.std.proofs.Common.{ℕ, ◌≡◌, ◌≢◌, ◌<◌, ◌≤◌, List, length, slice_index, sym, ap, subst, ◌∙◌, arith}
+use Rattle.std.specs.List.{All}
 use Rattle.std.proofs.lemmas.List.{get_or_default}
 use Rattle.std.proofs.lemmas.List.Sorted.{All-permutation, length_permutation}
 use Rattle.residue_words.specs.Matrix.{Matrix, IsMatrix, entry, row}
@@ -12,8 +11,7 @@ use Rattle.row_space.proofs.Spans.{rising_equal}
 use Rattle.sparse_rows.specs.Rows.{AreFilled, AreOccupied, IsFilled, selected, support, transposed}
 use Rattle.sparse_rows.proofs.Supports.{at_support, in_support, row_sparse}
 use Rattle.weight_order.specs.Keeping.{AreFilledInSomeOrder}
-use Rattle.weight_order.specs.Laws.{HasEachFilled}
-use Rattle.weight_order.specs.Shape.{HasFewRisingRows, HasRarestFirst, HasRisingRows, HasRowsByWeight}
+use Rattle.weight_order.specs.Shape.{HasFewRisingRows, HasRarestFirst, HasRowsByWeight}
 use Rattle.weight_order.proofs.Keeping.{each_filled}
 use Rattle.weight_order.proofs.Selecting.{row_selected, selected_matrix}
 use Rattle.weight_order.proofs.Transposing.{transposed_matrix, transposed_twice}
@@ -61,9 +59,6 @@ order_filled {A} {order} h = All-permutation (IsFilled A) h.0 order h.2 (λ k d 
 
 -- the filled rows have the same occupied columns
 module _ {p : ℕ} {B : Matrix} {order : List ℕ} (m : IsMatrix p B) (h : AreFilledInSomeOrder B order) where
-  abbrev picked : Matrix
-  picked = selected B order
-
   picked_matrix : IsMatrix p (selected B order)
   picked_matrix = selected_matrix p B order m (each_filled h)
 

@@ -1,10 +1,10 @@
 -- A matrix and its transpose have the same rank.
-use Rattle.std.proofs.Common.{ℕ, ◌≡◌, ◌*◌, ◌%◌, ◌<◌, ◌≤◌, List, slice_index, refl, sym, ap, subst, ◌∙◌, arith, mod-lt, mul_comm, le_antisymm}
+use Rattle.std.proofs.Common.{ℕ, ◌≡◌, ◌*◌, ◌%◌, ◌<◌, ◌≤◌, slice_index, refl, sym, ap, subst, ◌∙◌, arith, mul_comm}
 use native.Mathlib.Nat.{mod-mod}
-use Rattle.residue_words.specs.Matrix.{Matrix, IsCombination, IsMatrix, IsVector, combine, entry, row}
+use Rattle.residue_words.specs.Matrix.{Matrix, IsCombination, IsMatrix, entry, row}
 use Rattle.residue_words.specs.Residues.{IsPrime, sum_below}
 use Rattle.residue_words.proofs.Sums.{sum_equal}
-use Rattle.residue_words.proofs.Vectors.{at_combine, at_list_of, combination_of, combination_through, entry_matrix_of, entry_residue, is_matrix_of, matrix_equal, row_combination, row_matrix_of}
+use Rattle.residue_words.proofs.Vectors.{at_combine, combination_of, combination_through, entry_matrix_of, entry_residue, is_matrix_of, matrix_equal, row_combination}
 use Rattle.row_space.specs.Echelon.{HasRank, IsIndependent, IsRref}
 use Rattle.row_space.proofs.Counting.{independent_height}
 use Rattle.row_space.proofs.Exists.{rref_of_each}
@@ -23,31 +23,31 @@ transposed_twice p A m =
     entry_matrix_of A.height A.width (λ i j. entry (transposed A) j i) i j l b ∙ entry_matrix_of A.width A.height (λ i j. entry A j i) j i b l)
 
 module _ (p : ℕ) (A E : Matrix) (two : 2 ≤ p) (m : IsMatrix p A) (form : IsRref p A E) where
-  lead : ℕ → ℕ
+  abbrev lead : ℕ → ℕ
   lead k = slice_index form.form.0 k
 
   -- the columns at the leads of the form, as rows
   abbrev lead_columns : Matrix
-  lead_columns = matrix_by E.height A.height (λ k i. entry A i (slice_index form.form.0 k))
+  lead_columns = matrix_by E.height A.height (λ k i. entry A i (lead k))
 
   -- an entry is a sum of entries of the form, with the entries of its row at the leads
-  entry_by_form : (i j : ℕ) → i < A.height → j < A.width → entry A i j ≡ sum_below E.height (λ k. entry A i (slice_index form.form.0 k) * entry E k j) % p
+  entry_by_form : (i j : ℕ) → i < A.height → j < A.width → entry A i j ≡ sum_below E.height (λ k. entry A i (lead k) * entry E k j) % p
   entry_by_form i j l b =
       let c : IsCombination p E (row A i) = (form.span (row A i)).0 (row_combination p A i two m l) in
       let inside : j < E.width = omega (arith, form.width) in
       ap (λ v. slice_index v j) c.2 ∙ at_combine p c.0 E j inside
-      ∙ ap (λ s. s % p) (sum_equal E.height (λ k. slice_index c.0 k * entry E k j) (λ k. entry A i (slice_index form.form.0 k) * entry E k j) (λ k lk.
+      ∙ ap (λ s. s % p) (sum_equal E.height (λ k. slice_index c.0 k * entry E k j) (λ k. entry A i (lead k) * entry E k j) (λ k lk.
       ap (λ x. x * entry E k j)
-      (sym (place_coefficient p (λ j lead. j < lead) E (slice_index form.form.0) form.form.1.1 c.0 c.1 k lk) ∙ ap (λ v. slice_index v (slice_index form.form.0 k)) (sym c.2))))
+      (sym (place_coefficient p (λ j lead. j < lead) E lead form.form.1.1 c.0 c.1 k lk) ∙ ap (λ v. slice_index v (lead k)) (sym c.2))))
 
   -- so each column is a combination of these columns
   column_combination : (j : ℕ) → j < A.width → IsCombination p lead_columns (row (transposed A) j)
   column_combination j b =
       combination_of p lead_columns (row (transposed A) j) (λ k. entry E k j) (omega arith) ((transposed_matrix p A m).each j b) (λ i l.
       ap (λ x. x % p) (entry_matrix_of A.width A.height (λ i j. entry A j i) j i b l ∙ entry_by_form i j l b) ∙ mod-mod _ p
-      ∙ ap (λ s. s % p) (sum_equal E.height (λ k. entry A i (slice_index form.form.0 k) * entry E k j) (λ k. entry E k j * entry lead_columns k i) (λ k lk.
-      mul_comm (entry A i (slice_index form.form.0 k)) (entry E k j)
-      ∙ ap (λ x. entry E k j * x) (sym (entry_matrix_of E.height A.height (λ k i. entry A i (slice_index form.form.0 k)) k i lk l)))))
+      ∙ ap (λ s. s % p) (sum_equal E.height (λ k. entry A i (lead k) * entry E k j) (λ k. entry E k j * entry lead_columns k i) (λ k lk.
+      mul_comm (entry A i (lead k)) (entry E k j)
+      ∙ ap (λ x. entry E k j * x) (sym (entry_matrix_of E.height A.height (λ k i. entry A i (lead k)) k i lk l)))))
 
   -- and the rank of the transpose is at most the rank
   pub transposed_rank_low : (F : Matrix) → IsRref p (transposed A) F → F.height ≤ E.height

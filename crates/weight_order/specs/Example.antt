@@ -1,5 +1,5 @@
 -- A matrix of 3 x 3 modulo 7 whose third row is the sum of the first two, and its transpose, in which no row is.
-use Rattle.std.specs.Prelude.{◌≡◌, List, [], ◌∷◌}
+use Rattle.std.specs.Prelude.{◌≡◌, [], ◌∷◌}
 use Rattle.residue_words.specs.Matrix.{Matrix}
 use Rattle.row_space.specs.Echelon.{HasRank}
 use Rattle.row_space.specs.Example.{example}

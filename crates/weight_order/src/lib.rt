@@ -18,9 +18,9 @@ use std::alloc::{AllocError, Global};
 /// have an entry, it is transposed. Then its columns stand by how many entries they have, the fewest first, those with as many by
 /// ascending numbers; and its rows from the last to the first.
 ///
-/// Pivots in rare columns leave few entries for the next round, since few rows are changed by them (Markowitz, The elimination form of
-/// the inverse and its application to linear programming, 1957). It takes time by the entries, and by the logarithm of how many
-/// columns there are for each of them; and memory for two such matrices beside the given one, a great height or width costs nothing.
+/// Few rows are changed by pivots in rare columns, so that what they leave stays sparse (Markowitz, The elimination form of the
+/// inverse and its application to linear programming, 1957). It takes time by the entries, times a logarithm of the rows and
+/// columns that have one, and memory for two such matrices beside the given one. Rows and columns without an entry cost nothing.
 pub fn by_weight(alloc: Global, rows: &Rows) -> Result<Rows, AllocError>
     ensures rank { IfOk result (KeepsRank rows.now) }
     ensures shape { IfOk result (λ made. HasRarestFirst made.matrix) }
@@ -39,7 +39,7 @@ pub fn selecting_keeps_span()
     ensures { SelectingKeepsSpan }
 {}
 
-/// They have the same rank.
+/// Rows that are picked so have the same rank.
 pub fn selecting_keeps_rank()
     ensures { SelectingKeepsRank }
 {}
