@@ -20,7 +20,8 @@ use std::alloc::{AllocError, Global};
 ///
 /// Few rows are changed by pivots in rare columns, so that what they leave stays sparse (Markowitz, The elimination form of the
 /// inverse and its application to linear programming, 1957). It takes time by the entries, times a logarithm of the rows and
-/// columns that have one, and memory for two such matrices beside the given one. Rows and columns without an entry cost nothing.
+/// columns that have one; and memory for two such matrices beside the given one, or three if it has many more rows or columns than
+/// entries. Rows and columns without an entry cost nothing then.
 pub fn by_weight(alloc: Global, rows: &Rows) -> Result<Rows, AllocError>
     ensures rank { IfOk result (KeepsRank rows.now) }
     ensures shape { IfOk result (λ made. HasRarestFirst made.matrix) }
