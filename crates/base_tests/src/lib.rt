@@ -1,4 +1,4 @@
-//! Tests of the public calls of the base: residues, sparse rows, texts and streams.
+//! Tests of the public calls of the base: residues, sparse rows and their order, texts and streams.
 #![tactic(auto)]
 
 #[cfg(test)]

@@ -4,4 +4,5 @@ mod reading;
 mod residues;
 mod rows;
 mod streams;
+mod weights;
 mod writing;

@@ -1,0 +1,78 @@
+// Matrices with their rarest columns first, modulo 7.
+ghost use Rattle.sparse_rows.specs.declared.rows.TheConstants.{LARGEST_SIZE};
+
+use residue_words::Modulus;
+use sparse_rows::{LARGEST_SIZE, Rows};
+use std::alloc::Global;
+use std::test::Fail;
+use weight_order::by_weight;
+
+// Sizes and entries by rows.
+type Sized = (u32, u32, &'static [(u32, u32, u64)]);
+
+const LAST: u32 = LARGEST_SIZE - 1;
+
+// Three rows, of which the last stands first; the second column has the fewest entries.
+const ORDERED: &[(u32, u32, u64)] = &[(0, 1, 4), (1, 1, 3), (2, 0, 2), (2, 1, 1)];
+
+// What is given, and what it is made.
+const TABLE: &[(Sized, Sized)] = &[
+    // As high as wide, with as many entries in each column; higher; wider.
+    (
+        (2, 2, &[(0, 0, 1), (1, 1, 2)]),
+        (2, 2, &[(0, 1, 2), (1, 0, 1)]),
+    ),
+    (
+        (3, 2, &[(0, 0, 1), (0, 1, 2), (1, 0, 3), (2, 0, 4)]),
+        (3, 2, ORDERED),
+    ),
+    (
+        (2, 3, &[(0, 0, 1), (0, 1, 3), (0, 2, 4), (1, 0, 2)]),
+        (3, 2, ORDERED),
+    ),
+    // With rows and columns between them that have no entry, also very many.
+    (
+        (5, 9, &[(0, 1, 1), (0, 3, 2), (2, 1, 3), (4, 1, 4)]),
+        (3, 2, ORDERED),
+    ),
+    (
+        (
+            LARGEST_SIZE,
+            LARGEST_SIZE,
+            &[(0, 7, 1), (0, LAST, 2), (5, 7, 3), (LAST, 7, 4)],
+        ),
+        (3, 2, ORDERED),
+    ),
+    (
+        (
+            LARGEST_SIZE,
+            LARGEST_SIZE,
+            &[(7, 0, 1), (7, 5, 3), (7, LAST, 4), (LAST, 0, 2)],
+        ),
+        (3, 2, ORDERED),
+    ),
+    // Without entries.
+    ((0, 0, &[]), (0, 0, &[])),
+    ((3, 2, &[]), (0, 0, &[])),
+    ((LARGEST_SIZE, LARGEST_SIZE, &[]), (0, 0, &[])),
+];
+
+// Whether the first is made the second.
+fn is_made(alloc: Global, given: &Sized, wanted: &Sized) -> Result<bool, Fail> {
+    let (m, n, triples) = *given;
+    let Some(rows) = Rows::checked_from_triples(alloc, m, n, &Modulus::new(7), triples)? else {
+        return Ok(false);
+    };
+    let made = by_weight(alloc, &rows)?;
+    let entries = made.triples(alloc)?;
+    Ok((made.height(), made.width(), entries.as_slice()) == *wanted)
+}
+
+#[test]
+fn the_rarest_columns_come_first(rt: HostRuntime) -> Result<(), Fail> {
+    let alloc = rt.alloc();
+    for (k, (given, wanted)) in TABLE.iter().enumerate() {
+        assert!(rt; is_made(alloc, given, wanted)?, "row {k} of the table");
+    }
+    Ok(())
+}

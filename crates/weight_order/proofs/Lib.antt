@@ -1,0 +1,6 @@
+pub mod Example
+pub mod Keeping
+pub mod Selecting
+pub mod Shape
+pub mod Transposing
+pub mod Weights

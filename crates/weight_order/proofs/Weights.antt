@@ -1,0 +1,113 @@
+-- How many entries a row has, as a sum; and rows sorted by that.
+use Rattle.std.proofs.Common.{ℕ, zero, suc, ◌≡◌, ◌≢◌, ◌+◌, ◌-◌, ◌<◌, ◌≤◌, inl, inr, Ordering, Less, Equal, Greater, false, cond, eqb, List, [], ◌∷◌, length, map, slice_index, get_or, sym, refl, ap, ◌∙◌, arith}
+use Rattle.std.specs.List.{All, Contains, sum_by}
+use Rattle.std.specs.List.Sorted.{IsPermutation, IsSorted}
+use Rattle.std.specs.Ordering.{MatchOrdering, is_lt, nat_cmp, ordering_then}
+use Rattle.std.proofs.lemmas.Bool.{cases_eq, cond-true, cond-false, eq-eqb, ne_eqb}
+use Rattle.std.proofs.lemmas.Cmp.{ranked}
+use Rattle.std.proofs.lemmas.List.{get_or-map, length-map}
+use Rattle.std.proofs.lemmas.List.Sorted.{sum_by-IsPermutation}
+use Rattle.std.proofs.lemmas.List.Sums.{sum_by-cons}
+use Rattle.residue_words.specs.Matrix.{Matrix, IsMatrix, entry, row}
+use Rattle.residue_words.specs.Residues.{sum_below}
+use Rattle.residue_words.proofs.Lists.{place_in}
+use Rattle.residue_words.proofs.Sums.{sum_none, sum_support}
+use Rattle.sparse_rows.specs.Rows.{AreRising, support, support_from}
+use Rattle.weight_order.specs.declared.filled_rows.WeighedRow.{WeighedRow}
+use Rattle.weight_order.specs.Shape.{AreByWeight}
+
+-- 1 for an entry, and 0 for none
+abbrev pub counted : ℕ → ℕ
+counted x = cond (eqb x 0) 0 1
+
+-- as many columns as entries
+length_support : (k : ℕ) (xs : List ℕ) → length (support_from k xs) ≡ sum_by counted xs
+length_support k [] = refl
+length_support k (x ∷ xs) = elim (cases_eq x 0) [
+  | inl e ↦ omega (
+    arith,
+    ap length (cond-true (eqb x 0) (support_from (k + 1) xs) (k ∷ support_from (k + 1) xs) (eq-eqb x 0 e)),
+    length_support (k + 1) xs,
+    sum_by-cons counted x xs,
+    cond-true {A = ℕ} (eqb x 0) 0 1 (eq-eqb x 0 e),
+  )
+  | inr d ↦ omega (
+    arith,
+    ap length (cond-false (eqb x 0) (support_from (k + 1) xs) (k ∷ support_from (k + 1) xs) (ne_eqb x 0 d)),
+    length_support (k + 1) xs,
+    sum_by-cons counted x xs,
+    cond-false {A = ℕ} (eqb x 0) 0 1 (ne_eqb x 0 d),
+  )
+]
+
+-- the first term apart
+sum_first : (n : ℕ) (f : ℕ → ℕ) → sum_below (suc n) f ≡ f 0 + sum_below n (λ k. f (suc k))
+unfolding sum_below
+sum_first zero f = omega arith
+sum_first (suc n) f = omega (arith, sum_first n f)
+
+-- a sum over a list by its places
+sum_of_list : (f : ℕ → ℕ) (xs : List ℕ) → sum_by f xs ≡ sum_below (length xs) (λ k. f (slice_index xs k))
+sum_of_list f [] = sym (sum_none (λ k. f (slice_index [] k)))
+sum_of_list f (x ∷ xs) = omega (arith, sum_by-cons f x xs, sum_of_list f xs, sum_first (length xs) (λ k. f (slice_index (x ∷ xs) k)))
+
+-- the entries of a row are counted column by column
+pub weight_sum : {p : ℕ} {A : Matrix} → IsMatrix p A → (i : ℕ) → i < A.height → length (support (row A i)) ≡ sum_below A.width (λ j. counted (entry A i j))
+weight_sum {p} {A} m i l =
+    length_support 0 (row A i) ∙ sum_of_list counted (row A i) ∙ ap (λ n. sum_below n (λ j. counted (slice_index (row A i) j))) (m.each i l).len
+
+-- or over these columns alone, in any order
+pub picked_sum : (n : ℕ) (v : ℕ → ℕ) (filled order : List ℕ) → AreRising filled → ((k : ℕ) → k < length filled → slice_index filled k < n) →
+    ((j : ℕ) → j < n → v j ≢ 0 → Contains filled j) → IsPermutation filled order →
+    sum_below (length order) (λ i. counted (v (slice_index order i))) ≡ sum_below n (λ j. counted (v j))
+picked_sum n v filled order up below all moved =
+    let f : ℕ → ℕ = λ j. counted (v j) in
+    sym (sum_of_list f order) ∙ sum_by-IsPermutation f filled order moved ∙ sum_of_list f filled
+    ∙ sym (sum_support n (length filled) f (slice_index filled) below up (λ j l. elim (cases_eq (v j) 0) [
+      | inl e ↦ inl (cond-true {A = ℕ} (eqb (v j) 0) 0 1 (eq-eqb (v j) 0 e))
+      | inr d ↦ inr (place_in filled j (all j l d))
+    ]))
+
+-- rows as they are compared
+abbrev by_fields : WeighedRow → WeighedRow → Ordering
+by_fields x y = ordering_then (nat_cmp x.weight y.weight) (nat_cmp x.row y.row)
+
+no_heavier : (a b : ℕ) (r : Ordering) → is_lt (ordering_then (nat_cmp b a) r) ≡ false → a ≤ b
+no_heavier a b r is = go (nat_cmp b a) (ranked b a (nat_cmp b a) refl) is
+  where
+    go : (o : Ordering) → MatchOrdering o (b < a) (b ≡ a) (a < b) → is_lt (ordering_then o r) ≡ false → a ≤ b
+    go Less m e = absurd (cc)
+    go Equal m e = omega (arith, m)
+    go Greater m e = omega (arith, m)
+
+abbrev no_row : WeighedRow
+no_row = record { weight = 0; row = 0 }
+
+weights_rise : (list : List WeighedRow) → IsSorted by_fields list → (k n : ℕ) → k + n < length list → (get_or list k no_row).weight ≤ (get_or list (k + n) no_row).weight
+weights_rise list is k zero l = let same : k + zero ≡ k = omega arith in omega (arith, ap (λ t. (get_or list t no_row).weight) same)
+weights_rise list is k (suc n) l =
+    let same : k + suc n ≡ k + n + 1 = omega arith in
+    let x : WeighedRow = get_or list (k + n) no_row in
+    let y : WeighedRow = get_or list (k + n + 1) no_row in
+    omega (
+      arith,
+      weights_rise list is k n (omega arith),
+      no_heavier x.weight y.weight (nat_cmp y.row x.row) (is (k + n) no_row (omega arith) (omega arith)),
+      ap (λ t. (get_or list t no_row).weight) same,
+    )
+
+-- so the rows of a sorted list are by weight
+pub by_weight_of : (A : Matrix) (list : List WeighedRow) → IsSorted by_fields list → All (λ w. w.weight ≡ length (support (row A w.row))) list →
+    AreByWeight A (map (λ (w : WeighedRow). w.row) list)
+by_weight_of A list is weights k t less l =
+    let inside : t < length list = omega (arith, length-map list (λ (w : WeighedRow). w.row)) in
+    let at : (s : ℕ) → s < length list → length (support (row A (slice_index (map (λ (w : WeighedRow). w.row) list) s))) ≡ (get_or list s no_row).weight =
+    λ s b. ap (λ i. length (support (row A i))) (get_or-map (λ (w : WeighedRow). w.row) list s no_row 0 b) ∙ sym (weights s no_row b) in
+    let same : k + (t - k) ≡ t = omega arith in
+    omega (
+      arith,
+      at k (omega arith),
+      at t inside,
+      weights_rise list is k (t - k) (omega arith),
+      ap (λ s. (get_or list s no_row).weight) same,
+    )

@@ -1,0 +1,4 @@
+pub mod Example
+pub mod Keeping
+pub mod Laws
+pub mod Shape

@@ -1,0 +1,34 @@
+-- Matrices whose rows or columns stand by how many entries they have.
+use Rattle.std.specs.Prelude.{◌≡◌, ◌<◌, ◌≤◌, ℕ, List, length, slice_index}
+use Rattle.residue_words.specs.Matrix.{Matrix, row}
+use Rattle.sparse_rows.specs.Rows.{AreFilled, IsFilled, selected, support, transposed}
+use Rattle.weight_order.specs.Keeping.{AreFilledInSomeOrder}
+
+-- no row that is named has fewer entries than one that is named before it
+abbrev pub AreByWeight : Matrix → List ℕ → Type 0
+AreByWeight A rows = (k t : ℕ) → k < t → t < length rows →
+    length (support (row A (slice_index rows k))) ≤ length (support (row A (slice_index rows t)))
+
+-- the rows of C are the filled rows of A, by weight
+pub record HasRowsByWeight (A C : Matrix) : Type 0 where
+  pub order : List ℕ
+  pub filled : AreFilledInSomeOrder A order
+  pub by_weight : AreByWeight A order
+  pub rows : C ≡ selected A order
+
+-- each row of A has an entry, and none has fewer than one before it
+pub record HasRisingRows (A : Matrix) : Type 0 where
+  pub filled : (i : ℕ) → i < A.height → IsFilled A i
+  pub rising : (i k : ℕ) → i < k → k < A.height →
+      length (support (row A i)) ≤ length (support (row A k))
+
+-- besides, the rows of C are no more than the columns that have an entry
+pub record HasFewRisingRows (C : Matrix) : Type 0 where
+  pub rising : HasRisingRows C
+  pub few : (columns : List ℕ) → AreFilled (transposed C) columns → C.height ≤ length columns
+
+-- each row and each column of S has an entry; the columns are no more than the rows, and the rarest come first
+pub record HasRarestFirst (S : Matrix) : Type 0 where
+  pub rows : (i : ℕ) → i < S.height → IsFilled S i
+  pub columns : HasRisingRows (transposed S)
+  pub tall : S.width ≤ S.height
