@@ -1,14 +1,15 @@
 // The least alive column by levels: a walk leaves out the columns whose level is above that of every candidate.
-ghost use Rattle.std.specs.Prelude.{◌≡◌, ◌<◌, ◌≤◌, ◌++◌, ◌∷◌, ℕ, [], length, slice_index, IsTrue, IfOk, false};
+ghost use Rattle.std.specs.Prelude.{◌≡◌, ◌<◌, ◌≤◌, ◌++◌, ◌∷◌, ℕ, [], length, slice_index, IsTrue, IfNone, IfOk, IfSome, false};
 ghost use Rattle.std.specs.List.{Contains};
-ghost use Rattle.pivot_table.specs.History.{Alive, Grown, HasCol, HasRow, row_weight};
+ghost use Rattle.pivot_table.specs.History.{Alive, Dead, Grown, HasCol, HasRow, LeastAlive, row_weight};
+ghost use Rattle.optimistic_search.specs.Budget.{StaysUnbounded};
 ghost use Rattle.optimistic_search.specs.Indexed.{IsAliveAt, LeadsTo, support_of};
 ghost use Rattle.optimistic_search.specs.Levels.{AreLevels, FreeAreLow, IsLevel, IsLow, IsOut, LowAreBegun, LowAreTaken};
 ghost use Rattle.sparse_rows.specs.Rows.{AreBelow};
 ghost use Rattle.optimistic_search.specs.MarkedColumns.{AllBetween, Grows};
 ghost use Rattle.optimistic_search.specs.Reached.{AreReached};
-ghost use Rattle.optimistic_search.specs.Walked.{IsLeastAlive};
 
+use crate::budget::Budget;
 use crate::indexed_pairs::IndexedPairs;
 use crate::levels::Levels;
 use crate::marked_columns::MarkedColumns;
@@ -114,16 +115,26 @@ fn begin_at(pivots: &IndexedPairs, levels: &Levels, marks: &mut MarkedColumns, r
 }
 
 // Marks what column c leads to in a step, up to the bound's level.
-fn take_up(pivots: &IndexedPairs, levels: &Levels, marks: &mut MarkedColumns, c: u32, bound: u32)
+fn take_up(
+    pivots: &IndexedPairs,
+    levels: &Levels,
+    marks: &mut MarkedColumns,
+    c: u32,
+    bound: u32,
+    budget: &mut Budget,
+)
     requires inside { c < pivots.now.rows.matrix.width }
     requires width { marks.old.width ≡ pivots.now.rows.matrix.width }
     requires long { length levels.now ≡ pivots.now.rows.matrix.width }
     ensures width { marks.new.width ≡ marks.old.width }
     ensures grows { Grows (LeadsTo pivots.now c) marks.old.list marks.new.list }
     ensures all { LowAreTaken pivots.now c (IsLow levels.now bound) marks.new.list }
+    ensures unbounded { StaysUnbounded budget.old budget.new }
 {
     if let Some(row) = pivots.find(c) {
-        add_all_low(levels, marks, pivots.rows().cols(row), bound);
+        let cols = pivots.rows().cols(row);
+        budget.spend(cols.len());
+        add_all_low(levels, marks, cols, bound);
     }
 }
 
@@ -169,8 +180,8 @@ fn pass_over(
     at
 }
 
-// Takes up the marked columns until nothing is left to take up or no candidate before place `sure` is left. Answers the place
-// of the first candidate, or `sure`.
+// Takes up the marked columns until nothing is left to take up, no candidate before place `sure` is left, or the steps are spent.
+// Answers the place of the first candidate, or `sure`.
 fn go_on(
     pivots: &IndexedPairs,
     levels: &Levels,
@@ -178,6 +189,7 @@ fn go_on(
     row: u32,
     bound: u32,
     sure: usize,
+    budget: &mut Budget,
 ) -> usize
     requires inside { row < pivots.now.rows.matrix.height }
     requires width { marks.old.width ≡ pivots.now.rows.matrix.width }
@@ -190,23 +202,33 @@ fn go_on(
     requires begun { LowAreBegun pivots.now row (IsLow levels.now bound) marks.old.list }
     ensures width { marks.new.width ≡ marks.old.width }
     ensures before { (k : ℕ) → k < result → ¬ IsAliveAt pivots.now row k }
-    ensures there { result < sure → IsAliveAt pivots.now row result }
+    ensures there { 0 < budget.new → result < sure → IsAliveAt pivots.now row result }
     ensures within { result ≤ sure }
+    ensures unbounded { StaysUnbounded budget.old budget.new }
 {
     let cols = pivots.rows().cols(row);
     let mut passed = pass_over(pivots, marks, cols, 0, sure);
     let mut taken = 0;
     while passed < sure && taken < marks.len() {
+        if budget.is_spent() {
+            return passed;
+        }
         let c = marks.at(taken);
-        take_up(pivots, levels, marks, c, bound);
+        take_up(pivots, levels, marks, c, bound, budget);
         taken += 1;
         passed = pass_over(pivots, marks, cols, passed, sure);
     }
     passed
 }
 
-// The place in the row's support of its first alive column, or the support's length.
-fn first_alive(pivots: &IndexedPairs, levels: &Levels, marks: &mut MarkedColumns, row: u32) -> usize
+// The place in the row's support of its first alive column, or the support's length, unless the steps are spent.
+fn first_alive(
+    pivots: &IndexedPairs,
+    levels: &Levels,
+    marks: &mut MarkedColumns,
+    row: u32,
+    budget: &mut Budget,
+) -> usize
     requires inside { row < pivots.now.rows.matrix.height }
     requires fresh { ¬ HasRow pivots.now.pairs row }
     requires width { marks.old.width ≡ pivots.now.rows.matrix.width }
@@ -214,61 +236,88 @@ fn first_alive(pivots: &IndexedPairs, levels: &Levels, marks: &mut MarkedColumns
     requires none { marks.old.list ≡ [] }
     ensures width { marks.new.width ≡ marks.old.width }
     ensures before { (k : ℕ) → k < result → ¬ IsAliveAt pivots.now row k }
-    ensures there { result < row_weight pivots.now.rows.matrix row → IsAliveAt pivots.now row result }
+    ensures there { 0 < budget.new → result < row_weight pivots.now.rows.matrix row →
+        IsAliveAt pivots.now row result }
     ensures within { result ≤ row_weight pivots.now.rows.matrix row }
+    ensures unbounded { StaysUnbounded budget.old budget.new }
 {
     let cols = pivots.rows().cols(row);
     let sure = sure_place(pivots, levels, cols);
     let bound = highest(pivots, levels, cols, sure);
     begin_at(pivots, levels, marks, row, bound);
-    go_on(pivots, levels, marks, row, bound, sure)
+    go_on(pivots, levels, marks, row, bound, sure, budget)
 }
 
 // Pairs of a matrix, with the level of each column: the longest path of steps that leads to it. A column that no step leads to is
-// alive without a walk, and a path to a column goes over lower levels only. Contracts see the matrix and the pairs.
+// alive without a walk, and a path to a column goes over lower levels only. Each entry of a pivot row that is looked at is a step.
+// Contracts see the matrix, the pairs, and how many more steps may be taken; once they are spent, nothing is known of the rows.
 // It takes 13 bytes a column and 8 bytes a pair that there can be.
 #[derive(Drop)]
 pub(crate) struct LeveledWalk<'a> {
     pivots: IndexedPairs<'a>,
     marks: MarkedColumns,
     levels: Levels,
+    budget: Budget,
 }
 
 impl<'a> Model for LeveledWalk<'a> {
-    ghost use Rattle.optimistic_search.specs.Indexed.{Indexed};
-    ghost use Rattle.optimistic_search.specs.Levels.{IsAtRest};
+    ghost use Rattle.optimistic_search.specs.Levels.{IsAtRest, Leveled};
 
-    ghost Value = { Indexed };
+    ghost Value = { Leveled };
 
-    ghost view = { λ l. record { rows = l.pivots.rows; pairs = l.pivots.pairs } };
+    ghost view = { λ l. record { rows = l.pivots.rows; pairs = l.pivots.pairs; left = l.budget } };
 
-    ghost invariant = { λ l. IsAtRest l.pivots l.marks l.levels };
+    ghost invariant = { λ l. IsAtRest l.pivots l.marks l.levels l.budget };
 }
 
 impl<'a> LeveledWalk<'a> {
-    // No pair.
-    pub(crate) fn new(alloc: Global, rows: &'a Rows) -> Result<Self, AllocError>
-        ensures { IfOk result (λ l. l ≡ record { rows = rows.now; pairs = [] }) }
+    // No pair, and a budget of this many steps; the largest number stands for any.
+    pub(crate) fn new(alloc: Global, rows: &'a Rows, most: u64) -> Result<Self, AllocError>
+        ensures rows { IfOk result (λ l. l.rows ≡ rows.now) }
+        ensures pairs { IfOk result (λ l. l.pairs ≡ []) }
+        ensures unbounded { IfOk result (λ l. StaysUnbounded most l.left) }
     {
         Ok(LeveledWalk {
             pivots: IndexedPairs::new(alloc, rows)?,
             marks: MarkedColumns::new(alloc, rows.width())?,
             levels: Levels::new(alloc, rows.width())?,
+            budget: Budget::of(most),
         })
     }
 
-    // The least alive column of a row; None where it is dead.
+    // Whether more steps were taken than the budget has.
+    pub(crate) fn is_spent(&self) -> bool
+        ensures yes { IsTrue result → self.now.left ≡ 0 }
+        ensures no { result ≡ false → 0 < self.now.left }
+    {
+        self.budget.is_spent()
+    }
+
+    // The least alive column of a row; None where it is dead, or the steps are spent.
     pub(crate) fn least_alive(&mut self, row: u32) -> Option<u32>
-        requires { row < self.old.rows.matrix.height }
-        ensures same { self.new ≡ self.old }
-        ensures column { IsLeastAlive self.old.rows.matrix self.old.pairs row result }
+        requires inside { row < self.old.rows.matrix.height }
+        requires left { 0 < self.old.left }
+        ensures rows { self.new.rows ≡ self.old.rows }
+        ensures pairs { self.new.pairs ≡ self.old.pairs }
+        ensures some { IfSome result (LeastAlive self.old.rows.matrix self.old.pairs row) }
+        ensures none { IfNone result (0 < self.new.left → Dead self.old.rows.matrix self.old.pairs row) }
+        ensures unbounded { StaysUnbounded self.old.left self.new.left }
     {
         if !self.pivots.has_candidate(row) {
             return None;
         }
         let cols = self.pivots.rows().cols(row);
-        let at = first_alive(&self.pivots, &self.levels, &mut self.marks, row);
+        let at = first_alive(
+            &self.pivots,
+            &self.levels,
+            &mut self.marks,
+            row,
+            &mut self.budget,
+        );
         self.marks.clear();
+        if self.budget.is_spent() {
+            return None;
+        }
         if at >= cols.len() {
             return None;
         }
@@ -279,10 +328,20 @@ impl<'a> LeveledWalk<'a> {
     pub(crate) fn push(&mut self, pair: Pair)
         requires grown { Grown self.old.rows.matrix self.old.pairs }
         requires alive { Alive self.old.rows.matrix self.old.pairs pair.row pair.col }
-        ensures { self.new ≡ record self.old { pairs = self.old.pairs ++ pair ∷ [] } }
+        ensures rows { self.new.rows ≡ self.old.rows }
+        ensures pairs { self.new.pairs ≡ self.old.pairs ++ pair ∷ [] }
+        ensures unbounded { StaysUnbounded self.old.left self.new.left }
     {
         self.pivots.push(pair);
+        if self.budget.is_spent() {
+            return;
+        }
         self.marks.mark(pair.col);
-        raise_all(&self.pivots, &mut self.levels, &mut self.marks);
+        raise_all(
+            &self.pivots,
+            &mut self.levels,
+            &mut self.marks,
+            &mut self.budget,
+        );
     }
 }

@@ -3,9 +3,11 @@ ghost use Rattle.std.specs.Prelude.{◌≡◌, ◌≢◌, ◌<◌, ◌≤◌, �
 ghost use Rattle.std.specs.List.{Contains};
 ghost use Rattle.sparse_rows.specs.declared.rows.TheConstants.{LARGEST_SIZE};
 ghost use Rattle.pivot_table.specs.History.{Grown, HasCol};
+ghost use Rattle.optimistic_search.specs.Budget.{StaysUnbounded};
 ghost use Rattle.optimistic_search.specs.Levels.{AreLevels, AreRaised, AreRaisedBut};
 ghost use Rattle.optimistic_search.specs.Raising.{Stays, work};
 
+use crate::budget::Budget;
 use crate::indexed_pairs::IndexedPairs;
 use crate::levels::Levels;
 use crate::marked_columns::MarkedColumns;
@@ -49,7 +51,13 @@ fn raise_column(
 }
 
 // Raises what column c leads to in a step above c.
-fn raise_steps(pivots: &IndexedPairs, levels: &mut Levels, marks: &mut MarkedColumns, c: u32)
+fn raise_steps(
+    pivots: &IndexedPairs,
+    levels: &mut Levels,
+    marks: &mut MarkedColumns,
+    c: u32,
+    budget: &mut Budget,
+)
     requires grown { Grown pivots.now.rows.matrix pivots.now.pairs }
     requires inside { c < pivots.now.rows.matrix.width }
     requires width { marks.old.width ≡ pivots.now.rows.matrix.width }
@@ -58,6 +66,7 @@ fn raise_steps(pivots: &IndexedPairs, levels: &mut Levels, marks: &mut MarkedCol
     ensures width { marks.new.width ≡ marks.old.width }
     ensures levels { AreRaised pivots.now.rows.matrix pivots.now.pairs levels.new marks.new.list }
     ensures work { work pivots.now levels.new marks.new ≤ work pivots.now levels.old marks.old }
+    ensures unbounded { StaysUnbounded budget.old budget.new }
 {
     let level = levels.at(c);
     if let Some(row) = pivots.find(c) {
@@ -65,22 +74,32 @@ fn raise_steps(pivots: &IndexedPairs, levels: &mut Levels, marks: &mut MarkedCol
         let rows = pivots.rows();
         let _ = rows.height();
         let cols = rows.cols(row);
+        budget.spend(cols.len());
         for k in 0..cols.len() {
             raise_column(pivots, levels, marks, c, level, cols[k]);
         }
     }
 }
 
-// Raises levels until they rise along each step.
-pub(crate) fn raise_all(pivots: &IndexedPairs, levels: &mut Levels, marks: &mut MarkedColumns)
+// Raises levels until they rise along each step, or the steps are spent.
+pub(crate) fn raise_all(
+    pivots: &IndexedPairs,
+    levels: &mut Levels,
+    marks: &mut MarkedColumns,
+    budget: &mut Budget,
+)
     requires grown { Grown pivots.now.rows.matrix pivots.now.pairs }
     requires width { marks.old.width ≡ pivots.now.rows.matrix.width }
     requires levels { AreRaised pivots.now.rows.matrix pivots.now.pairs levels.old marks.old.list }
     ensures width { marks.new.width ≡ marks.old.width }
-    ensures none { marks.new.list ≡ [] }
-    ensures levels { AreLevels pivots.now.rows.matrix pivots.now.pairs levels.new }
+    ensures none { 0 < budget.new → marks.new.list ≡ [] }
+    ensures levels { 0 < budget.new → AreLevels pivots.now.rows.matrix pivots.now.pairs levels.new }
+    ensures unbounded { StaysUnbounded budget.old budget.new }
 {
     while let Some(c) = marks.pop() {
-        raise_steps(pivots, levels, marks, c);
+        raise_steps(pivots, levels, marks, c, budget);
+        if budget.is_spent() {
+            return;
+        }
     }
 }

@@ -8,7 +8,7 @@ use Rattle.optimistic_search.proofs.Leveling.{sure_alive}
 use Rattle.optimistic_search.proofs.leveled_walk.first_alive.Goals as goal
 
 pub returns-clause-there : goal.returns-clause-there
-returns-clause-there c = λ inside.
+returns-clause-there c = λ left inside.
     let A = c.args.pivots.now.rows.matrix in
     let h = c.args.pivots.now.pairs in
     let r = c.args.row in
@@ -17,7 +17,7 @@ returns-clause-there c = λ inside.
     let at = c.go_on.result in
     let cols_are : c.cols-cols.result.now ≡ support (row A r) = c.cols-cols.ensures.support ∙ ap (λ (m : ResidueMatrix). support (row m.matrix r)) c.rows.ensures.value in
     elim (cases_lt at sure) [
-      | inl less ↦ c.go_on.ensures.there less
+      | inl less ↦ c.go_on.ensures.there left less
       | inr ge ↦
           let e : sure ≡ at = omega (arith, c.go_on.ensures.within) in
           let here : sure < length (support (row A r)) = omega arith in

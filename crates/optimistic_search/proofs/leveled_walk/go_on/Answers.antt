@@ -26,6 +26,7 @@ loop-passed-init c =
         within = over.ensures.high;
         next = λ l. (subst (λ xs. ¬ Contains marked (slice_index xs over.result)) cols_are (over.ensures.unmarked l), subst (λ xs. ¬ HasCol h (slice_index xs over.result)) cols_are (over.ensures.free l));
       },
+      λ e. e,
     )
 
 pub loop-passed-preserved : goal.loop-passed-preserved
@@ -40,10 +41,11 @@ loop-passed-preserved c =
       bounded_more c.loop-passed.invariant.1 (omega (arith, c.len.ensures.value, c.if-taken-len.true)) c.at-c.result c.at-c.ensures.value c.take_up.ensures.grows c.take_up.ensures.all over.result over.ensures.high
           (λ k low l. subst (λ xs. Contains new (slice_index xs k) ⊎ HasCol h (slice_index xs k)) cols_are (over.ensures.passed k low l))
           (λ l. (subst (λ xs. ¬ Contains new (slice_index xs over.result)) cols_are (over.ensures.unmarked l), subst (λ xs. ¬ HasCol h (slice_index xs over.result)) cols_are (over.ensures.free l))),
+      λ e. c.take_up.ensures.unbounded (c.loop-passed.invariant.2 e),
     )
 
 pub returns-else-taken-len-clause-there : goal.returns-else-taken-len-clause-there
-returns-else-taken-len-clause-there c = λ l.
+returns-else-taken-len-clause-there c = λ left l.
     let A = c.args.pivots.now.rows.matrix in
     let h = c.args.pivots.now.pairs in
     let w = c.loop-passed.invariant.1 in
@@ -58,3 +60,6 @@ returns-else-taken-len-clause-before c = passed_dead c.loop-passed.invariant.1
 
 pub returns-after-loop-passed-clause-before : goal.returns-after-loop-passed-clause-before
 returns-after-loop-passed-clause-before c = passed_dead c.loop-passed.invariant.1
+
+pub returns-then-is_spent-clause-before : goal.returns-then-is_spent-clause-before
+returns-then-is_spent-clause-before c = passed_dead c.loop-passed.invariant.1

@@ -1,4 +1,5 @@
 use Rattle.std.proofs.Common.{◌≡◌, ◌-◌}
+use Rattle.optimistic_search.specs.Budget.{StaysUnbounded}
 use Rattle.optimistic_search.specs.Levels.{IsBoundedWalk, limits}
 use Rattle.optimistic_search.specs.Reached.{progress}
 use Rattle.optimistic_search.proofs.leveled_walk.go_on.Given as goal
@@ -6,6 +7,7 @@ use Rattle.optimistic_search.proofs.leveled_walk.go_on.Given as goal
 abbrev pub invariant-loop-passed : goal.invariant-loop-passed
 invariant-loop-passed l = (l.marks.width ≡ l.fn.marks.width) × IsBoundedWalk l.pivots.rows.matrix l.pivots.pairs l.row
     (limits l.levels l.bound l.sure) (progress l.marks.list l.taken l.passed)
+    × StaysUnbounded l.fn.budget l.budget
 
 abbrev pub decreases-loop-passed : goal.decreases-loop-passed
 decreases-loop-passed l = l.fn.marks.width - l.taken

@@ -11,13 +11,13 @@ pub returns-in-Some-clause-grows : goal.returns-in-Some-clause-grows
 returns-in-Some-clause-grows c =
     let A = c.args.pivots.now.rows.matrix in
     let s = c.in-Some.row in
-    let cols_are : c.cols.result.now ≡ support (row A s) = c.cols.ensures.support ∙ ap (λ (m : ResidueMatrix). support (row m.matrix s)) c.rows.ensures.value in
+    let cols_are : c.cols-cols.result.now ≡ support (row A s) = c.cols-cols.ensures.support ∙ ap (λ (m : ResidueMatrix). support (row m.matrix s)) c.rows.ensures.value in
     grows_weaker c.add_all_low.ensures.grows (λ d m. (s, c.in-Some.ensures.0, of_support c.rows.ensures.sound s c.in-Some.ensures.1 d (subst (λ xs. Contains xs d) cols_are m)))
 
 pub returns-in-Some-clause-all : goal.returns-in-Some-clause-all
 returns-in-Some-clause-all c = λ t d here n low.
     let A = c.args.pivots.now.rows.matrix in
     let s = c.in-Some.row in
-    let cols_are : c.cols.result.now ≡ support (row A s) = c.cols.ensures.support ∙ ap (λ (m : ResidueMatrix). support (row m.matrix s)) c.rows.ensures.value in
+    let cols_are : c.cols-cols.result.now ≡ support (row A s) = c.cols-cols.ensures.support ∙ ap (λ (m : ResidueMatrix). support (row m.matrix s)) c.rows.ensures.value in
     c.add_all_low.ensures.all d (subst (λ xs. Contains xs d) (sym cols_are)
     (in_support c.rows.ensures.sound s c.in-Some.ensures.1 d (subst (λ x. Nonzero A x d) (c.in-Some.ensures.2 t here) n))) low
