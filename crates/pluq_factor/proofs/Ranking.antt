@@ -1,5 +1,5 @@
 -- The rank as pivots that are counted, round by round.
-use Rattle.std.proofs.Common.{ℕ, ◌≡◌, ◌+◌, ◌-◌, ◌*◌, ◌%◌, ◌<◌, ◌≤◌, inl, inr, List, [], length, min, slice_index, sym, ap, subst, ◌∙◌, arith, mul-zero}
+use Rattle.std.proofs.Common.{Bool, ℕ, refl, ◌≡◌, ◌+◌, ◌-◌, ◌*◌, ◌%◌, ◌<◌, ◌≤◌, inl, inr, List, [], length, min, slice_index, sym, ap, subst, ◌∙◌, arith, mul-zero}
 use native.Mathlib.Nat.{zero-mod}
 use Rattle.std.proofs.lemmas.List.{get_or-replicate}
 use Rattle.std.proofs.lemmas.Bool.{cases_eq, cases_lt}
@@ -18,6 +18,7 @@ use Rattle.triangular_solve.specs.Triangle.{TriangleState}
 use Rattle.schur_rows.specs.Laws.{RoundRank}
 use Rattle.schur_rows.specs.Round.{FitsComplement}
 use Rattle.schur_rows.proofs.Distinct.{triangular_narrow, triangular_short}
+use Rattle.weight_order.specs.Keeping.{KeepsRank}
 use Rattle.pluq_factor.specs.Counted.{LeavesRank}
 use Rattle.pluq_factor.specs.declared.round_pivots.Counted.{Counted}
 
@@ -41,37 +42,44 @@ rank_least {p} {A} {r} prime rank =
     (omega (arith, rank.2), omega (arith, rank.2, form.width))
 
 -- a round's pivots are counted
-pub counted_round : RoundRank → {R B : ResidueMatrix} {t : TriangleState} {n : ℕ} → IsMatrix R.modulus R.matrix → t.rows ≡ R → Triangular R.matrix t.pairs → n ≡ length t.pairs → FitsComplement t B →
-    (IsPrime t.rows.modulus → IsComplement t.rows.modulus t.rows.matrix t.pairs B.matrix) → LeavesRank R (record { count = n; rest = B })
-counted_round law {R} {B} {t} {n} sound same order count fits left =
+pub counted_round : RoundRank → {R B : ResidueMatrix} {t : TriangleState} {n : ℕ} {s : Bool} → IsMatrix R.modulus R.matrix → t.rows ≡ R → Triangular R.matrix t.pairs → n ≡ length t.pairs →
+    FitsComplement t B → (IsPrime t.rows.modulus → IsComplement t.rows.modulus t.rows.matrix t.pairs B.matrix) → LeavesRank R (record { count = n; rest = B; searches = s })
+counted_round law {R} {B} {t} {n} {s} sound same order count fits left =
     let tri : Triangular t.rows.matrix t.pairs = subst (λ (R : ResidueMatrix). Triangular R.matrix t.pairs) (sym same) order in
-    let at : LeavesRank t.rows (record { count = n; rest = B }) = record {
+    let at : LeavesRank t.rows (record { count = n; rest = B; searches = s }) = record {
       modulus = fits.modulus;
-      height = fits.height;
-      width = fits.width;
       at_most_height = omega (arith, triangular_short tri);
       at_most_width = omega (arith, triangular_narrow tri);
       rank = λ prime r below. subst (λ n. HasRank t.rows.modulus t.rows.matrix (n + r)) (sym count)
           (law t.rows.modulus t.rows.matrix t.pairs B.matrix r prime (subst (λ (R : ResidueMatrix). IsMatrix R.modulus R.matrix) (sym same) sound) tri (left prime) below);
     } in
-    subst (λ R. LeavesRank R (record { count = n; rest = B })) same at
+    subst (λ R. LeavesRank R (record { count = n; rest = B; searches = s })) same at
 
--- one round more: for a prime modulus its count fits, since what it leaves has a rank
-pub counted_more : {R : ResidueMatrix} {c d : Counted} {most more : ℕ} → LeavesRank R c → LeavesRank c.rest d → most ≡ min R.matrix.height R.matrix.width → more ≡ min d.count (most - c.count) →
-    LeavesRank R (record { count = c.count + more; rest = d.rest })
-counted_more {R} {c} {d} {most} {more} first second small few =
+-- before the first round
+pub counted_none : {R : ResidueMatrix} {s : Bool} → LeavesRank R (record { count = 0; rest = R; searches = s })
+counted_none {R} = record {
+    modulus = refl;
+    at_most_height = omega (arith);
+    at_most_width = omega (arith);
+    rank = λ prime r below. let e : r ≡ 0 + r = omega (arith) in subst (HasRank R.modulus R.matrix) e below;
+  }
+
+-- one round more, and what it leaves in another order: for a prime modulus its count fits, since what it leaves has a rank
+pub counted_more : {R S : ResidueMatrix} {c d : Counted} {most more : ℕ} {s : Bool} → LeavesRank R c → LeavesRank c.rest d → KeepsRank d.rest S → most ≡ min R.matrix.height R.matrix.width →
+    more ≡ min d.count (most - c.count) → LeavesRank R (record { count = c.count + more; rest = S; searches = s })
+counted_more {R} {S} {c} {d} {most} {more} {s} first second kept small few =
     let p : ℕ = R.modulus in
     let high : c.count ≤ R.matrix.height = first.at_most_height in
     let wide : c.count ≤ R.matrix.width = first.at_most_width in
     let below : IsPrime p → (r : ℕ) → HasRank p d.rest.matrix r → HasRank p c.rest.matrix (d.count + r) = subst (λ p. IsPrime p → (r : ℕ) → HasRank p d.rest.matrix r → HasRank p c.rest.matrix (d.count + r)) first.modulus second.rank in
+    let modulus : d.rest.modulus ≡ p = second.modulus ∙ first.modulus in
+    let ordered : IsPrime p → (r : ℕ) → HasRank p S.matrix r → HasRank p d.rest.matrix r = subst (λ p. IsPrime p → (r : ℕ) → HasRank p S.matrix r → HasRank p d.rest.matrix r) modulus kept.rank in
     record {
-      modulus = second.modulus ∙ first.modulus;
-      height = second.height ∙ first.height;
-      width = second.width ∙ first.width;
+      modulus = kept.modulus ∙ modulus;
       at_most_height = omega (arith, high, wide, small, few);
       at_most_width = omega (arith, high, wide, small, few);
       rank = λ prime r rest.
-          let whole : HasRank p R.matrix (c.count + (d.count + r)) = first.rank prime (d.count + r) (below prime r rest) in
+          let whole : HasRank p R.matrix (c.count + (d.count + r)) = first.rank prime (d.count + r) (below prime r (ordered prime r rest)) in
           let least = rank_least prime whole in
           let e : c.count + (d.count + r) ≡ c.count + more + r = omega (arith, least.0, least.1, small, few) in
           subst (HasRank p R.matrix) e whole;
@@ -106,18 +114,16 @@ zero_rank {p} {Z} {r} prime none rank =
     ]
 
 -- a round's pivots, and the rank of what they leave, which is not kept
-pub counted_left : {R Z : ResidueMatrix} {t : TriangleState} {n h w most more total : ℕ} (left : ℕ) → IsMatrix R.modulus R.matrix → t.rows ≡ R → Triangular t.rows.matrix t.pairs → n ≡ length t.pairs →
+pub counted_left : {R Z : ResidueMatrix} {t : TriangleState} {n h w most more total : ℕ} {s : Bool} (left : ℕ) → IsMatrix R.modulus R.matrix → t.rows ≡ R → Triangular t.rows.matrix t.pairs → n ≡ length t.pairs →
     (IsPrime t.rows.modulus → HasRank t.rows.modulus t.rows.matrix (length t.pairs + left)) → most ≡ min h w → more ≡ min left (most - n) → total ≡ n + more →
-    Z.modulus ≡ R.modulus → Z.matrix ≡ with_zeros (record { height = 0; width = w; rows = [] }) h → h ≡ R.matrix.height → w ≡ R.matrix.width → LeavesRank R (record { count = total; rest = Z })
-counted_left {R} {Z} {t} {n} {h} {w} {most} {more} {total} left sound same tri count rank small few sum modulus zeros_are high wide =
+    Z.modulus ≡ R.modulus → Z.matrix ≡ with_zeros (record { height = 0; width = w; rows = [] }) h → h ≡ R.matrix.height → w ≡ R.matrix.width → LeavesRank R (record { count = total; rest = Z; searches = s })
+counted_left {R} {Z} {t} {n} {h} {w} {most} {more} {total} {s} left sound same tri count rank small few sum modulus zeros_are high wide =
     let short = triangular_short tri in
     let narrow = triangular_narrow tri in
     let hs : t.rows.matrix.height ≡ R.matrix.height = ap (λ (R : ResidueMatrix). R.matrix.height) same in
     let ws : t.rows.matrix.width ≡ R.matrix.width = ap (λ (R : ResidueMatrix). R.matrix.width) same in
     record {
       modulus = modulus;
-      height = ap (λ (M : Matrix). M.height) zeros_are ∙ omega (arith, high);
-      width = ap (λ (M : Matrix). M.width) zeros_are ∙ wide;
       at_most_height = omega (arith, short, narrow, hs, ws, count, small, few, sum, high, wide);
       at_most_width = omega (arith, short, narrow, hs, ws, count, small, few, sum, high, wide);
       rank = λ prime r below.
@@ -131,3 +137,7 @@ counted_left {R} {Z} {t} {n} {h} {w} {most} {more} {total} left sound same tri c
     nothing : (i j : ℕ) → i < h → entry Z.matrix i j ≡ 0
     nothing i j l =
         ap (λ (M : Matrix). entry M i j) zeros_are ∙ ap (λ v. slice_index v j) (get_or-replicate h i (zeros w) [] l) ∙ zeros_at w j
+
+-- the rank of a matrix in another order
+pub rank_kept : {R S : ResidueMatrix} {r : ℕ} → KeepsRank R S → (IsPrime S.modulus → HasRank S.modulus S.matrix r) → IsPrime R.modulus → HasRank R.modulus R.matrix r
+rank_kept {R} {S} {r} kept rank prime = kept.rank prime r (subst (λ p. IsPrime p → HasRank p S.matrix r) kept.modulus rank prime)

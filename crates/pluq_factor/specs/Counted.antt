@@ -5,11 +5,9 @@ use Rattle.row_space.specs.Echelon.{HasRank}
 use Rattle.sparse_rows.specs.Rows.{ResidueMatrix}
 use Rattle.pluq_factor.specs.declared.round_pivots.Counted.{Counted}
 
--- a matrix of these sizes is left, whose rank with the count is that of the matrix
+-- the rank of what is left, with the count, is that of the matrix
 pub record LeavesRank (R : ResidueMatrix) (c : Counted) : Type 0 where
   pub modulus : c.rest.modulus ≡ R.modulus
-  pub height : c.rest.matrix.height ≡ R.matrix.height
-  pub width : c.rest.matrix.width ≡ R.matrix.width
   pub at_most_height : c.count ≤ R.matrix.height
   pub at_most_width : c.count ≤ R.matrix.width
   pub rank : IsPrime R.modulus → (r : ℕ) → HasRank R.modulus c.rest.matrix r →

@@ -1,26 +1,26 @@
-// How large a dense block a matrix would make.
+// How large a dense block a matrix would make, and what decides between a round, a stored rest, a block and a basis.
 use crate::plan::has_few_entries;
 use schur_rows::{RowReducer, mean_left};
 use sparse_rows::Rows;
 use std::alloc::{AllocError, Global};
 
-// A block of more places than this isn't made: 256 MB of them where the modulus is below 2^31.
-const LARGEST_BLOCK: u64 = 1 << 26;
-
-// A block is made where one place of so many holds an entry.
+// A block is made if one place of so many holds an entry: it takes at most 40 bytes an entry where the modulus is below 2^31.
 const BLOCK_SHARE: u64 = 10;
 
 // A matrix of fewer places is not worth a choice.
 const SMALLEST_FULL: u64 = 1 << 16;
 
-// A dense basis of more places than this isn't made: 128 MB of them where the modulus is below 2^31.
-const LARGEST_BASIS: u64 = 1 << 25;
+// A round is no gain if one place of so many holds an entry. Anything from 2 to 20 is alike.
+const ROUND_SHARE: u64 = 5;
 
-// So many rows for each column make a rest of few pivots.
-const TALL: u64 = 3;
+// Of what pivots leave not more entries than these are stored, 3 GB, if a dense basis takes less.
+const MOST_STORED: u64 = 1 << 28;
 
-// A round is no gain where one place of so many holds an entry.
-const ROUND_SHARE: u64 = 20;
+// Bytes of an entry that is stored.
+const ENTRY_BYTES: u64 = 12;
+
+// Bytes of a place of a dense basis: as it is kept, and as it is eliminated with a chunk.
+const BASIS_BYTES: u64 = 24;
 
 // How many rows are reduced to see how full they are.
 const SAMPLES: u32 = 32;
@@ -43,9 +43,9 @@ impl Extent {
         })
     }
 
-    // Whether what pivots leave is better taken into a basis of its row space than stored: there are several rows for each column that
-    // is left, a dense basis on these columns is small, and samples say that a round would be no gain. A chunk stores all of its
-    // rows, so those without an entry must not be many.
+    // Whether what pivots leave is better taken into a dense basis of its row space than stored: samples say that a round would be no
+    // gain, or that there is too much of it, and the basis takes less memory. A chunk stores all of its rows, so those without an
+    // entry must not be many.
     pub(crate) fn is_streamed(alloc: Global, reducer: &RowReducer) -> Result<bool, AllocError> {
         let rows = reducer.rows();
         if has_few_entries(rows) {
@@ -54,15 +54,16 @@ impl Extent {
         let pivots = reducer.pairs().len();
         let height = rows.filled(alloc)?.len().saturating_sub(pivots) as u64;
         let width = rows.occupied(alloc)?.len().saturating_sub(pivots) as u64;
-        if height < width.saturating_mul(TALL) || LARGEST_BASIS < width.saturating_mul(width) {
-            return Ok(false);
-        }
-        Ok(width / ROUND_SHARE <= mean_left(alloc, reducer, SAMPLES)?)
+        let mean = mean_left(alloc, reducer, SAMPLES)?;
+        let stored = mean.saturating_mul(height);
+        let basis = width.saturating_mul(width);
+        let is_smaller = basis.saturating_mul(BASIS_BYTES) <= stored.saturating_mul(ENTRY_BYTES);
+        Ok(is_smaller && (width / ROUND_SHARE <= mean || MOST_STORED < stored))
     }
 
     // Whether a dense elimination is cheaper, in memory that is at most some constant times that of the entries.
     pub(crate) fn is_block(&self) -> bool {
-        self.places <= LARGEST_BLOCK && self.places / BLOCK_SHARE <= self.entries
+        self.places / BLOCK_SHARE <= self.entries
     }
 
     // Whether no round is worth beginning: a matrix of some size that is a block from the start.

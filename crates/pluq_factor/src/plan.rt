@@ -4,8 +4,8 @@ ghost use Rattle.pivot_table.specs.Order.{Triangular};
 ghost use Rattle.pivot_table.specs.Selected.{Selected};
 
 use fl_pivots::leftmost;
-use optimistic_search::{Gate, search, search_counted};
-use pivot_table::Pair;
+use optimistic_search::{Gate, search, search_counted, search_within};
+use pivot_table::{Book, Pair};
 use sparse_rows::Rows;
 use std::alloc::{AllocError, Global};
 use std::thread::Threads;
@@ -57,6 +57,52 @@ pub(crate) fn any_pivots<'a, R: Threads + Sync, G: Gate>(
     // The call's contract tells that the pivots are triangular.
     let _ = triangle.pairs().len();
     Ok(triangle)
+}
+
+// A search takes so many steps an entry at most: what takes more are long chains of pivots, which fill what they leave.
+const STEPS_AN_ENTRY: u64 = 3;
+
+// Pivots of a round in triangular order, and whether a search was worth its time.
+#[derive(Debug, Drop)]
+pub(crate) struct FewPivots<'a> {
+    pub(crate) triangle: Triangle<'a>,
+    pub(crate) searches: bool,
+}
+
+// The leftmost pivots, and those that a search finds in few steps, if there is to be one.
+pub(crate) fn few_pivots<'a, R: Threads + Sync, G: Gate>(
+    rt: &R,
+    alloc: Global,
+    rows: &'a Rows,
+    workers: u32,
+    gate: &G,
+    searches: bool,
+) -> Result<FewPivots<'a>, AllocError>
+    requires some { 1 ≤ workers }
+    ensures rows { IfOk result (λ f. f.triangle.rows ≡ rows.now) }
+    ensures triangular { IfOk result (λ f. Triangular rows.now.matrix f.triangle.pairs) }
+{
+    let first = leftmost(alloc, rows)?;
+    if !searches {
+        return found(alloc, &first, false);
+    }
+    let few = first.pairs().len();
+    let most = rows.entries().saturating_mul(STEPS_AN_ENTRY);
+    match search_within(rt, alloc, first, workers, gate, most)? {
+        Some(book) => found(alloc, &book, few < book.pairs().len()),
+        None => found(alloc, &leftmost(alloc, rows)?, false),
+    }
+}
+
+// The pairs of a book in triangular order.
+fn found<'a>(alloc: Global, book: &Book<'a>, searches: bool) -> Result<FewPivots<'a>, AllocError>
+    ensures rows { IfOk result (λ f. f.triangle.rows ≡ book.now.rows) }
+    ensures triangular { IfOk result (λ f. Triangular book.now.rows.matrix f.triangle.pairs) }
+{
+    let triangle = Triangle::of(alloc, book)?;
+    // The call's contract tells that the pivots are triangular.
+    let _ = triangle.pairs().len();
+    Ok(FewPivots { triangle, searches })
 }
 
 // Whether what takes memory by rows and columns, as a board does, would take much more than the entries do.

@@ -1,7 +1,8 @@
 // The rank by rounds.
-ghost use Rattle.std.specs.Prelude.{◌≡◌, ◌≤◌, IfOk, IfSome};
+ghost use Rattle.std.specs.Prelude.{◌≡◌, ◌≤◌, min, IfOk};
 ghost use Rattle.residue_words.specs.Residues.{IsPrime};
 ghost use Rattle.row_space.specs.Echelon.{HasRank};
+ghost use Rattle.sparse_rows.specs.Rows.{ResidueMatrix};
 ghost use Rattle.pluq_factor.specs.Counted.{LeavesRank};
 
 use crate::extent::Extent;
@@ -12,19 +13,23 @@ use optimistic_search::Gate;
 use sparse_rows::Rows;
 use std::alloc::{AllocError, Global};
 use std::thread::Threads;
+use weight_order::{RowOrder, by_weight};
+
+// So many rounds at most, whatever they leave.
+const MOST_ROUNDS: u32 = 64;
 
 /// The rank of a matrix modulo a prime, by a plan of at least one worker; modulo another number, some number that is no more than its
 /// height and width.
 ///
-/// The pivots of each round are counted, and the complement that they leave is all that is kept for the next one. The rounds
-/// end with the last one of the plan, with one that finds no pivot, or before one where a twentieth of what is left, in the
-/// rows and columns that have an entry, is not 0. What is left then is eliminated densely where it is small and dense, and
-/// else row by row in time and memory of the entries that this makes. With no round there is the dense elimination alone, and so it
-/// is for a matrix of some size that is a tenth full from the start.
+/// If the plan has no round the matrix is eliminated densely. Else there are as many rounds as pay, up to 64: each puts what is left in
+/// order of weight (`weight_order::by_weight`), which also turns it so that it isn't wide, takes the leftmost pivots and those that a
+/// search finds within three steps an entry, counts them, and keeps the complement alone. After a search that found none or was
+/// broken off no later round searches. The rounds end when nothing is left, or when a fifth of what is left isn't 0: that is
+/// eliminated densely, or taken chunk by chunk into a dense basis if this takes less memory. A matrix of some size that is a tenth
+/// full from the start is eliminated densely at once.
 ///
-/// Which pivots a round has nobody is told, so one worker too takes them as several do, from the last row to the first: on
-/// boundary maps they are found sooner than the greedy ones, and leave less behind. One complement is held at a time, beside the one that it is made of, and no coefficients are. The method is that of
-/// Bouillaguet, Delaplace and Voge, PASCO 2017.
+/// Beside the matrix there are at most three copies of what a round works on and what it leaves. The pivots are those of Bouillaguet,
+/// Delaplace and Voge, PASCO 2017; the order of columns by weight is a form of Markowitz's rule.
 pub fn rank<R: Threads + Sync, G: Gate>(
     rt: &R,
     alloc: Global,
@@ -42,54 +47,85 @@ pub fn rank<R: Threads + Sync, G: Gate>(
         let rank = dense_rank(rt, alloc, copy, plan.workers)?;
         return Ok(rank);
     }
-    let Some(counted) = count_rounds(rt, alloc, rows, plan, gate)? else {
-        let copy = rows.copy(alloc)?;
-        let rank = rank_of_rest(rt, alloc, copy, plan.workers)?;
-        return Ok(rank);
-    };
-    let Counted { count, rest } = counted;
-    let below = rank_of_rest(rt, alloc, rest, plan.workers)?;
+    let ordered = by_weight(alloc, rows, RowOrder::LastFirst)?;
+    let rank = rank_in_order(rt, alloc, ordered, plan.workers, gate)?;
+    Ok(rank)
+}
+
+// The rank of a matrix that stands in order of weight.
+fn rank_in_order<R: Threads + Sync, G: Gate>(
+    rt: &R,
+    alloc: Global,
+    rows: Rows,
+    workers: u32,
+    gate: &G,
+) -> Result<u32, AllocError>
+    requires some { 1 ≤ workers }
+    ensures rank { IfOk result (λ r. IsPrime rows.modulus → HasRank rows.modulus rows.matrix r) }
+    ensures at_most_height { IfOk result (λ r. r ≤ rows.matrix.height) }
+    ensures at_most_width { IfOk result (λ r. r ≤ rows.matrix.width) }
+{
+    if Extent::of(alloc, &rows)?.is_full() {
+        return dense_rank(rt, alloc, rows, workers);
+    }
     // The call's contract tells that the entries are residues.
     let most = rows.height().min(rows.width());
-    // Less only where the modulus isn't prime.
+    let Counted { count, rest, .. } = count_rounds(rt, alloc, rows, workers, gate)?;
+    let below = rank_of_rest(rt, alloc, rest, workers)?;
+    // Less only if the modulus isn't prime.
     let rank = count + below.min(most - count);
     Ok(rank)
 }
 
-// The pivots of at least one round and what they leave; None where the first finds none, or where a dense block is made at once.
+// The pivots of all rounds, and what they leave.
 fn count_rounds<R: Threads + Sync, G: Gate>(
     rt: &R,
     alloc: Global,
-    rows: &Rows,
-    plan: Plan,
+    rows: Rows,
+    workers: u32,
     gate: &G,
-) -> Result<Option<Counted>, AllocError>
-    requires some { 1 ≤ plan.workers }
-    ensures { IfOk result (λ r. IfSome r (LeavesRank rows.now)) }
+) -> Result<Counted, AllocError>
+    requires some { 1 ≤ workers }
+    ensures { IfOk result (LeavesRank rows) }
 {
-    if Extent::of(alloc, rows)?.is_full() {
-        return Ok(None);
-    }
     let most = rows.height().min(rows.width());
-    let Some(first) = count_round(rt, alloc, rows, plan.workers, gate)? else {
-        return Ok(None);
+    let mut left = Counted {
+        count: 0,
+        rest: rows,
+        searches: true,
     };
-    let mut left = first;
-    for _ in 1..plan.rounds {
+    for _ in 0..MOST_ROUNDS {
         if Extent::of(alloc, &left.rest)?.is_dense() {
             break;
         }
-        let Some(next) = count_round(rt, alloc, &left.rest, plan.workers, gate)? else {
+        let Some(round) = count_round(rt, alloc, &left, workers, gate)? else {
             break;
         };
-        // Less only where the modulus isn't prime.
-        let more = next.count.min(most - left.count);
-        left = Counted {
-            count: left.count + more,
-            rest: next.rest,
-        };
+        left = counted_with(alloc, left, round, most)?;
     }
-    Ok(Some(left))
+    Ok(left)
+}
+
+// The counts of rounds and of the next one, and what this leaves, in order of weight.
+fn counted_with(
+    alloc: Global,
+    left: Counted,
+    round: Counted,
+    most: u32,
+) -> Result<Counted, AllocError>
+    requires few { left.count ≤ most }
+    ensures { IfOk result (λ c. (R : ResidueMatrix) → most ≡ min R.matrix.height R.matrix.width →
+        LeavesRank R left → LeavesRank left.rest round → LeavesRank R c) }
+{
+    let count = left.count;
+    drop(left);
+    // Less only if the modulus isn't prime.
+    let more = round.count.min(most - count);
+    Ok(Counted {
+        count: count + more,
+        rest: by_weight(alloc, &round.rest, RowOrder::Kept)?,
+        searches: round.searches,
+    })
 }
 
 // The rank without a round, of a matrix that nobody wants any more.

@@ -7,7 +7,7 @@ ghost use Rattle.pluq_factor.specs.RoundPivots.{IsLeftBy, IsRestOf, IsRoundTaken
 ghost use Rattle.schur_rows.specs.Round.{pivot_rows};
 
 use crate::extent::Extent;
-use crate::plan::{any_pivots, rows_of, select_pivots};
+use crate::plan::{FewPivots, any_pivots, few_pivots, rows_of, select_pivots};
 use optimistic_search::Gate;
 use pivot_table::Pair;
 use schur_rows::{RowReducer, SchurRows, complement, left_basis, schur};
@@ -46,11 +46,12 @@ pub(crate) struct Rest {
     pub(crate) is_basis: bool,
 }
 
-// How many pivots rounds have found, and the complement.
+// How many pivots rounds have found, what they leave, and whether the next round searches.
 #[derive(Debug, Drop)]
 pub(crate) struct Counted {
     pub(crate) count: u32,
     pub(crate) rest: Rows,
+    pub(crate) searches: bool,
 }
 
 // One round with the coefficients; None where there is no pivot.
@@ -193,23 +194,27 @@ fn whole_rest<R: Threads + Sync>(
     })
 }
 
-// One round whose pivots are counted alone; None where there is no pivot. Where few columns, many rows and many entries are left,
-// what is left isn't stored, but counted too.
+// One round more, whose pivots are counted alone; None if there is no pivot. If what is left is to be taken into a dense basis it isn't
+// stored, but counted too.
 pub(crate) fn count_round<R: Threads + Sync, G: Gate>(
     rt: &R,
     alloc: Global,
-    rows: &Rows,
+    before: &Counted,
     workers: u32,
     gate: &G,
 ) -> Result<Option<Counted>, AllocError>
     requires some { 1 ≤ workers }
-    ensures { IfOk result (λ r. IfSome r (LeavesRank rows.now)) }
+    ensures { IfOk result (λ r. IfSome r (LeavesRank before.now.rest)) }
 {
-    let triangle = any_pivots(rt, alloc, rows, workers, gate)?;
+    let rows = &before.rest;
+    let FewPivots {
+        triangle,
+        searches,
+    } = few_pivots(rt, alloc, rows, workers, gate, before.searches)?;
     if triangle.pairs().is_empty() {
         return Ok(None);
     }
-    let counted = count_by(rt, alloc, &triangle, workers)?;
+    let counted = count_by(rt, alloc, &triangle, workers, searches)?;
     Ok(Some(counted))
 }
 
@@ -219,6 +224,7 @@ fn count_by<R: Threads + Sync>(
     alloc: Global,
     triangle: &Triangle,
     workers: u32,
+    searches: bool,
 ) -> Result<Counted, AllocError>
     requires some { 1 ≤ workers }
     ensures { IfOk result (LeavesRank triangle.now.rows) }
@@ -227,7 +233,7 @@ fn count_by<R: Threads + Sync>(
     if Extent::is_streamed(alloc, &reducer)? {
         return count_left(rt, alloc, &reducer, workers);
     }
-    count_stored(rt, alloc, &reducer, workers)
+    count_stored(rt, alloc, &reducer, workers, searches)
 }
 
 // The number of the pivots, and what they leave.
@@ -236,6 +242,7 @@ fn count_stored<R: Threads + Sync>(
     alloc: Global,
     reducer: &RowReducer,
     workers: u32,
+    searches: bool,
 ) -> Result<Counted, AllocError>
     requires some { 1 ≤ workers }
     ensures { IfOk result (LeavesRank reducer.now.rows) }
@@ -246,7 +253,11 @@ fn count_stored<R: Threads + Sync>(
     let _ = reducer.rows().height();
     let count = reducer.pairs().len() as u32;
     let rest = complement(rt, alloc, reducer, workers)?;
-    Ok(Counted { count, rest })
+    Ok(Counted {
+        count,
+        rest,
+        searches,
+    })
 }
 
 // The number of the pivots with the rank of what they leave: no entry is left.
@@ -267,11 +278,12 @@ fn count_left<R: Threads + Sync>(
     let left = left_basis(rt, alloc, reducer, workers)?.height();
     let mut rest = Rows::with_room(alloc, rows.modulus(), width, 0, 0)?;
     rest.append_zeros(height)?;
-    // Less only where the modulus isn't prime.
+    // Less only if the modulus isn't prime.
     let more = left.min(most - count);
     Ok(Counted {
         count: count + more,
         rest,
+        searches: false,
     })
 }
 

@@ -25,8 +25,37 @@ pub(crate) fn rarest_first(alloc: Global, rows: &Rows) -> Result<Vec<u32>, Alloc
     numbers(alloc, &weighed)
 }
 
+/// In which order the rows of a matrix by weight stand.
+#[derive(Clone, Copy, Debug, PartialEq, Eq)]
+pub enum RowOrder {
+    /// As they stood; if the matrix is transposed, its columns from the first to the last.
+    Kept,
+    /// From the last to the first.
+    LastFirst,
+}
+
+impl RowOrder {
+    // The rows that have an entry, in this order.
+    pub(crate) fn of_filled(self, alloc: Global, rows: &Rows) -> Result<Vec<u32>, AllocError>
+        ensures { IfOk result (λ order. AreFilledInSomeOrder rows.now.matrix order.items) }
+    {
+        match self {
+            RowOrder::Kept => first_last(alloc, rows),
+            RowOrder::LastFirst => last_first(alloc, rows),
+        }
+    }
+}
+
+// From the first to the last.
+fn first_last(alloc: Global, rows: &Rows) -> Result<Vec<u32>, AllocError>
+    ensures { IfOk result (λ order. AreFilledInSomeOrder rows.now.matrix order.items) }
+{
+    let filled = rows.filled(alloc)?;
+    Ok(filled)
+}
+
 // From the last to the first.
-pub(crate) fn last_first(alloc: Global, rows: &Rows) -> Result<Vec<u32>, AllocError>
+fn last_first(alloc: Global, rows: &Rows) -> Result<Vec<u32>, AllocError>
     ensures { IfOk result (λ order. AreFilledInSomeOrder rows.now.matrix order.items) }
 {
     let mut filled = rows.filled(alloc)?;

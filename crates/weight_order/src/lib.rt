@@ -10,24 +10,26 @@ ghost use Rattle.weight_order.specs.Keeping.{AreFilledInSomeOrder, KeepsRank};
 ghost use Rattle.weight_order.specs.Laws.{SelectingKeepsRank, SelectingKeepsSpan, TransposingKeepsRank};
 ghost use Rattle.weight_order.specs.Shape.{HasFewRisingRows, HasRarestFirst, HasRowsByWeight};
 
-use filled_rows::{last_first, rarest_first};
+use filled_rows::rarest_first;
 use sparse_rows::Rows;
 use std::alloc::{AllocError, Global};
 
+pub use filled_rows::RowOrder;
+
 /// A matrix of the same rank that has its rarest columns first, and no row or column without an entry. If more columns than rows
 /// have an entry, it is transposed. Then its columns stand by how many entries they have, the fewest first, those with as many by
-/// ascending numbers; and its rows from the last to the first.
+/// ascending numbers; and its rows in the given order.
 ///
 /// Few rows are changed by pivots in rare columns, so that what they leave stays sparse (Markowitz, The elimination form of the
 /// inverse and its application to linear programming, 1957). It takes time by the entries, times a logarithm of the rows and
 /// columns that have one; and memory for two such matrices beside the given one, or three if it has many more rows or columns than
 /// entries. Rows and columns without an entry cost nothing then.
-pub fn by_weight(alloc: Global, rows: &Rows) -> Result<Rows, AllocError>
+pub fn by_weight(alloc: Global, rows: &Rows, order: RowOrder) -> Result<Rows, AllocError>
     ensures rank { IfOk result (KeepsRank rows.now) }
     ensures shape { IfOk result (λ made. HasRarestFirst made.matrix) }
 {
     let columns = columns_by_weight(alloc, rows)?;
-    from_columns(alloc, columns)
+    from_columns(alloc, columns, order)
 }
 
 /// For a prime modulus a matrix and its transpose have the same rank.
@@ -73,8 +75,8 @@ fn with_rarest_first(alloc: Global, rows: &Rows) -> Result<Rows, AllocError>
     in_order(alloc, rows, &order)
 }
 
-// The matrix with these columns, of which the rows that have an entry stand from the last to the first.
-fn from_columns(alloc: Global, columns: Rows) -> Result<Rows, AllocError>
+// The matrix with these columns, of which the rows that have an entry stand in the given order.
+fn from_columns(alloc: Global, columns: Rows, order: RowOrder) -> Result<Rows, AllocError>
     requires { HasFewRisingRows columns.matrix }
     ensures rank { IfOk result (KeepsRank columns) }
     ensures shape { IfOk result (λ made. HasRarestFirst made.matrix) }
@@ -83,7 +85,7 @@ fn from_columns(alloc: Global, columns: Rows) -> Result<Rows, AllocError>
     let _ = columns.height();
     let rows = columns.transpose(alloc)?;
     drop(columns);
-    let order = last_first(alloc, &rows)?;
+    let order = order.of_filled(alloc, &rows)?;
     in_order(alloc, &rows, &order)
 }
 

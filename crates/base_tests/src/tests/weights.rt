@@ -5,7 +5,7 @@ use residue_words::Modulus;
 use sparse_rows::{LARGEST_SIZE, Rows};
 use std::alloc::Global;
 use std::test::Fail;
-use weight_order::by_weight;
+use weight_order::{RowOrder, by_weight};
 
 // Sizes and entries by rows.
 type Sized = (u32, u32, &'static [(u32, u32, u64)]);
@@ -63,7 +63,7 @@ fn is_made(alloc: Global, given: &Sized, wanted: &Sized) -> Result<bool, Fail> {
     let Some(rows) = Rows::checked_from_triples(alloc, m, n, &Modulus::new(7), triples)? else {
         return Ok(false);
     };
-    let made = by_weight(alloc, &rows)?;
+    let made = by_weight(alloc, &rows, RowOrder::LastFirst)?;
     let entries = made.triples(alloc)?;
     Ok((made.height(), made.width(), entries.as_slice()) == *wanted)
 }

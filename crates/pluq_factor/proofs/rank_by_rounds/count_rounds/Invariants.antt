@@ -3,4 +3,4 @@ use Rattle.pluq_factor.specs.Counted.{LeavesRank}
 use Rattle.pluq_factor.proofs.rank_by_rounds.count_rounds.Given as goal
 
 abbrev pub invariant-loop : goal.invariant-loop
-invariant-loop g l = LeavesRank l.rows l.left × (l.most ≡ min l.rows.matrix.height l.rows.matrix.width)
+invariant-loop g l = LeavesRank l.fn.rows l.left × (l.most ≡ min l.fn.rows.matrix.height l.fn.rows.matrix.width)
