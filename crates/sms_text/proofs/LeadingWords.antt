@@ -9,7 +9,7 @@ use Rattle.sms_text.specs.Numbers.{are_digits, has_slash, is_digit, is_number, n
 use Rattle.sms_text.specs.Spelling.{SplitSlash}
 
 -- the first of digits is one, and so are the others
-digits_split : (b : ℕ) (w : List ℕ) → are_digits (b ∷ w) ≡ true → (is_digit b ≡ true) × (are_digits w ≡ true)
+pub digits_split : (b : ℕ) (w : List ℕ) → are_digits (b ∷ w) ≡ true → (is_digit b ≡ true) × (are_digits w ≡ true)
 digits_split b w h = elim (cases_Bool (is_digit b)) [
   | inl digit ↦ (digit, (let e : are_digits (b ∷ w) ≡ are_digits w = rw digit refl in sym e ∙ h))
   | inr other ↦ absurd (let f : are_digits (b ∷ w) ≡ false = rw other refl in cc)
@@ -24,13 +24,13 @@ leading_pieces (b ∷ w) rest g h gap =
     let d = digits_split b w h in
     rw (digit_no_gap b d.0, leading_pieces w rest g d.1 gap) refl
 
-alone_pieces : (w : List ℕ) → are_digits w ≡ true → pieces w ≡ w ∷ []
+pub alone_pieces : (w : List ℕ) → are_digits w ≡ true → pieces w ≡ w ∷ []
 alone_pieces [] h = refl
 alone_pieces (b ∷ w) h =
     let d = digits_split b w h in
     rw (digit_no_gap b d.0, alone_pieces w d.1) refl
 
-number_words : (w rest : List ℕ) (g : ℕ) → is_number w ≡ true → is_gap g ≡ true → words (w ++ g ∷ rest) ≡ w ∷ words rest
+pub number_words : (w rest : List ℕ) (g : ℕ) → is_number w ≡ true → is_gap g ≡ true → words (w ++ g ∷ rest) ≡ w ∷ words rest
 number_words [] rest g h gap = absurd cc
 number_words (b ∷ w) rest g h gap = ap (filter is_filled) (leading_pieces (b ∷ w) rest g h gap)
 
@@ -40,13 +40,13 @@ number_alone [] h = absurd cc
 number_alone (b ∷ w) h = ap (filter is_filled) (alone_pieces (b ∷ w) h)
 
 -- one digit more
-digits_push : (w : List ℕ) (d : ℕ) → are_digits w ≡ true → is_digit d ≡ true → are_digits (w ++ d ∷ []) ≡ true
+pub digits_push : (w : List ℕ) (d : ℕ) → are_digits w ≡ true → is_digit d ≡ true → are_digits (w ++ d ∷ []) ≡ true
 digits_push [] d h digit = rw digit refl
 digits_push (b ∷ w) d h digit =
     let s = digits_split b w h in
     rw (s.0, digits_push w d s.1 digit) refl
 
-value_push : (n d : ℕ) (w : List ℕ) → value_from n (w ++ d ∷ []) ≡ 10 * value_from n w + (d - 48)
+pub value_push : (n d : ℕ) (w : List ℕ) → value_from n (w ++ d ∷ []) ≡ 10 * value_from n w + (d - 48)
 value_push n d [] = refl
 value_push n d (b ∷ w) = value_push (10 * n + (b - 48)) d w
 
@@ -72,7 +72,7 @@ leads_more line cap at number next inside l digit is =
           ∙ ap (λ v. min v cap) (sym (ap value more ∙ value_push 0 d (take at line)));
     }
 
-some_number : (w : List ℕ) → length w ≢ 0 → are_digits w ≡ true → is_number w ≡ true
+pub some_number : (w : List ℕ) → length w ≢ 0 → are_digits w ≡ true → is_number w ≡ true
 some_number [] some h = absurd (some refl)
 some_number (b ∷ w) some h = h
 
