@@ -63,6 +63,7 @@ pub fn plain_entries(bytes: &[u8], head: &Head, p: &Modulus, entries: &mut Vec<E
 }
 
 // The plain line that begins at this place, if it is one.
+#[inline(always)]
 fn plain_line(bytes: &[u8], at: usize, head: &Head, p: &Modulus) -> Option<PlainLine>
     requires { at ≤ length bytes.now }
     ensures { IfSome result (IsPlainLine p.now head.now bytes.now at) }
@@ -81,6 +82,7 @@ fn plain_line(bytes: &[u8], at: usize, head: &Head, p: &Modulus) -> Option<Plain
 }
 
 // The index below this size that stands at this place, with a gap behind it.
+#[inline(always)]
 fn index_at(bytes: &[u8], at: usize, size: u32) -> Option<IndexAt>
     requires { at ≤ length bytes.now }
     ensures { IfSome result (IsIndexAt size bytes.now at) }
@@ -99,6 +101,7 @@ fn index_at(bytes: &[u8], at: usize, size: u32) -> Option<IndexAt>
 }
 
 // The value that stands at this place, with a byte 10 behind it.
+#[inline(always)]
 fn value_at(bytes: &[u8], at: usize, p: &Modulus) -> Option<ValueAt>
     requires { at ≤ length bytes.now }
     ensures { IfSome result (IsValueAt p.now bytes.now at) }
@@ -118,6 +121,7 @@ fn value_at(bytes: &[u8], at: usize, p: &Modulus) -> Option<ValueAt>
 }
 
 // The residue, or that of its negative.
+#[inline(always)]
 fn with_sign(negative: bool, residue: u64, p: &Modulus) -> u64
     requires { residue < p.now }
     ensures value { result ≡ (if negative then (p.now - residue) % p.now else residue) }
@@ -127,6 +131,7 @@ fn with_sign(negative: bool, residue: u64, p: &Modulus) -> u64
 }
 
 // The residue of a number, which most often is one already.
+#[inline(always)]
 fn residue_of(number: u64, p: &Modulus) -> u64
     ensures value { result ≡ number % p.now }
     ensures residue { result < p.now }
@@ -140,6 +145,7 @@ fn residue_of(number: u64, p: &Modulus) -> u64
 
 // The digits that begin at this place, if there are some. Up to `SHORT` are read without a test for the end of the bytes, so where these end
 // sooner the answer is `None`, too.
+#[inline(always)]
 fn digit_run(bytes: &[u8], at: usize) -> Option<DigitRun>
     requires { at ≤ length bytes.now }
     ensures { IfSome result (IsDigitRun bytes.now at) }
@@ -177,6 +183,7 @@ fn longer_run(bytes: &[u8], at: usize, number: u64) -> Option<DigitRun>
 }
 
 // The run, if it isn't empty.
+#[inline(always)]
 fn ended_run(at: usize, end: usize, number: u64) -> Option<DigitRun>
     ensures { MatchOption result (end ≡ at)
         (λ run. (at ≢ end) × (run ≡ record { number = number; end = end })) }
