@@ -19,8 +19,8 @@ use std::alloc::{AllocError, Global};
 /// then on. After want of memory it does so too, if it was the reader that wanted memory; if it was the matrix, the reader stands
 /// behind the last line that it took, where `open_text` says whether the text is still open.
 ///
-/// Memory is wanted for the entries, 16 bytes each and 36 for a moment where their room grows, and then for the matrix beside them; the
-/// time is that of reading the lines and of sorting each row.
+/// Memory is wanted for 16 KB of entries that are taken together, for all entries, 16 bytes each and 36 for a moment where their room grows,
+/// and then for the matrix beside them; the time is that of reading the lines and of sorting each row.
 pub fn read_rows<S: Source>(
     reader: &mut Reader,
     alloc: Global,
