@@ -1,5 +1,5 @@
 -- Entry lines that are plain: how their words stand in the bytes, and what they say.
-use Rattle.std.proofs.Common.{ℕ, ◌||◌, ◌+◌, ◌-◌, ◌*◌, ◌%◌, ◌<◌, ◌≤◌, ◌≡◌, ◌≢◌, Bool, true, false, cond, eqb, ltb, List, [], ◌∷◌, ◌++◌, length, length-append, length-take, take, drop, map, get_or, Option, None, Some, Ok, refl, sym, ap, subst, ◌∙◌, inl, inr, arith, append_assoc}
+use Rattle.std.proofs.Common.{ℕ, ◌||◌, ◌+◌, ◌-◌, ◌*◌, ◌%◌, ◌<◌, ◌≤◌, ◌≡◌, ◌≢◌, ◌⊎◌, Bool, true, false, cond, eqb, ltb, List, [], ◌∷◌, ◌++◌, length, length-append, length-take, take, drop, map, get_or, Option, None, Some, Ok, refl, sym, ap, subst, ◌∙◌, inl, inr, arith, append_assoc}
 use Rattle.std.proofs.lemmas.Bool.{cases_Bool}
 use Rattle.std.proofs.lemmas.Bool.Decides.{nat_tests}
 use Rattle.std.proofs.lemmas.List.{drop_more, drop-append-le, take-append-drop, map-append}
@@ -17,7 +17,7 @@ use Rattle.sms_text.specs.declared.reader.plain.ValueAt.{ValueAt}
 use Rattle.sms_text.specs.Feeding.{TookPlain, state}
 use Rattle.sms_text.specs.Lines.{lines, content, words, is_gap, is_void, begins_with_mark, with_first}
 use Rattle.sms_text.specs.Numbers.{are_digits, divides_by_zero, is_digit, is_minus, is_number, is_value, residue, unsigned, value, value_modulo}
-use Rattle.sms_text.specs.PlainLines.{AreDigitsAt, AreEntryLines, IsDigitRun, IsIndexAt, IsPlainLine, IsValueAt, TookEntries, entry_item}
+use Rattle.sms_text.specs.PlainLines.{AreDigitsAt, AreEntryLines, IsBehindEnd, IsDigitRun, IsIndexAt, IsPlainLine, IsValueAt, TookEntries, entry_item}
 use Rattle.sms_text.specs.Reading.{IsInside, ReaderState, with_items}
 use Rattle.sms_text.specs.Text.{Due, Body, Value, Judged, body_of, judge, read, with_item}
 use Rattle.sms_text.proofs.LeadingWords.{digits_push, digits_split, number_words, signed_alone, some_number, value_push}
@@ -55,20 +55,6 @@ run_split : (bytes : List ℕ) (at end number : ℕ) (h : AreDigitsAt bytes at e
     drop at bytes ≡ h.word ++ get_or bytes end 0 ∷ drop (end + 1) bytes
 run_split bytes at end number h inside = h.split ∙ ap (λ t. h.word ++ t) (drop_more bytes end 0 inside)
 
-pub index_found : (size : ℕ) (bytes : List ℕ) (at : ℕ) (run : DigitRun) (r : IndexAt) → IsDigitRun bytes at run → run.end < length bytes → is_gap (get_or bytes run.end 0) ≡ true →
-    run.number ≢ 0 → run.number ≤ size → r.index ≡ run.number - 1 → r.next ≡ run.end + 1 → IsIndexAt size bytes at r
-index_found size bytes at run r h inside gap some most index next = record {
-  word = h.0.word;
-  gap = get_or bytes run.end 0;
-  split = run_split bytes at run.end run.number h.0 inside ∙ ap (λ n. h.0.word ++ get_or bytes run.end 0 ∷ drop n bytes) (sym next);
-  next = omega (arith, h.0.ends);
-  within = omega arith;
-  number = run_number bytes at run.end run.number h.0 h.1;
-  parts = gap;
-  spells = omega (arith, h.0.spells);
-  below = omega arith;
-}
-
 -- a number begins with no sign and no mark
 plain_number : (w : List ℕ) → is_number w ≡ true → (unsigned w ≡ w) × (is_minus w ≡ false) × (begins_with_mark w ≡ false)
 plain_number [] h = absurd cc
@@ -80,11 +66,16 @@ plain_number (b ∷ w) h =
     let hash : eqb b 35 ≡ false = grind (arith, nat_tests, d.0) in
     (rw (minus, plus) refl, minus, rw (percent, hash) refl)
 
+-- the digits of a value, behind which the line ends
+value_end : (bytes : List ℕ) (at end number next : ℕ) (h : AreDigitsAt bytes at end number) (e : IsBehindEnd bytes end next) →
+    drop at bytes ≡ (h.word ++ e.mark) ++ 10 ∷ drop next bytes
+value_end bytes at end number next h e = h.split ∙ ap (λ t. h.word ++ t) e.split ∙ sym (append_assoc h.word e.mark (10 ∷ drop next bytes))
+
 -- a value with a minus or without
 pub value_found : (p : ℕ) (bytes : List ℕ) (at sign : ℕ) (run : DigitRun) (rest : ℕ) (r : ValueAt) → at < length bytes → (eqb (get_or bytes at 0) 45 ≡ true → sign ≡ 1) → (eqb (get_or bytes at 0) 45 ≡ false → sign ≡ 0) →
-    IsDigitRun bytes (at + sign) run → run.end < length bytes → get_or bytes run.end 0 ≡ 10 → rest ≡ run.number % p →
-    r.residue ≡ cond (eqb (get_or bytes at 0) 45) ((p - rest) % p) rest → r.residue < p → r.next ≡ run.end + 1 → IsValueAt p bytes at r
-value_found p bytes at sign run rest r inside one_if none_if h behind ten rests result less next = elim (cases_Bool (eqb (get_or bytes at 0) 45)) [
+    IsDigitRun bytes (at + sign) run → IsBehindEnd bytes run.end r.next → rest ≡ run.number % p →
+    r.residue ≡ cond (eqb (get_or bytes at 0) 45) ((p - rest) % p) rest → r.residue < p → IsValueAt p bytes at r
+value_found p bytes at sign run rest r inside one_if none_if h e rests result less = elim (cases_Bool (eqb (get_or bytes at 0) 45)) [
   | inl minus ↦
       let b = get_or bytes at 0 in
       let one : sign ≡ 1 = one_if minus in
@@ -95,10 +86,11 @@ value_found p bytes at sign run rest r inside one_if none_if h behind ten rests 
       let its : residue p (b ∷ h.0.word) ≡ (p - value h.0.word % p) % p = rw minus refl in
       record {
         word = b ∷ h.0.word;
-        split = drop_more bytes at 0 inside ∙ ap (λ t. b ∷ t) (ap (λ n. drop (at + n) bytes) (sym one) ∙ run_split bytes (at + sign) run.end run.number h.0 behind)
-            ∙ ap (λ t. (b ∷ h.0.word) ++ t ∷ drop (run.end + 1) bytes) ten ∙ ap (λ n. (b ∷ h.0.word) ++ 10 ∷ drop n bytes) (sym next);
-        next = omega (arith, h.0.ends);
-        within = omega arith;
+        mark = e.mark;
+        kind = e.kind;
+        split = drop_more bytes at 0 inside ∙ ap (λ t. b ∷ t) (ap (λ n. drop (at + n) bytes) (sym one) ∙ value_end bytes (at + sign) run.end run.number r.next h.0 e);
+        next = omega (arith, h.0.ends, e.next_is, length-append h.0.word e.mark);
+        within = e.within;
         number = ap is_number unsigned_is ∙ number;
         spells = result ∙ mine ∙ sym its;
         less = less;
@@ -112,59 +104,64 @@ value_found p bytes at sign run rest r inside one_if none_if h behind ten rests 
       let its : residue p h.0.word ≡ value h.0.word % p = rw (alike.1, alike.0) refl in
       record {
         word = h.0.word;
-        split = ap (λ n. drop n bytes) (let same : at ≡ at + sign = omega arith in same) ∙ run_split bytes (at + sign) run.end run.number h.0 behind
-            ∙ ap (λ t. h.0.word ++ t ∷ drop (run.end + 1) bytes) ten ∙ ap (λ n. h.0.word ++ 10 ∷ drop n bytes) (sym next);
-        next = omega (arith, h.0.ends);
-        within = omega arith;
+        mark = e.mark;
+        kind = e.kind;
+        split = ap (λ n. drop n bytes) (let same : at ≡ at + sign = omega arith in same) ∙ value_end bytes (at + sign) run.end run.number r.next h.0 e;
+        next = omega (arith, h.0.ends, e.next_is, length-append h.0.word e.mark);
+        within = e.within;
         number = ap is_number alike.0 ∙ number;
         spells = result ∙ mine ∙ sym its;
         less = less;
       }
 ]
 
--- bytes without a byte 10, which don't end with a byte 13
-record IsBare (line : List ℕ) : Type 0 where
+-- bytes without a byte 10 which are the content of a line, with this mark at its end
+record IsBare (mark line : List ℕ) : Type 0 where
   pub some : length line ≢ 0
-  pub whole : (more : List ℕ) → lines (line ++ 10 ∷ more) ≡ record { bytes = line; closed = true } ∷ lines more
-  pub kept : content line ≡ line
+  pub whole : (more : List ℕ) → lines ((line ++ mark) ++ 10 ∷ more) ≡ record { bytes = line ++ mark; closed = true } ∷ lines more
+  pub kept : content (line ++ mark) ≡ line
 
-bare_push : (b : ℕ) (line : List ℕ) → eqb b 10 ≡ false → IsBare line → IsBare (b ∷ line)
-bare_push b [] other h = absurd (h.some refl)
-bare_push b (c ∷ line) other h = record {
+bare_push : (mark : List ℕ) (b : ℕ) (line : List ℕ) → eqb b 10 ≡ false → IsBare mark line → IsBare mark (b ∷ line)
+bare_push mark b [] other h = absurd (h.some refl)
+bare_push mark b (c ∷ line) other h = record {
   some = λ e. absurd (omega arith);
   whole = λ more. rw other (ap (with_first b) (h.whole more));
   kept = ap (λ t. b ∷ t) h.kept;
 }
 
-bare_digits : (w line : List ℕ) → are_digits w ≡ true → IsBare line → IsBare (w ++ line)
-bare_digits [] line h bare = bare
-bare_digits (b ∷ w) line h bare =
+bare_digits : (mark w line : List ℕ) → are_digits w ≡ true → IsBare mark line → IsBare mark (w ++ line)
+bare_digits mark [] line h bare = bare
+bare_digits mark (b ∷ w) line h bare =
     let d = digits_split b w h in
     let other : eqb b 10 ≡ false = grind (arith, nat_tests, d.0) in
-    bare_push b (w ++ line) other (bare_digits w line d.1 bare)
+    bare_push mark b (w ++ line) other (bare_digits mark w line d.1 bare)
 
-bare_number : (w : List ℕ) → is_number w ≡ true → IsBare w
-bare_number [] h = absurd cc
-bare_number (b ∷ []) h =
+bare_digit : (mark : List ℕ) (b : ℕ) → (mark ≡ []) ⊎ (mark ≡ 13 ∷ []) → eqb b 10 ≡ false → eqb b 13 ≡ false → IsBare mark (b ∷ [])
+bare_digit mark b (inl none) other shown = subst (λ m. IsBare m (b ∷ [])) (sym none) (record { some = λ e. absurd (omega arith); whole = λ more. rw other refl; kept = rw shown refl })
+bare_digit mark b (inr cut) other shown = subst (λ m. IsBare m (b ∷ [])) (sym cut) (record { some = λ e. absurd (omega arith); whole = λ more. rw other refl; kept = refl })
+
+bare_number : (mark w : List ℕ) → (mark ≡ []) ⊎ (mark ≡ 13 ∷ []) → is_number w ≡ true → IsBare mark w
+bare_number mark [] kind h = absurd cc
+bare_number mark (b ∷ []) kind h =
     let d = digits_split b [] h in
     let other : eqb b 10 ≡ false = grind (arith, nat_tests, d.0) in
     let shown : eqb b 13 ≡ false = grind (arith, nat_tests, d.0) in
-    record { some = λ e. absurd (omega arith); whole = λ more. rw other refl; kept = rw shown refl }
-bare_number (b ∷ c ∷ w) h =
+    bare_digit mark b kind other shown
+bare_number mark (b ∷ c ∷ w) kind h =
     let d = digits_split b (c ∷ w) h in
     let other : eqb b 10 ≡ false = grind (arith, nat_tests, d.0) in
-    bare_push b (c ∷ w) other (bare_number (c ∷ w) d.1)
+    bare_push mark b (c ∷ w) other (bare_number mark (c ∷ w) kind d.1)
 
-bare_value : (w : List ℕ) → is_number (unsigned w) ≡ true → IsBare w
-bare_value [] h = absurd cc
-bare_value (b ∷ w) h = elim (cases_Bool (eqb b 45 || eqb b 43)) [
+bare_value : (mark w : List ℕ) → (mark ≡ []) ⊎ (mark ≡ 13 ∷ []) → is_number (unsigned w) ≡ true → IsBare mark w
+bare_value mark [] kind h = absurd cc
+bare_value mark (b ∷ w) kind h = elim (cases_Bool (eqb b 45 || eqb b 43)) [
   | inl sign ↦
       let same : unsigned (b ∷ w) ≡ w = rw sign refl in
       let other : eqb b 10 ≡ false = grind (arith, nat_tests) in
-      bare_push b w other (bare_number w (sym (ap is_number same) ∙ h))
+      bare_push mark b w other (bare_number mark w kind (sym (ap is_number same) ∙ h))
   | inr none ↦
       let same : unsigned (b ∷ w) ≡ b ∷ w = rw none refl in
-      bare_number (b ∷ w) (sym (ap is_number same) ∙ h)
+      bare_number mark (b ∷ w) kind (sym (ap is_number same) ∙ h)
 ]
 
 number_digits : (w : List ℕ) → is_number w ≡ true → are_digits w ≡ true
@@ -197,16 +194,21 @@ pub line_found : (p : ℕ) (h : Head) (bytes : List ℕ) (at : ℕ) (r c : Index
 line_found p h bytes at r c v l row column val is =
     let back = column.word ++ column.gap ∷ val.word in
     let line = row.word ++ row.gap ∷ back in
+    let tail = val.word ++ val.mark in
     let rest = drop v.next bytes in
-    let bare : IsBare line = bare_digits row.word (row.gap ∷ back) (number_digits row.word row.number) (bare_push row.gap back (gap_goes row.gap row.parts)
-    (bare_digits column.word (column.gap ∷ val.word) (number_digits column.word column.number) (bare_push column.gap val.word (gap_goes column.gap column.parts) (bare_value val.word val.number)))) in
-    let three : words (content line) ≡ row.word ∷ column.word ∷ val.word ∷ [] = ap words bare.kept ∙ number_words row.word back row.gap row.number row.parts
+    let bare : IsBare val.mark line = bare_digits val.mark row.word (row.gap ∷ back) (number_digits row.word row.number) (bare_push val.mark row.gap back (gap_goes row.gap row.parts)
+    (bare_digits val.mark column.word (column.gap ∷ val.word) (number_digits column.word column.number)
+    (bare_push val.mark column.gap val.word (gap_goes column.gap column.parts) (bare_value val.mark val.word val.kind val.number)))) in
+    let three : words (content (line ++ val.mark)) ≡ row.word ∷ column.word ∷ val.word ∷ [] = ap words bare.kept ∙ number_words row.word back row.gap row.number row.parts
     ∙ ap (λ ws. row.word ∷ ws) (number_words column.word val.word column.gap column.number column.parts ∙ ap (λ ws. column.word ∷ ws) (signed_alone val.word val.number).0) in
+    let marked : line ++ val.mark ≡ row.word ++ row.gap ∷ (column.word ++ column.gap ∷ tail) = append_assoc row.word (row.gap ∷ back) val.mark
+    ∙ ap (λ t. row.word ++ row.gap ∷ t) (append_assoc column.word (column.gap ∷ val.word) val.mark) in
     rw is (record {
-      line = line;
+      line = line ++ val.mark;
       split = row.split ∙ ap (λ t. row.word ++ row.gap ∷ t) (column.split ∙ ap (λ t. column.word ++ column.gap ∷ t) val.split
-          ∙ sym (append_assoc column.word (column.gap ∷ val.word) (10 ∷ rest))) ∙ sym (append_assoc row.word (row.gap ∷ back) (10 ∷ rest));
-      next = omega (arith, row.next, column.next, val.next, length-append row.word (row.gap ∷ back), length-append column.word (column.gap ∷ val.word));
+          ∙ sym (append_assoc column.word (column.gap ∷ tail) (10 ∷ rest))) ∙ sym (append_assoc row.word (row.gap ∷ (column.word ++ column.gap ∷ tail)) (10 ∷ rest))
+          ∙ ap (λ t. t ++ 10 ∷ rest) (sym marked);
+      next = omega (arith, row.next, column.next, val.next, ap length marked, length-append row.word (row.gap ∷ (column.word ++ column.gap ∷ tail)), length-append column.word (column.gap ∷ tail));
       within = val.within;
       whole = bare.whole;
       filled = ap is_void three ∙ (plain_number row.word row.number).2;

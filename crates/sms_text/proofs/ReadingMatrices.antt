@@ -1,10 +1,8 @@
 -- A text read line by line as a matrix.
 use Rattle.std.proofs.Common.{ℕ, ◌≡◌, ◌+◌, ◌<◌, ◌&&◌, List, [], ◌∷◌, ◌++◌, map, Option, None, Some, Result, Ok, Err, refl, sym, ap, ◌∙◌, subst}
 use Rattle.std.proofs.lemmas.List.{map-append}
-use Rattle.std.proofs.lemmas.List.Elements.{All-weaker}
-use Rattle.std.specs.List.{All}
 use Rattle.std.specs.Prelude.{◌==◌, if◌then◌else◌}
-use Rattle.sparse_rows.specs.Rows.{ResidueMatrix, Building, FitsMatrix, Triple, sum_at, built}
+use Rattle.sparse_rows.specs.Rows.{ResidueMatrix, Building, Triple, sum_at, built}
 use Rattle.sms_text.specs.declared.kind.TextError.{TextError}
 use Rattle.sms_text.specs.declared.kind.TextError.TheVariants as error
 use Rattle.sms_text.specs.declared.reader.Entry.{Entry}
@@ -12,7 +10,7 @@ use Rattle.sms_text.specs.declared.reader.Head.{Head}
 use Rattle.sms_text.specs.Text.{Due, Header, Body, Item, Sizes, Value, Closing, Judged, value_at, matrices, outer_lines}
 use Rattle.sms_text.specs.Parts.{open_at, PartDid, Wanted, wants}
 use Rattle.sms_text.specs.PlainLines.{TookEntries, entry_item, entry_triple, with_entries_pushed}
-use Rattle.sms_text.specs.Reading.{InputState, IsInside, MayFollow, ReaderState, TakesLine, LineDid, Repeats, LeavesOpen, header_judged, entry_judged, input, read_on, with_items}
+use Rattle.sms_text.specs.Reading.{InputState, MayFollow, ReaderState, TakesLine, LineDid, Repeats, LeavesOpen, header_judged, entry_judged, input, read_on, with_items}
 use Rattle.sms_text.specs.ReadingRows.{SaysRows, RowsDid}
 use Rattle.sms_text.proofs.Falling.{takes_room}
 use Rattle.sms_text.proofs.Parts.{ReadSoFar, takes_due, misses_due, so_far_begins, so_far_pauses, so_far_ends, line_taken, line_missed, first_line_missed, part_reads, part_taken, part_missed}
@@ -114,12 +112,6 @@ reading_plain p h b b' es old mid new is took more =
       so_far = subst P pushed (so_far_plain (a_text p) h [] old mid new _ es is.so_far took);
       last = took.last;
     })
-
--- what is taken fits the builder
-pub entries_fit : (p : ℕ) (h : Head) (b : Building) (es : List Entry) → b.modulus ≡ p → b.height ≡ h.m → b.width ≡ h.n → All (IsInside h p) es →
-    All (λ e. FitsMatrix b.height b.width b.modulus (e.i, e.j, e.v)) es
-entries_fit p h b es modulus height width inside = rw (modulus, height, width)
-    (All-weaker (IsInside h p) (λ e. FitsMatrix h.m h.n p (e.i, e.j, e.v)) (λ e i. record { row = i.row; column = i.column; residue = i.residue }) es inside)
 
 -- memory was wanted between two lines
 pub reading_pauses : (p : ℕ) (h : Head) (b : Building) (old new : InputState) → IsReading p h b old new → RowsDid p old new (Err error.Memory)

@@ -1,5 +1,5 @@
 -- Entry lines that stand in the bytes at hand, plainly spelled.
-use Rattle.std.specs.Prelude.{◌≡◌, ◌<◌, ◌≤◌, ◌+◌, ◌-◌, Bool, true, false, ℕ, List, [], ◌∷◌, ◌++◌, length, drop, map, All, Ok, None}
+use Rattle.std.specs.Prelude.{◌≡◌, ◌⊎◌, ◌<◌, ◌≤◌, ◌+◌, ◌-◌, Bool, true, false, ℕ, List, [], ◌∷◌, ◌++◌, length, drop, map, All, Ok, None}
 use Rattle.sparse_rows.specs.Rows.{Building, Triple}
 use Rattle.sms_text.specs.declared.reader.Entry.{Entry}
 use Rattle.sms_text.specs.declared.reader.Head.{Head}
@@ -47,11 +47,27 @@ pub record IsIndexAt (size : ℕ) (bytes : List ℕ) (at : ℕ) (r : IndexAt) : 
   pub spells : value word ≡ r.index + 1
   pub below : r.index < size
 
--- at this place stands a value, with a byte 10 behind it
+-- at this place stands a byte 10
+pub record IsBehindFeed (bytes : List ℕ) (at next : ℕ) : Type 0 where
+  pub split : drop at bytes ≡ 10 ∷ drop next bytes
+  pub next_is : next ≡ at + 1
+  pub within : next ≤ length bytes
+
+-- at this place a line ends: a byte 10 stands there, or a byte 13 and then a byte 10
+pub record IsBehindEnd (bytes : List ℕ) (at next : ℕ) : Type 0 where
+  pub mark : List ℕ
+  pub kind : (mark ≡ []) ⊎ (mark ≡ 13 ∷ [])
+  pub split : drop at bytes ≡ mark ++ 10 ∷ drop next bytes
+  pub next_is : next ≡ at + length mark + 1
+  pub within : next ≤ length bytes
+
+-- at this place stands a value, and behind it the line ends
 pub record IsValueAt (p : ℕ) (bytes : List ℕ) (at : ℕ) (r : ValueAt) : Type 0 where
   pub word : List ℕ
-  pub split : drop at bytes ≡ word ++ 10 ∷ drop r.next bytes
-  pub next : r.next ≡ at + length word + 1
+  pub mark : List ℕ
+  pub kind : (mark ≡ []) ⊎ (mark ≡ 13 ∷ [])
+  pub split : drop at bytes ≡ (word ++ mark) ++ 10 ∷ drop r.next bytes
+  pub next : r.next ≡ at + length (word ++ mark) + 1
   pub within : r.next ≤ length bytes
   pub number : is_number (unsigned word) ≡ true
   pub spells : r.residue ≡ residue p word

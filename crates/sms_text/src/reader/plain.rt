@@ -1,8 +1,8 @@
-// Entry lines that are plain: two indices that lie inside, each with one gap behind it, and a number that may have a minus, up to a byte 10.
+// Entry lines that are plain: two indices that lie inside, each with one gap behind it, and a number that may have a minus, up to the line's end.
 ghost use Rattle.std.specs.Option.{MatchOption};
 ghost use Rattle.std.specs.Prelude.{◌≡◌, ◌≢◌, ◌≤◌, ◌<◌, ◌+◌, ◌-◌, ◌%◌, if◌then◌else◌, length, IfSome};
 ghost use Rattle.sms_text.specs.declared.reader.plain.TheConstants.{SHORT};
-ghost use Rattle.sms_text.specs.PlainLines.{AreDigitsAt, AreEntryLines, IsDigitRun, IsIndexAt, IsPlainLine, IsValueAt};
+ghost use Rattle.sms_text.specs.PlainLines.{AreDigitsAt, AreEntryLines, IsBehindEnd, IsBehindFeed, IsDigitRun, IsIndexAt, IsPlainLine, IsValueAt};
 
 use crate::line_words::is_gap;
 use crate::numbers::is_digit;
@@ -100,7 +100,7 @@ fn index_at(bytes: &[u8], at: usize, size: u32) -> Option<IndexAt>
     })
 }
 
-// The value that stands at this place, with a byte 10 behind it.
+// The value that stands at this place, with the end of a line behind it.
 #[inline(always)]
 fn value_at(bytes: &[u8], at: usize, p: &Modulus) -> Option<ValueAt>
     requires { at ≤ length bytes.now }
@@ -111,13 +111,36 @@ fn value_at(bytes: &[u8], at: usize, p: &Modulus) -> Option<ValueAt>
     }
     let negative = bytes[at] == b'-';
     let run = digit_run(bytes, at + usize::from(negative))?;
-    if run.end == bytes.len() || bytes[run.end] != b'\n' {
-        return None;
-    }
+    let next = behind_end(bytes, run.end)?;
     Some(ValueAt {
         residue: with_sign(negative, residue_of(run.number, p), p),
-        next: run.end + 1,
+        next,
     })
+}
+
+// The place behind a byte 10, or behind a byte 13 and a byte 10, if one stands at this place.
+#[inline(always)]
+fn behind_end(bytes: &[u8], at: usize) -> Option<usize>
+    ensures { IfSome result (IsBehindEnd bytes.now at) }
+{
+    if at < bytes.len() && bytes[at] == b'\n' {
+        return Some(at + 1);
+    }
+    if at < bytes.len() && bytes[at] == b'\r' {
+        return behind_feed(bytes, at + 1);
+    }
+    None
+}
+
+// The place behind a byte 10, if it stands at this place.
+fn behind_feed(bytes: &[u8], at: usize) -> Option<usize>
+    ensures { IfSome result (IsBehindFeed bytes.now at) }
+{
+    if at < bytes.len() && bytes[at] == b'\n' {
+        Some(at + 1)
+    } else {
+        None
+    }
 }
 
 // The residue, or that of its negative.
