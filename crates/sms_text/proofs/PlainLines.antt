@@ -20,7 +20,7 @@ use Rattle.sms_text.specs.Numbers.{are_digits, divides_by_zero, is_digit, is_min
 use Rattle.sms_text.specs.PlainLines.{AreDigitsAt, AreEntryLines, IsBehindEnd, IsDigitRun, IsIndexAt, IsPlainLine, IsValueAt, TookEntries, entry_item}
 use Rattle.sms_text.specs.Reading.{IsInside, ReaderState, with_items}
 use Rattle.sms_text.specs.Text.{Due, Body, Value, Judged, body_of, judge, read, with_item}
-use Rattle.sms_text.proofs.LeadingWords.{digits_push, digits_split, number_words, signed_alone, some_number, value_push}
+use Rattle.sms_text.proofs.LeadingWords.{digits_push, digits_split, number_digits_all, number_words, signed_alone, some_number, value_push}
 use Rattle.sms_text.proofs.Runs.{with_items_push}
 
 -- digits from a place on: none yet, and one more
@@ -164,10 +164,6 @@ bare_value mark (b ∷ w) kind h = elim (cases_Bool (eqb b 45 || eqb b 43)) [
       bare_number mark (b ∷ w) kind (sym (ap is_number same) ∙ h)
 ]
 
-number_digits : (w : List ℕ) → is_number w ≡ true → are_digits w ≡ true
-number_digits [] h = absurd cc
-number_digits (b ∷ w) h = h
-
 gap_goes : (g : ℕ) → is_gap g ≡ true → eqb g 10 ≡ false
 gap_goes g h = grind (arith, nat_tests)
 
@@ -196,8 +192,8 @@ line_found p h bytes at r c v l row column val is =
     let line = row.word ++ row.gap ∷ back in
     let tail = val.word ++ val.mark in
     let rest = drop v.next bytes in
-    let bare : IsBare val.mark line = bare_digits val.mark row.word (row.gap ∷ back) (number_digits row.word row.number) (bare_push val.mark row.gap back (gap_goes row.gap row.parts)
-    (bare_digits val.mark column.word (column.gap ∷ val.word) (number_digits column.word column.number)
+    let bare : IsBare val.mark line = bare_digits val.mark row.word (row.gap ∷ back) (number_digits_all row.word row.number) (bare_push val.mark row.gap back (gap_goes row.gap row.parts)
+    (bare_digits val.mark column.word (column.gap ∷ val.word) (number_digits_all column.word column.number)
     (bare_push val.mark column.gap val.word (gap_goes column.gap column.parts) (bare_value val.mark val.word val.kind val.number)))) in
     let three : words (content (line ++ val.mark)) ≡ row.word ∷ column.word ∷ val.word ∷ [] = ap words bare.kept ∙ number_words row.word back row.gap row.number row.parts
     ∙ ap (λ ws. row.word ∷ ws) (number_words column.word val.word column.gap column.number column.parts ∙ ap (λ ws. column.word ∷ ws) (signed_alone val.word val.number).0) in
