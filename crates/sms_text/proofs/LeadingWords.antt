@@ -1,15 +1,14 @@
 -- Words of digits at the front of a line.
-use Rattle.std.proofs.Common.{ℕ, ◌||◌, ◌+◌, ◌-◌, ◌*◌, ◌<◌, ◌≡◌, ◌≢◌, ◌++◌, true, false, eqb, List, [], ◌∷◌, None, length, length-take, take, drop, get_or, min, refl, sym, ap, ◌∙◌, inl, inr, arith}
+use Rattle.std.proofs.Common.{ℕ, ◌||◌, ◌+◌, ◌-◌, ◌*◌, ◌≡◌, ◌≢◌, ◌++◌, true, false, eqb, List, [], ◌∷◌, None, length, refl, sym, ap, ◌∙◌, inl, inr, arith}
 use Rattle.std.specs.List.{filter}
-use Rattle.std.proofs.lemmas.Bool.{cases_Bool, cases_lt}
+use Rattle.std.proofs.lemmas.Bool.{cases_Bool}
 use Rattle.std.proofs.lemmas.Bool.Decides.{nat_tests}
-use Rattle.std.proofs.lemmas.List.{drop_more, take-append-drop, take_more}
 use Rattle.sms_text.specs.Lines.{is_filled, is_gap, pieces, words}
-use Rattle.sms_text.specs.Numbers.{are_digits, has_slash, is_digit, is_number, numerator, unsigned, value, value_from}
+use Rattle.sms_text.specs.Numbers.{are_digits, has_slash, is_digit, is_number, numerator, unsigned, value_from}
 use Rattle.sms_text.specs.Spelling.{SplitSlash}
 
 -- the first of digits is one, and so are the others
-digits_split : (b : ℕ) (w : List ℕ) → are_digits (b ∷ w) ≡ true → (is_digit b ≡ true) × (are_digits w ≡ true)
+pub digits_split : (b : ℕ) (w : List ℕ) → are_digits (b ∷ w) ≡ true → (is_digit b ≡ true) × (are_digits w ≡ true)
 digits_split b w h = elim (cases_Bool (is_digit b)) [
   | inl digit ↦ (digit, (let e : are_digits (b ∷ w) ≡ are_digits w = rw digit refl in sym e ∙ h))
   | inr other ↦ absurd (let f : are_digits (b ∷ w) ≡ false = rw other refl in cc)
@@ -30,7 +29,7 @@ alone_pieces (b ∷ w) h =
     let d = digits_split b w h in
     rw (digit_no_gap b d.0, alone_pieces w d.1) refl
 
-number_words : (w rest : List ℕ) (g : ℕ) → is_number w ≡ true → is_gap g ≡ true → words (w ++ g ∷ rest) ≡ w ∷ words rest
+pub number_words : (w rest : List ℕ) (g : ℕ) → is_number w ≡ true → is_gap g ≡ true → words (w ++ g ∷ rest) ≡ w ∷ words rest
 number_words [] rest g h gap = absurd cc
 number_words (b ∷ w) rest g h gap = ap (filter is_filled) (leading_pieces (b ∷ w) rest g h gap)
 
@@ -40,51 +39,19 @@ number_alone [] h = absurd cc
 number_alone (b ∷ w) h = ap (filter is_filled) (alone_pieces (b ∷ w) h)
 
 -- one digit more
-digits_push : (w : List ℕ) (d : ℕ) → are_digits w ≡ true → is_digit d ≡ true → are_digits (w ++ d ∷ []) ≡ true
+pub digits_push : (w : List ℕ) (d : ℕ) → are_digits w ≡ true → is_digit d ≡ true → are_digits (w ++ d ∷ []) ≡ true
 digits_push [] d h digit = rw digit refl
 digits_push (b ∷ w) d h digit =
     let s = digits_split b w h in
     rw (s.0, digits_push w d s.1 digit) refl
 
-value_push : (n d : ℕ) (w : List ℕ) → value_from n (w ++ d ∷ []) ≡ 10 * value_from n w + (d - 48)
+pub value_push : (n d : ℕ) (w : List ℕ) → value_from n (w ++ d ∷ []) ≡ 10 * value_from n w + (d - 48)
 value_push n d [] = refl
 value_push n d (b ∷ w) = value_push (10 * n + (b - 48)) d w
 
-capped_push : (cap v d : ℕ) → min (10 * min v cap + d) cap ≡ min (10 * v + d) cap
-capped_push cap v d = elim (cases_lt v cap) [
-  | inl less ↦ let same : min v cap ≡ v = omega arith in rw same refl
-  | inr more ↦ let same : min v cap ≡ cap = omega arith in rw same (omega arith)
-]
-
--- the first `at` bytes of a line are digits, and make this number up to the cap
-pub record Leads (line : List ℕ) (cap at number : ℕ) : Type 0 where
-  pub digits : are_digits (take at line) ≡ true
-  pub same : number ≡ min (value (take at line)) cap
-
-pub leads_more : (line : List ℕ) (cap at number next : ℕ) → at < length line → Leads line cap at number → is_digit (get_or line at 0) ≡ true →
-    next ≡ min (10 * number + (get_or line at 0 - 48)) cap → Leads line cap (at + 1) next
-leads_more line cap at number next inside l digit is =
-    let d = get_or line at 0 in
-    let more : take (at + 1) line ≡ take at line ++ d ∷ [] = take_more line at 0 inside in
-    record {
-      digits = ap are_digits more ∙ digits_push (take at line) d l.digits digit;
-      same = is ∙ ap (λ n. min (10 * n + (d - 48)) cap) l.same ∙ capped_push cap (value (take at line)) (d - 48)
-          ∙ ap (λ v. min v cap) (sym (ap value more ∙ value_push 0 d (take at line)));
-    }
-
-some_number : (w : List ℕ) → length w ≢ 0 → are_digits w ≡ true → is_number w ≡ true
+pub some_number : (w : List ℕ) → length w ≢ 0 → are_digits w ≡ true → is_number w ≡ true
 some_number [] some h = absurd (some refl)
 some_number (b ∷ w) some h = h
-
--- and where a gap stands behind them, they are the line's first word
-pub leads_number : (line : List ℕ) (cap at number : ℕ) → at ≢ 0 → at < length line → Leads line cap at number → is_number (take at line) ≡ true
-leads_number line cap at number some inside l = some_number (take at line) (λ none. some (omega (arith, length-take at line))) l.digits
-
-pub leads_words : (line : List ℕ) (cap at number : ℕ) → at ≢ 0 → at < length line → Leads line cap at number → is_gap (get_or line at 0) ≡ true →
-    words line ≡ take at line ∷ words (drop (at + 1) line)
-leads_words line cap at number some inside l gap =
-    let whole : take at line ++ get_or line at 0 ∷ drop (at + 1) line ≡ line = ap (λ t. take at line ++ t) (sym (drop_more line at 0 inside)) ∙ take-append-drop at line in
-    ap words (sym whole) ∙ number_words (take at line) (drop (at + 1) line) (get_or line at 0) (leads_number line cap at number some inside l) gap
 
 -- digits have no slash
 no_slash : (w : List ℕ) → are_digits w ≡ true → (has_slash w ≡ false) × (numerator w ≡ w)
@@ -95,7 +62,7 @@ no_slash (b ∷ w) h =
     let rest = no_slash w d.1 in
     (rw (other, rest.0) refl, rw (other, rest.1) refl)
 
-number_digits_all : (w : List ℕ) → is_number w ≡ true → are_digits w ≡ true
+pub number_digits_all : (w : List ℕ) → is_number w ≡ true → are_digits w ≡ true
 number_digits_all [] h = absurd cc
 number_digits_all (b ∷ w) h = h
 

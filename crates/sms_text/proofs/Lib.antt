@@ -10,6 +10,7 @@ pub mod LineEnds
 pub mod Lining
 pub mod Moving
 pub mod Parts
+pub mod PlainLines
 pub mod Pulls
 pub mod Puts
 pub mod ReadingMatrices

@@ -9,11 +9,12 @@ use Rattle.sms_text.specs.declared.reader.Entry.{Entry}
 use Rattle.sms_text.specs.declared.reader.Head.{Head}
 use Rattle.sms_text.specs.Text.{Due, Header, Body, Item, Sizes, Value, Closing, Judged, value_at, matrices, outer_lines}
 use Rattle.sms_text.specs.Parts.{open_at, PartDid, Wanted, wants}
-use Rattle.sms_text.specs.Reading.{InputState, TakesLine, LineDid, Repeats, LeavesOpen, header_judged, entry_judged}
+use Rattle.sms_text.specs.PlainLines.{TookEntries, entry_item, entry_triple, with_entries_pushed}
+use Rattle.sms_text.specs.Reading.{InputState, MayFollow, ReaderState, TakesLine, LineDid, Repeats, LeavesOpen, header_judged, entry_judged, input, read_on, with_items}
 use Rattle.sms_text.specs.ReadingRows.{SaysRows, RowsDid}
 use Rattle.sms_text.proofs.Falling.{takes_room}
 use Rattle.sms_text.proofs.Parts.{ReadSoFar, takes_due, misses_due, so_far_begins, so_far_pauses, so_far_ends, line_taken, line_missed, first_line_missed, part_reads, part_taken, part_missed}
-use Rattle.sms_text.proofs.Runs.{line_takes}
+use Rattle.sms_text.proofs.Runs.{line_takes, with_items_twice}
 
 -- a call that took a line found the reader sound
 pub line_sound : (p : ℕ) (due : Due) (old new : InputState) (j : Judged) → LineDid p due old new (Ok j) → old.reader.error ≡ None
@@ -76,9 +77,49 @@ reading_goes p h b b' e (Some d) old mid new is did opened some more =
       last = t.last;
     })
 
+-- plain lines were taken
+so_far_plain : (w : Wanted) (h : Head) (rest : List Due) (old mid : InputState) (new : ReaderState) (items : List Item) (es : List Entry) → ReadSoFar w old mid items (Body h.m h.n ∷ rest) →
+    TookEntries w.modulus h mid.reader new es → ReadSoFar w old (input new mid.source) (items ++ map entry_item es) (Body h.m h.n ∷ rest)
+so_far_plain w h rest old mid new items es s t = record {
+  begun = s.begun;
+  taken = s.taken;
+  draws = rw t.ended s.draws;
+  stands = record {
+    sound = t.error;
+    opened = t.open_text ∙ s.stands.opened;
+    reads = λ ended more dues m.
+        let m' : MayFollow mid.reader.ended ended more = rw t.ended at m in
+        s.stands.reads ended more dues m' ∙ ap (with_items items) (t.reads ended more (rest ++ dues))
+        ∙ sym (with_items_twice items (map entry_item es) (read_on w.modulus ended (Body h.m h.n ∷ (rest ++ dues)) new more));
+  };
+}
+
+items_pushed : (es : List Entry) → map triple_item (map entry_triple es) ≡ map entry_item es
+items_pushed [] = refl
+items_pushed (e ∷ es) = ap (λ t. entry_item e ∷ t) (items_pushed es)
+
+-- and their entries pushed
+pub reading_plain : (p : ℕ) (h : Head) (b b' : Building) (es : List Entry) (old mid : InputState) (new : ReaderState) →
+    IsReading p h b old mid → TookEntries p h mid.reader new es → b' ≡ with_entries_pushed b es → IsReading p h b' old (input new mid.source)
+reading_plain p h b b' es old mid new is took more =
+    let P : List Item → Type 0 = λ l. ReadSoFar (a_text p) old (input new mid.source) (Sizes h.m h.n ∷ l) (Body h.m h.n ∷ []) in
+    let pushed : map triple_item b.pushed ++ map entry_item es ≡ map triple_item (b.pushed ++ map entry_triple es) =
+    ap (λ t. map triple_item b.pushed ++ t) (sym (items_pushed es)) ∙ sym (map-append triple_item b.pushed (map entry_triple es)) in
+    rw more (record {
+      modulus = is.modulus;
+      height = is.height;
+      width = is.width;
+      so_far = subst P pushed (so_far_plain (a_text p) h [] old mid new _ es is.so_far took);
+      last = took.last;
+    })
+
 -- memory was wanted between two lines
 pub reading_pauses : (p : ℕ) (h : Head) (b : Building) (old new : InputState) → IsReading p h b old new → RowsDid p old new (Err error.Memory)
 reading_pauses p h b old new is = so_far_pauses (a_text p) (SaysRows p) old new _ _ is.so_far
+
+pub plain_pauses : (p : ℕ) (h : Head) (b : Building) (es : List Entry) (old mid : InputState) (new : ReaderState) →
+    IsReading p h b old mid → TookEntries p h mid.reader new es → RowsDid p old (input new mid.source) (Err error.Memory)
+plain_pauses p h b es old mid new is took = reading_pauses p h (with_entries_pushed b es) old (input new mid.source) (reading_plain p h b _ es old mid new is took refl)
 
 -- memory was wanted for the matrix, behind the header and behind an entry
 pub header_pauses : (p : ℕ) (h : Head) (old new : InputState) →

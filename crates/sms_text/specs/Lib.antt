@@ -8,6 +8,7 @@ pub mod Memory
 pub mod Numbers
 pub mod OuterLines
 pub mod Parts
+pub mod PlainLines
 pub mod Reading
 pub mod ReadingRows
 pub mod Spelling

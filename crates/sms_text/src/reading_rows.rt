@@ -1,15 +1,17 @@
 // Texts read as matrices.
-ghost use Rattle.std.specs.Prelude.{◌≡◌, ◌≤◌, None, IfOk};
+ghost use Rattle.sparse_rows.specs.Rows.{FitsMatrix};
+ghost use Rattle.std.specs.Prelude.{◌≡◌, ◌≤◌, All, None, Some, IfOk, OnOk};
 ghost use Rattle.sms_text.specs.declared.reader.TheConstants.{LARGEST_TEXT_SIZE};
+ghost use Rattle.sms_text.specs.PlainLines.{TookEntries, with_entries_pushed};
 ghost use Rattle.sms_text.specs.Reading.{input};
 ghost use Rattle.sms_text.specs.ReadingRows.{RowsDid};
 
 use crate::kind::TextError;
-use crate::reader::Reader;
+use crate::reader::{Entry, Head, MOST_PLAIN, Reader};
 use crate::stream::Source;
 use residue_words::Modulus;
 use sparse_rows::{Rows, RowsBuilder};
-use std::alloc::Global;
+use std::alloc::{AllocError, Global};
 
 /// Reads a text, from its header to its closing line, as a matrix modulo p: values given for one place are summed.
 ///
@@ -17,8 +19,8 @@ use std::alloc::Global;
 /// then on. After want of memory it does so too, if it was the reader that wanted memory; if it was the matrix, the reader stands
 /// behind the last line that it took, where `open_text` says whether the text is still open.
 ///
-/// Memory is wanted for the entries, 16 bytes each and 36 for a moment where their room grows, and then for the matrix beside them; the
-/// time is that of reading the lines and of sorting each row.
+/// Memory is wanted for 16 KB of entries that are taken together, for all entries, 16 bytes each and 36 for a moment where their room grows,
+/// and then for the matrix beside them; the time is that of reading the lines and of sorting each row.
 pub fn read_rows<S: Source>(
     reader: &mut Reader,
     alloc: Global,
@@ -40,7 +42,13 @@ pub fn read_rows<S: Source>(
     let Ok(mut builder) = RowsBuilder::new(alloc, head.m, head.n, *p) else {
         return Err(TextError::Memory);
     };
+    let Ok(mut entries) = Vec::with_capacity(alloc, MOST_PLAIN) else {
+        return Err(TextError::Memory);
+    };
     loop {
+        if take_plain(reader, &head, p, &mut entries, &mut builder).is_err() {
+            return Err(TextError::Memory);
+        }
         match reader.entry(source, &head, p) {
             Ok(Some(entry)) => {
                 if builder.push(entry.i, entry.j, entry.v).is_err() {
@@ -56,4 +64,35 @@ pub fn read_rows<S: Source>(
             Err(error) => return Err(error),
         }
     }
+}
+
+// Takes the plain lines at hand, as far as one call does, and adds their entries. Where memory is wanted the reader stands behind them.
+fn take_plain(
+    reader: &mut Reader,
+    head: &Head,
+    p: &Modulus,
+    entries: &mut Vec<Entry>,
+    builder: &mut RowsBuilder,
+) -> Result<(), AllocError>
+    requires open { reader.old.open_text ≡ Some (head.now.m, head.now.n) }
+    requires sound { reader.old.error ≡ None }
+    requires modulus { builder.old.modulus ≡ p.now }
+    requires height { builder.old.height ≡ head.now.m }
+    requires width { builder.old.width ≡ head.now.n }
+    ensures took { TookEntries p.now head.now reader.old reader.new entries.new.items }
+    ensures pushed { OnOk result (builder.new ≡ with_entries_pushed builder.old entries.new.items) }
+{
+    reader.plain_entries(head, p, entries);
+    push_all(builder, entries)
+}
+
+// Adds the entries.
+fn push_all(builder: &mut RowsBuilder, entries: &[Entry]) -> Result<(), AllocError>
+    requires { All (λ e. FitsMatrix builder.old.height builder.old.width builder.old.modulus (e.i, e.j, e.v)) entries.now }
+    ensures { OnOk result (builder.new ≡ with_entries_pushed builder.old entries.now) }
+{
+    for entry in entries {
+        builder.push(entry.i, entry.j, entry.v)?;
+    }
+    Ok(())
 }

@@ -1,6 +1,6 @@
 // Matrices read and written.
 ghost use Rattle.std.specs.Prelude.{◌<◌, ◌≤◌, IfOk};
-ghost use Rattle.sms_text.specs.declared.reader.TheConstants.{LARGEST_TEXT_SIZE};
+ghost use Rattle.sms_text.specs.declared.reader.TheConstants.{LARGEST_INPUT, LARGEST_TEXT_SIZE};
 
 use residue_words::Modulus;
 use sms_text::{
@@ -130,5 +130,109 @@ fn a_long_text_is_written_in_blocks(rt: HostRuntime) -> Result<(), Fail> {
         ),
         (Ok(()), true, true)
     );
+    Ok(())
+}
+
+// What a text says modulo 7: its entries, row by row, or the fault of a line.
+type Says = Result<&'static [(u32, u32, u64)], TextError>;
+
+// Each row: a text in which lines that are taken together stand beside such as are read word by word, its limit, and what it says. What
+// stands behind the texts lets the last of their lines be taken so, too.
+const MIXED: [(&[u8], u64, Says); 9] = [
+    (
+        b"2 3 M\n1 1 5\n1 2 -5\n2 3 12\n2 1 7\n2 1 6\n0 0 0\n% behind the text\n",
+        99,
+        Ok(&[(0, 0, 5), (0, 1, 2), (1, 0, 6), (1, 2, 5)]),
+    ),
+    (
+        b"2 3 M\n1\t1 +5\n 1 2 3\n1 3  4\r\n\n# a\n2 2 1/2\n2 3 1\n0 0 0\n% behind the text\n",
+        99,
+        Ok(&[(0, 0, 5), (0, 1, 3), (0, 2, 4), (1, 1, 4), (1, 2, 1)]),
+    ),
+    (
+        b"2 3 M\n2 3 123456789012345678901\n01 0002 1234567890123\n1 1 -00\n0 0 0\n% behind the text\n",
+        99,
+        Ok(&[(0, 1, 1), (1, 2, 4)]),
+    ),
+    (
+        b"2 3 M\n1 1 5\n3 1 5\n0 0 0\n% behind the text\n",
+        99,
+        Err(TextError::Bad {
+            line: 3,
+            kind: Kind::Row,
+        }),
+    ),
+    (
+        b"2 3 M\n1 1 5\n1 1 5\n2 0 5\n0 0 0\n% behind the text\n",
+        99,
+        Err(TextError::Bad {
+            line: 4,
+            kind: Kind::Column,
+        }),
+    ),
+    (
+        b"2 3 M\n1 1 5\n1 2 3-\n0 0 0\n% behind the text\n",
+        99,
+        Err(TextError::Bad {
+            line: 3,
+            kind: Kind::Number,
+        }),
+    ),
+    (
+        b"2 3 M\n1 1 5\n1 2 --3\n0 0 0\n% behind the text\n",
+        99,
+        Err(TextError::Bad {
+            line: 3,
+            kind: Kind::Number,
+        }),
+    ),
+    (
+        b"2 3 M\n1 1 5\n1 2 3\n0 0 0\n% behind the text\n",
+        17,
+        Err(TextError::Bad {
+            line: 3,
+            kind: Kind::Long,
+        }),
+    ),
+    (
+        b"2 3 M\n1 1 5\n1 2 3\n0 0 1\n% behind the text\n",
+        99,
+        Err(TextError::Bad {
+            line: 4,
+            kind: Kind::Row,
+        }),
+    ),
+];
+
+// Whether the text says this where it comes in pieces of so many bytes.
+fn says(
+    alloc: Global,
+    text: &[u8],
+    piece: usize,
+    limit: u64,
+    wanted: Says,
+) -> Result<bool, AllocError>
+    requires piece { 0 < piece }
+    requires limit { limit ≤ LARGEST_INPUT }
+{
+    let mut source = SteadySource::new(Vec::from_slice(alloc, text)?, piece);
+    let mut reader = Reader::new(alloc, limit)?;
+    match (
+        read_rows(&mut reader, alloc, &mut source, &Modulus::new(7)),
+        wanted,
+    ) {
+        (Ok(rows), Ok(entries)) => Ok(rows.triples(alloc)?.as_slice() == entries),
+        (Err(found), Err(error)) => Ok(found == error),
+        _ => Ok(false),
+    }
+}
+
+#[test]
+fn texts_say_the_same_wherever_they_are_cut(rt: HostRuntime) -> Result<(), Fail> {
+    for (text, limit, wanted) in MIXED {
+        for piece in 1..text.len() + 1 {
+            assert!(rt; says(rt.alloc(), text, piece, limit, wanted)?, "{piece}");
+        }
+    }
     Ok(())
 }
