@@ -4,6 +4,7 @@ ghost use Rattle.pivot_table.specs.Greedy.{IsGreedy, IsTried};
 ghost use Rattle.pivot_table.specs.History.{Grown, StartsWith};
 ghost use Rattle.optimistic_search.specs.Budget.{IsUnbounded, StaysUnbounded};
 ghost use Rattle.pivot_table.specs.Book.{HasRoom};
+ghost use Rattle.optimistic_search.specs.Search.{IsGreedyFrom};
 
 use crate::leveled_walk::LeveledWalk;
 use pivot_table::Book;
@@ -99,14 +100,17 @@ pub(crate) fn search_greedily(alloc: Global, book: Book) -> Result<Book, AllocEr
     Ok(found)
 }
 
-// What `search_greedily` finds, or None if it takes more than so many steps; if that is the largest number, it may take any.
-pub(crate) fn search_greedily_within(
-    alloc: Global,
-    book: Book,
-    most: u64,
-) -> Result<Option<Book>, AllocError>
+/// What `search` by one worker does, given up after a number of steps: on some matrices it would find long chains of pivots, which only
+/// fill what they leave. A step is an entry of a pivot row that a walk looks at, or that is looked at while levels are raised. Besides
+/// the steps, each row and column is gone through a few times.
+///
+/// None says that more than `most` steps were taken, those for the pairs that the book had among them; then the book is gone. If `most` is
+/// the largest number, any may be. No clause covers the number of steps. It takes 13 bytes a column and 16 bytes a pair that there can
+/// be, all before the first row.
+pub fn search_within(alloc: Global, book: Book, most: u64) -> Result<Option<Book>, AllocError>
     ensures rows { IfOk result (λ o. IfSome o (λ b. b.rows ≡ book.entry.rows)) }
     ensures begins { IfOk result (λ o. IfSome o (λ b. StartsWith b.pairs book.entry.pairs)) }
+    ensures greedy { IfOk result (λ o. IfSome o (IsGreedyFrom book.entry)) }
 {
     let (found, whole) = search_by_levels(alloc, book, most)?;
     if !whole {

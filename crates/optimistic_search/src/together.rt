@@ -3,14 +3,11 @@ ghost use Rattle.std.specs.Prelude.{◌≡◌, ◌<◌, ◌≤◌, ℕ, None, le
 ghost use Rattle.pivot_table.specs.Board.{IsSeatOf};
 ghost use Rattle.pivot_table.specs.Book.{HasRoom};
 ghost use Rattle.pivot_table.specs.Closing.{IsDone};
-ghost use Rattle.pivot_table.specs.Core.{Chair};
 ghost use Rattle.pivot_table.specs.History.{Maximal, StandsOrIsDead, StartsWith};
-ghost use Rattle.pivot_table.specs.Last.{IsLast};
 ghost use Rattle.optimistic_search.specs.Versions.{AreStartsOf};
 ghost use Rattle.optimistic_search.specs.Workers.{DoneAreSettled, IsWorkerOf};
 
 use crate::by_walk::{follow, try_row};
-use crate::course::Course;
 use crate::gate::Gate;
 use crate::steps::Steps;
 use crate::walk::Walk;
@@ -68,7 +65,6 @@ fn prepared<'a, L: Ledger>(
 fn run_all<R: Threads + Sync, G: Gate>(
     rt: &R,
     board: &Board<'_>,
-    course: Course,
     gate: &G,
     workers: &mut [Worker<'_>],
 )
@@ -86,7 +82,7 @@ fn run_all<R: Threads + Sync, G: Gate>(
         &|_: usize, worker: &mut Worker<'_>|
             requires { IsWorkerOf board.now worker.now }
             ensures { IsWorkerOf board.entry.now worker.exit.now }
-        { worker.run(board, course, gate) },
+        { worker.run(board, gate) },
     );
 }
 
@@ -158,33 +154,8 @@ fn sweep<L: Ledger>(book: &mut Book, walk: &mut Walk, done: &Marks, steps: &mut 
     }
 }
 
-// Lets several workers publish on a board that begins with the book's pairs. Tells what they leave of it, and how many steps they
-// took, modulo 2^64. It takes all memory before the first begins.
-fn publish_together<'a, R: Threads + Sync, G: Gate, L: Ledger>(
-    rt: &R,
-    alloc: Global,
-    book: &Book<'a>,
-    workers: u32,
-    course: Course,
-    gate: &G,
-    steps: &mut Steps<L>,
-) -> Result<(Closed<'a>, u64), AllocError>
-    ensures rows { IfOk result (λ t. t.0.book.rows ≡ book.now.rows) }
-    ensures room { IfOk result (λ t. HasRoom book.now.rows.matrix t.0.book) }
-    ensures begins { IfOk result (λ t. StartsWith t.0.book.pairs book.now.pairs) }
-    ensures tall { IfOk result (λ t. length t.0.done ≡ book.now.rows.matrix.height) }
-    ensures settled { IfOk result (λ t. DoneAreSettled book.now.rows.matrix t.0.book.pairs t.0.done) }
-    ensures last { IfOk result (λ t. (s : Chair) × IsLast book.now.rows.matrix book.now.pairs s t.0) }
-{
-    let (board, mut seat) = Board::new(alloc, book)?;
-    let mut team = prepared(alloc, book, &board, &mut seat, workers, steps)?;
-    run_all(rt, &board, course, gate, team.as_mut_slice());
-    let taken = join_all(&board, &mut seat, team);
-    Ok((board.close(seat), taken))
-}
-
-// Grows the book by several workers and a sweep, and tells the starts of what they published and how many steps were taken, modulo
-// 2^64. It takes all memory before the first begins.
+// Grows the book by several workers, and tells the starts of what they published and how many steps were taken, modulo 2^64. It
+// takes all memory before the first begins.
 fn search_with<'a, R: Threads + Sync, G: Gate, L: Ledger>(
     rt: &R,
     alloc: Global,
@@ -204,21 +175,16 @@ fn search_with<'a, R: Threads + Sync, G: Gate, L: Ledger>(
 {
     let mut steps = Steps::<L>::new(blank);
     let first = book.pairs().len();
+    let (board, mut seat) = Board::new(alloc, &book)?;
     let mut walk = walk_over(alloc, &book, &mut steps)?;
-    let (left, taken) = publish_together(
-        rt,
-        alloc,
-        &book,
-        workers,
-        Course::Cyclic,
-        gate,
-        &mut steps,
-    )?;
+    let mut team = prepared(alloc, &book, &board, &mut seat, workers, &mut steps)?;
+    run_all(rt, &board, gate, team.as_mut_slice());
+    let taken = join_all(&board, &mut seat, team);
     let Closed {
         book: closed,
         done,
         starts,
-    } = left;
+    } = board.close(seat);
     let mut closed = closed;
     follow(&mut walk, closed.pairs(), first, &mut steps);
     sweep(&mut closed, &mut walk, &done, &mut steps);
@@ -240,46 +206,4 @@ pub(crate) fn search_together<'a, R: Threads + Sync, G: Gate>(
         AreStartsOf book.entry.rows.matrix book.entry.pairs t.0.pairs t.1) }
 {
     search_with::<R, G, Brand>(rt, alloc, book, workers, gate, Blank::new(1))
-}
-
-// Grows the book by several workers, each with its share of the steps, who go without a sweep.
-fn publish_within<'a, R: Threads + Sync, G: Gate, L: Ledger>(
-    rt: &R,
-    alloc: Global,
-    book: Book<'a>,
-    workers: u32,
-    gate: &G,
-    most: u64,
-    blank: Blank,
-) -> Result<Book<'a>, AllocError>
-    requires workers { 1 ≤ workers }
-    requires name { blank.name ≡ L.name }
-    requires parts { blank.parts ≡ L.parts }
-    requires some { 0 < blank.parts }
-    ensures rows { IfOk result (λ b. b.rows ≡ book.entry.rows) }
-    ensures begins { IfOk result (λ b. StartsWith b.pairs book.entry.pairs) }
-{
-    let mut steps = Steps::<L>::new(blank);
-    let course = Course::Singly {
-        every: workers,
-        most: most / u64::from(workers),
-    };
-    let (left, _taken) = publish_together(rt, alloc, &book, workers, course, gate, &mut steps)?;
-    Ok(left.book)
-}
-
-// Grows the book by several workers, each of whom stops after its share of the steps.
-pub(crate) fn search_together_within<'a, R: Threads + Sync, G: Gate>(
-    rt: &R,
-    alloc: Global,
-    book: Book<'a>,
-    workers: u32,
-    gate: &G,
-    most: u64,
-) -> Result<Book<'a>, AllocError>
-    requires some { 1 ≤ workers }
-    ensures rows { IfOk result (λ b. b.rows ≡ book.entry.rows) }
-    ensures begins { IfOk result (λ b. StartsWith b.pairs book.entry.pairs) }
-{
-    publish_within::<R, G, Brand>(rt, alloc, book, workers, gate, most, Blank::new(1))
 }

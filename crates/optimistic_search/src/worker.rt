@@ -2,7 +2,6 @@
 ghost use Rattle.std.specs.Prelude.{◌≡◌, ◌<◌, ◌≤◌};
 ghost use Rattle.optimistic_search.specs.Workers.{IsWorkerOf};
 
-use crate::course::Course;
 use crate::gate::Gate;
 use crate::steps::Steps;
 use crate::taken::take_row;
@@ -58,49 +57,8 @@ impl<'a> Worker<'a> {
         }
     }
 
-    // Goes once through all rows, in cyclic order from its first row down.
-    fn go_round<G: Gate, L: Ledger>(&mut self, board: &Board<'_>, gate: &G, steps: &mut Steps<L>)
-        requires { IsWorkerOf board.now self.old }
-        ensures { IsWorkerOf board.now self.new }
-    {
-        let height = board.rows().height();
-        let above = (self.from + 1).min(height);
-        self.take_rows(board, 0, above, gate, steps);
-        self.take_rows(board, above, height, gate, steps);
-    }
-
-    // Takes one row in so many, ascending, until it has taken more than so many steps.
-    fn go_up<G: Gate, L: Ledger>(
-        &mut self,
-        board: &Board<'_>,
-        every: u32,
-        most: u64,
-        gate: &G,
-        steps: &mut Steps<L>,
-    )
-        requires { IsWorkerOf board.now self.old }
-        ensures { IsWorkerOf board.now self.new }
-    {
-        let height = board.rows().height();
-        // Each turn goes up, for whatever course.
-        let stride = every.max(1);
-        let mut row = self.number;
-        while row < height && steps.count() <= most {
-            let _ = take_row(
-                board,
-                &mut self.seat,
-                &mut self.walk,
-                row,
-                self.number,
-                gate,
-                steps,
-            );
-            row = row.saturating_add(stride);
-        }
-    }
-
-    // Goes its course, and counts its steps.
-    fn go<G: Gate, L: Ledger>(&mut self, board: &Board<'_>, course: Course, gate: &G, blank: Blank)
+    // Goes once through the rows, in cyclic order from its first row down.
+    fn go_round<G: Gate, L: Ledger>(&mut self, board: &Board<'_>, gate: &G, blank: Blank)
         requires worker { IsWorkerOf board.now self.old }
         requires name { blank.name ≡ L.name }
         requires parts { blank.parts ≡ L.parts }
@@ -108,18 +66,18 @@ impl<'a> Worker<'a> {
         ensures { IsWorkerOf board.now self.new }
     {
         let mut steps = Steps::<L>::new(blank);
-        match course {
-            Course::Cyclic => self.go_round(board, gate, &mut steps),
-            Course::Singly { every, most } => self.go_up(board, every, most, gate, &mut steps),
-        }
+        let height = board.rows().height();
+        let above = (self.from + 1).min(height);
+        self.take_rows(board, 0, above, gate, &mut steps);
+        self.take_rows(board, above, height, gate, &mut steps);
         self.steps = steps.count();
     }
 
-    // Goes its course.
-    pub(crate) fn run<G: Gate>(&mut self, board: &Board<'_>, course: Course, gate: &G)
+    // Goes once through the rows.
+    pub(crate) fn run<G: Gate>(&mut self, board: &Board<'_>, gate: &G)
         requires { IsWorkerOf board.now self.old }
         ensures { IsWorkerOf board.now self.new }
     {
-        self.go::<G, Brand>(board, course, gate, Blank::new(1));
+        self.go_round::<G, Brand>(board, gate, Blank::new(1));
     }
 }

@@ -1,13 +1,12 @@
 // The search, by a number of workers.
-ghost use Rattle.std.specs.Prelude.{◌≡◌, ◌≤◌, IfOk, IfSome, length};
+ghost use Rattle.std.specs.Prelude.{◌≡◌, ◌≤◌, IfOk, length};
 ghost use Rattle.pivot_table.specs.History.{Maximal, StartsWith};
 ghost use Rattle.optimistic_search.specs.Search.{IsGreedyFrom};
 ghost use Rattle.optimistic_search.specs.Versions.{AreOwnPlaces, TellsStarts};
 
 use crate::gate::Gate;
-use crate::greedy::search_greedily_within;
 use crate::narrow::{has_few_entries, search_by_entries};
-use crate::together::{search_together, search_together_within};
+use crate::together::search_together;
 use crate::traced::Traced;
 use crate::versions::{own_places, started, version_room};
 use pivot_table::Book;
@@ -118,36 +117,4 @@ pub fn search_counted<'a, R: Threads + Sync, G: Gate>(
 {
     let (found, _starts, steps) = search_together(rt, alloc, book, workers, gate)?;
     Ok((found, steps))
-}
-
-/// The search of `search`, given up after a number of steps: on some matrices it would find long chains of pivots, which only fill
-/// what they leave. A step is an entry of a pivot row that a walk looks at, or that is looked at while levels are raised; several
-/// workers count those of their walks (`Steps`). Besides the steps, each row and column is gone through a few times.
-///
-/// One worker tries the rows in ascending order, and answers what `search` finds; or None as soon as it has taken more than `most`
-/// steps, those for the pairs that the book had among them. If `most` is the largest number, it may take any. Of `n` workers on a board
-/// each takes every `n`-th row, ascending from row 0, 1, .. or `n - 1`, and begins no other when it has taken more than `most / n` steps.
-/// What they have published stays, so they always answer a book; it needn't be maximal, since nothing is swept. A matrix that is four
-/// times as wide or as high as it has entries is left to one worker. If the answer is None, the book is gone. No clause covers the
-/// number of steps.
-///
-/// It takes what `search` takes, but for the walk that `search` has besides those of its workers; one worker takes 13 bytes for a
-/// column without an entry, too. All memory is taken before the first row. The book is gone where memory was refused.
-pub fn search_within<'a, R: Threads + Sync, G: Gate>(
-    rt: &R,
-    alloc: Global,
-    book: Book<'a>,
-    workers: u32,
-    gate: &G,
-    most: u64,
-) -> Result<Option<Book<'a>>, AllocError>
-    requires some { 1 ≤ workers }
-    ensures rows { IfOk result (λ o. IfSome o (λ b. b.rows ≡ book.entry.rows)) }
-    ensures begins { IfOk result (λ o. IfSome o (λ b. StartsWith b.pairs book.entry.pairs)) }
-{
-    if workers == 1 || has_few_entries(book.rows()) {
-        return search_greedily_within(alloc, book, most);
-    }
-    let found = search_together_within(rt, alloc, book, workers, gate, most)?;
-    Ok(Some(found))
 }

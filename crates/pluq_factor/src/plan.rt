@@ -69,16 +69,12 @@ pub(crate) struct FewPivots<'a> {
     pub(crate) searches: bool,
 }
 
-// The leftmost pivots, and those that a search finds in few steps, if there is to be one.
-pub(crate) fn few_pivots<'a, R: Threads + Sync, G: Gate>(
-    rt: &R,
+// The leftmost pivots, and those that a search of one worker finds in few steps, if there is to be one.
+pub(crate) fn few_pivots<'a>(
     alloc: Global,
     rows: &'a Rows,
-    workers: u32,
-    gate: &G,
     searches: bool,
 ) -> Result<FewPivots<'a>, AllocError>
-    requires some { 1 ≤ workers }
     ensures rows { IfOk result (λ f. f.triangle.rows ≡ rows.now) }
     ensures triangular { IfOk result (λ f. Triangular rows.now.matrix f.triangle.pairs) }
 {
@@ -88,7 +84,7 @@ pub(crate) fn few_pivots<'a, R: Threads + Sync, G: Gate>(
     }
     let few = first.pairs().len();
     let most = rows.entries().saturating_mul(STEPS_AN_ENTRY);
-    match search_within(rt, alloc, first, workers, gate, most)? {
+    match search_within(alloc, first, most)? {
         Some(book) => found(alloc, &book, few < book.pairs().len()),
         None => found(alloc, &leftmost(alloc, rows)?, false),
     }

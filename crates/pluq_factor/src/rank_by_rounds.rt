@@ -9,7 +9,6 @@ use crate::extent::Extent;
 use crate::plan::Plan;
 use crate::round_pivots::{Counted, count_round};
 use dense_finish::finish_right;
-use optimistic_search::Gate;
 use sparse_rows::Rows;
 use std::alloc::{AllocError, Global};
 use std::thread::Threads;
@@ -26,16 +25,16 @@ const MOST_ROUNDS: u32 = 64;
 /// search finds within three steps an entry, counts them, and keeps the complement alone. After a search that found none or was
 /// broken off no later round searches. The rounds end when nothing is left, or when a fifth of what is left isn't 0: that is
 /// eliminated densely, or taken chunk by chunk into a dense basis if this takes less memory. A matrix of some size that is a tenth
-/// full from the start is eliminated densely at once.
+/// full from the start is eliminated densely at once. The workers share complements and dense eliminations; the search, short as it is,
+/// is one worker's, since several walk without levels and find pivots that leave more.
 ///
 /// Beside the matrix there are at most three copies of what a round works on and what it leaves. The pivots are those of Bouillaguet,
 /// Delaplace and Voge, PASCO 2017; the order of columns by weight is a form of Markowitz's rule.
-pub fn rank<R: Threads + Sync, G: Gate>(
+pub fn rank<R: Threads + Sync>(
     rt: &R,
     alloc: Global,
     rows: &Rows,
     plan: Plan,
-    gate: &G,
 ) -> Result<u32, AllocError>
     requires some { 1 ≤ plan.workers }
     ensures rank { IfOk result (λ r. IsPrime rows.now.modulus → HasRank rows.now.modulus rows.now.matrix r) }
@@ -48,17 +47,16 @@ pub fn rank<R: Threads + Sync, G: Gate>(
         return Ok(rank);
     }
     let ordered = by_weight(alloc, rows, RowOrder::LastFirst)?;
-    let rank = rank_in_order(rt, alloc, ordered, plan.workers, gate)?;
+    let rank = rank_in_order(rt, alloc, ordered, plan.workers)?;
     Ok(rank)
 }
 
 // The rank of a matrix that stands in order of weight.
-fn rank_in_order<R: Threads + Sync, G: Gate>(
+fn rank_in_order<R: Threads + Sync>(
     rt: &R,
     alloc: Global,
     rows: Rows,
     workers: u32,
-    gate: &G,
 ) -> Result<u32, AllocError>
     requires some { 1 ≤ workers }
     ensures rank { IfOk result (λ r. IsPrime rows.modulus → HasRank rows.modulus rows.matrix r) }
@@ -70,7 +68,7 @@ fn rank_in_order<R: Threads + Sync, G: Gate>(
     }
     // The call's contract tells that the entries are residues.
     let most = rows.height().min(rows.width());
-    let Counted { count, rest, .. } = count_rounds(rt, alloc, rows, workers, gate)?;
+    let Counted { count, rest, .. } = count_rounds(rt, alloc, rows, workers)?;
     let below = rank_of_rest(rt, alloc, rest, workers)?;
     // Less only if the modulus isn't prime.
     let rank = count + below.min(most - count);
@@ -78,12 +76,11 @@ fn rank_in_order<R: Threads + Sync, G: Gate>(
 }
 
 // The pivots of all rounds, and what they leave.
-fn count_rounds<R: Threads + Sync, G: Gate>(
+fn count_rounds<R: Threads + Sync>(
     rt: &R,
     alloc: Global,
     rows: Rows,
     workers: u32,
-    gate: &G,
 ) -> Result<Counted, AllocError>
     requires some { 1 ≤ workers }
     ensures { IfOk result (LeavesRank rows) }
@@ -98,7 +95,7 @@ fn count_rounds<R: Threads + Sync, G: Gate>(
         if Extent::of(alloc, &left.rest)?.is_dense() {
             break;
         }
-        let Some(round) = count_round(rt, alloc, &left, workers, gate)? else {
+        let Some(round) = count_round(rt, alloc, &left, workers)? else {
             break;
         };
         left = counted_with(alloc, left, round, most)?;

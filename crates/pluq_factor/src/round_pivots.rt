@@ -196,12 +196,11 @@ fn whole_rest<R: Threads + Sync>(
 
 // One round more, whose pivots are counted alone; None if there is no pivot. If what is left is to be taken into a dense basis it isn't
 // stored, but counted too.
-pub(crate) fn count_round<R: Threads + Sync, G: Gate>(
+pub(crate) fn count_round<R: Threads + Sync>(
     rt: &R,
     alloc: Global,
     before: &Counted,
     workers: u32,
-    gate: &G,
 ) -> Result<Option<Counted>, AllocError>
     requires some { 1 ≤ workers }
     ensures { IfOk result (λ r. IfSome r (LeavesRank before.now.rest)) }
@@ -210,7 +209,7 @@ pub(crate) fn count_round<R: Threads + Sync, G: Gate>(
     let FewPivots {
         triangle,
         searches,
-    } = few_pivots(rt, alloc, rows, workers, gate, before.searches)?;
+    } = few_pivots(alloc, rows, before.searches)?;
     if triangle.pairs().is_empty() {
         return Ok(None);
     }

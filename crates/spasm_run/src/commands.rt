@@ -96,7 +96,7 @@ fn find_rank<R: Threads + Sync, G: Gate>(
     if command.rounds == 0 {
         return count_pivots(rt, alloc, a, command);
     }
-    let rank = pluq_factor::rank(rt, alloc, a, plan_of(command), gate)?;
+    let rank = pluq_factor::rank(rt, alloc, a, plan_of(command))?;
     Ok(Answer::Rank(u64::from(rank)))
 }
 

@@ -55,7 +55,7 @@ fn time_rank<R: Threads + Sync + Clock + Print>(
     requires some { 1 ≤ plan.workers }
 {
     let start = Instant::now(rt)?;
-    let rank = rank(rt, alloc, rows, plan, &Open)?;
+    let rank = rank(rt, alloc, rows, plan)?;
     let time = start.elapsed(rt)?.as_micros();
     println!(rt; "{time} {rank}")
 }

@@ -22,7 +22,6 @@ use std::sync::atomic::{AtomicU64, Ordering};
 use std::sync::ledger::{Blank, Ledger};
 use std::test::Fail;
 use std::thread::Threads;
-use triangular_solve::Triangle;
 
 // The rows (1, 0, 0), (1, 1, 1) and (1, 1, 2) modulo 7.
 fn example_rows(alloc: Global) -> Result<Rows, AllocError>
@@ -523,54 +522,14 @@ fn the_largest_matrix_costs_by_its_entries(rt: HostRuntime) -> Result<(), Fail> 
     Ok(())
 }
 
-// What so many workers find behind the leftmost pivots in so many steps.
-fn found_within<'a, R: Threads + Sync>(
-    rt: &R,
-    alloc: Global,
-    rows: &'a Rows,
-    workers: u32,
-    most: u64,
-) -> Result<Option<Book<'a>>, AllocError>
-    requires some { 1 ≤ workers }
-{
-    search_within(rt, alloc, leftmost(alloc, rows)?, workers, &Open, most)
-}
-
-// How many pairs of a book have a triangular order, if it begins with the leftmost pivots.
-fn ordered(alloc: Global, rows: &Rows, book: &Book<'_>) -> Result<Option<usize>, AllocError> {
-    let first = leftmost(alloc, rows)?;
-    if !book.pairs().starts_with(first.pairs()) {
-        return Ok(None);
-    }
-    let triangle = Triangle::of(alloc, book)?;
-    Ok(Some(triangle.pairs().len()))
-}
-
-// Whether so many workers have pairs in triangular order that begin with the leftmost pivots.
-fn is_kept_by<R: Threads + Sync>(
-    rt: &R,
-    alloc: Global,
-    rows: &Rows,
-    workers: u32,
-    most: u64,
-) -> Result<bool, AllocError>
-    requires some { 1 ≤ workers }
-{
-    match found_within(rt, alloc, rows, workers, most)? {
-        Some(book) => Ok(ordered(alloc, rows, &book)? == Some(book.pairs().len())),
-        None => Ok(false),
-    }
-}
-
 // Whether one worker has nothing after so many steps, or else these pairs.
-fn is_all_or_none<R: Threads + Sync>(
-    rt: &R,
+fn is_all_or_none(
     alloc: Global,
     rows: &Rows,
     most: u64,
     pairs: &[Pair],
 ) -> Result<bool, AllocError> {
-    match found_within(rt, alloc, rows, 1, most)? {
+    match search_within(alloc, leftmost(alloc, rows)?, most)? {
         Some(book) => Ok(book.pairs() == pairs),
         None => Ok(most < u64::MAX),
     }
@@ -584,38 +543,7 @@ fn finds_all_or_none<R: Threads + Sync>(
 ) -> Result<bool, AllocError> {
     let all = search(rt, alloc, leftmost(alloc, rows)?, 1, &Open)?;
     for most in &[0u64, 1, 10, 100, 1000, u64::MAX] {
-        if !is_all_or_none(rt, alloc, rows, *most, all.pairs())? {
-            return Ok(false);
-        }
-    }
-    Ok(true)
-}
-
-// Whether so many workers keep the pairs that they begin with, whatever steps they have.
-fn keep_pairs<R: Threads + Sync>(
-    rt: &R,
-    alloc: Global,
-    rows: &Rows,
-    workers: u32,
-) -> Result<bool, AllocError>
-    requires some { 1 ≤ workers }
-{
-    for most in &[0u64, 60, u64::MAX] {
-        if !is_kept_by(rt, alloc, rows, workers, *most)? {
-            return Ok(false);
-        }
-    }
-    Ok(true)
-}
-
-// Whether two to eight workers do.
-fn all_keep_pairs<R: Threads + Sync>(
-    rt: &R,
-    alloc: Global,
-    rows: &Rows,
-) -> Result<bool, AllocError> {
-    for workers in 2..9u32 {
-        if !keep_pairs(rt, alloc, rows, workers)? {
+        if !is_all_or_none(alloc, rows, *most, all.pairs())? {
             return Ok(false);
         }
     }
@@ -644,7 +572,6 @@ fn searches_end_within_their_steps(rt: HostRuntime) -> Result<(), Fail> {
         let places = placed(rt.alloc(), *m, *count)?;
         let rows = ones(rt.alloc(), *m, *n, &places)?;
         assert!(rt; finds_all_or_none(&rt, rt.alloc(), &rows)?);
-        assert!(rt; all_keep_pairs(&rt, rt.alloc(), &rows)?);
     }
     Ok(())
 }
