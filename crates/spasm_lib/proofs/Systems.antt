@@ -1,5 +1,5 @@
 -- What the echelon forms of [A | b] and of the refuting system tell of A x = b.
-use Rattle.std.proofs.Common.{ℕ, ◌≡◌, ◌+◌, ◌<◌, ◌≤◌, List, [], refl, sym, ap, subst, ◌∙◌, arith}
+use Rattle.std.proofs.Common.{ℕ, ◌≡◌, List, [], refl, sym, ap, subst, ◌∙◌, arith}
 use Rattle.residue_words.specs.Residues.{IsPrime}
 use Rattle.residue_words.specs.Matrix.{Matrix, IsMatrix, IsVector, entry, row}
 use Rattle.row_space.specs.Laws.{RefutingIsSolvable, RefutingSystem, RefutingSystemIs}

@@ -1,5 +1,5 @@
 -- The selection of one worker is one list.
-use Rattle.std.proofs.Common.{◌≡◌, ◌<◌, ℕ, List, length, get_or, sym, refl, ap, ap₂, ◌∙◌, subst, arith}
+use Rattle.std.proofs.Common.{◌≡◌, ◌<◌, ℕ, List, length, get_or, sym, refl, ap₂, ◌∙◌, subst, arith}
 use Rattle.std.specs.Prelude.{◌≤◌, All, Vec, [], ◌∷◌}
 use Rattle.std.specs.declared.alloc.Global.{Global}
 use Rattle.std.proofs.lemmas.List.{ext_get_or, get_or-map, get_or_default}
