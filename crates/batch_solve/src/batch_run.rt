@@ -14,13 +14,13 @@ ghost use Rattle.batch_solve.specs.BatchWords.{AcceptedBatch, AskForNoBatch};
 use crate::batch_status::BatchStatus;
 use crate::batch_texts::{misfit_of, read_texts};
 use crate::batch_words::{BatchCommand, read_batch_words};
-use crate::preparing::prepare;
 use crate::together::answer_all;
 use crate::watch::Watch;
 use crate::written_replies::write_replies;
 use kernel_solve::Reply;
 use residue_words::Modulus;
 use sms_text::{LARGEST_INPUT, Sink, Source};
+use spasm_lib::{Team, prepare};
 use sparse_rows::Rows;
 use std::alloc::{AllocError, Global};
 use std::sync::Wait;
@@ -214,6 +214,10 @@ fn replies_to<R: Threads + Wait + Sync, W: Watch>(
     let a = &texts[0];
     // The proof wants that A is a matrix of residues.
     let _ = a.height();
-    let prepared = prepare(rt, alloc, a, workers)?;
+    let team = Team {
+        workers,
+        ..Team::of(rt, alloc)
+    };
+    let prepared = prepare(team, a)?;
     answer_all(rt, alloc, &prepared, &texts[1..], workers, watch)
 }

@@ -9,7 +9,6 @@ mod desk;
 mod desk_rule;
 mod hand;
 mod laws;
-mod preparing;
 mod slip;
 mod taker;
 mod together;

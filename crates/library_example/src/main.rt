@@ -1,15 +1,12 @@
-//! How a program calls the library: it builds a matrix modulo a prime, and prints its rank and the basis of its kernel.
+//! How a program calls the library: it builds a matrix modulo a prime, prints its rank and the basis of its kernel, and solves a system.
 #![tactic(auto)]
 
-ghost use Rattle.std.specs.Prelude.{IfOk};
+ghost use Rattle.std.specs.Prelude.{◌≡◌, IfOk};
 ghost use Rattle.residue_words.specs.Residues.{IsPrime};
 ghost use Rattle.row_space.specs.Echelon.{HasRank};
 ghost use Rattle.row_space.specs.Kernel.{IsKernel};
 
-use echelon_form::Echelon;
-use kernel_solve::kernel;
-use residue_words::Modulus;
-use sparse_rows::Rows;
+use spasm_lib::{Modulus, Rows, Solution, Team, kernel, rank, solve};
 use std::alloc::{AllocError, Global};
 use std::io;
 use std::thread::Threads;
@@ -22,19 +19,28 @@ struct Summary {
 }
 
 fn main(rt: HostRuntime) -> io::Result<()> {
-    let rows = boundary(rt.alloc())?;
-    let summary = summary_of(&rt, rt.alloc(), &rows)?;
+    let a = boundary(rt.alloc())?;
+    let summary = summary_of(&rt, rt.alloc(), &a)?;
     println!(rt; "rank {}", summary.rank)?;
     for i in 0..summary.kernel.height() {
         let cols = summary.kernel.cols(i);
         let vals = summary.kernel.vals(i);
         println!(rt; "kernel row {i} in columns {cols:?}: {vals:?}")?;
     }
+    let b = differences(rt.alloc())?;
+    match solve(Team::of(&rt, rt.alloc()), &a, &b)? {
+        Solution::Found(x) => println!(rt; "solution {:?}", x.triples(rt.alloc())?)?,
+        Solution::Refuted(y) => println!(rt; "no solution, by {:?}", y.triples(rt.alloc())?)?,
+    }
     Ok(())
 }
 
 // The boundary map of a triangle modulo 7: a row for each edge, from one corner to the other, and a column for each corner.
-fn boundary(alloc: Global) -> Result<Rows, AllocError> {
+fn boundary(alloc: Global) -> Result<Rows, AllocError>
+    ensures modulus { IfOk result (λ rows. rows.modulus ≡ 7) }
+    ensures height { IfOk result (λ rows. rows.matrix.height ≡ 3) }
+    ensures width { IfOk result (λ rows. rows.matrix.width ≡ 3) }
+{
     let entries = [
         (0, 0, 6),
         (0, 1, 1),
@@ -43,19 +49,34 @@ fn boundary(alloc: Global) -> Result<Rows, AllocError> {
         (2, 0, 6),
         (2, 2, 1),
     ];
-    Rows::from_triples(alloc, 3, 3, &Modulus::new(7), &entries)
+    let rows = Rows::from_triples(alloc, 3, 3, &Modulus::new(7), &entries)?;
+    Ok(rows)
 }
 
-// The rank of a matrix and the basis of its kernel, both read off its reduced row echelon form, which two workers settle.
+// How much higher the second corner of each edge is to be than the first.
+fn differences(alloc: Global) -> Result<Rows, AllocError>
+    ensures modulus { IfOk result (λ rows. rows.modulus ≡ 7) }
+    ensures height { IfOk result (λ rows. rows.matrix.height ≡ 3) }
+    ensures width { IfOk result (λ rows. rows.matrix.width ≡ 1) }
+{
+    let entries = [(0, 0, 1), (1, 0, 1), (2, 0, 2)];
+    let rows = Rows::from_triples(alloc, 3, 1, &Modulus::new(7), &entries)?;
+    Ok(rows)
+}
+
+// The rank of a matrix and the basis of its kernel, by two workers.
 fn summary_of<R: Threads + Sync>(rt: &R, alloc: Global, rows: &Rows) -> Result<Summary, AllocError>
     ensures rank { IfOk result (λ s.
         IsPrime rows.now.modulus → HasRank rows.now.modulus rows.now.matrix s.rank) }
     ensures kernel { IfOk result (λ s.
         IsPrime rows.now.modulus → IsKernel rows.now.modulus rows.now.matrix s.kernel.matrix) }
 {
-    let form = Echelon::of(rt, alloc, rows, 2)?;
+    let team = Team {
+        workers: 2,
+        ..Team::of(rt, alloc)
+    };
     Ok(Summary {
-        rank: form.rank(),
-        kernel: kernel(alloc, &form)?,
+        rank: rank(team, rows)?,
+        kernel: kernel(team, rows)?,
     })
 }

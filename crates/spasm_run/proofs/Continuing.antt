@@ -37,7 +37,7 @@ use Rattle.spasm_run.specs.Continuing.{Answered, AreClosedTexts, CertifiedIsChec
 use Rattle.spasm_run.specs.Input.{HasContents}
 use Rattle.spasm_run.specs.Ran.{AreTooFew, HasAnswer, Ran, Run, request, whole_input}
 use Rattle.spasm_run.specs.Words.{Accepted}
-use Rattle.spasm_run.proofs.Certifying.{text_places}
+use Rattle.spasm_lib.proofs.Claims.{text_places}
 use Rattle.spasm_run.proofs.Exact.{one_command}
 use Rattle.spasm_run.proofs.InRange.{modulus_in_range}
 use Rattle.spasm_run.proofs.Stays.{told_of_all}

@@ -1,5 +1,5 @@
 -- The selection of one worker is one list.
-use Rattle.std.proofs.Common.{◌≡◌, ℕ, ◌<◌, List, length, get_or, sym, refl, ap, ap₂, ◌∙◌, subst, arith}
+use Rattle.std.proofs.Common.{◌≡◌, ◌<◌, ℕ, List, length, get_or, sym, refl, ap₂, ◌∙◌, subst, arith}
 use Rattle.std.specs.Prelude.{◌≤◌, All, Vec, [], ◌∷◌}
 use Rattle.std.specs.declared.alloc.Global.{Global}
 use Rattle.std.proofs.lemmas.List.{ext_get_or, get_or-map, get_or_default}
@@ -9,14 +9,12 @@ use Rattle.row_space.specs.Factors.{col_at}
 use Rattle.row_space.proofs.Spans.{rising_equal}
 use Rattle.sparse_rows.specs.Rows.{ResidueMatrix}
 use Rattle.sparse_rows.specs.declared.rows.TheConstants.{LARGEST_SIZE}
-use Rattle.pivot_table.specs.Book.{BookState}
-use Rattle.pivot_table.specs.History.{Maximal, StartsWith, pair}
+use Rattle.pivot_table.specs.History.{pair}
 use Rattle.pivot_table.specs.Greedy.{IsGreedy}
 use Rattle.pivot_table.specs.Leftmost.{IsLeftmost, IsSparsest}
 use Rattle.pivot_table.specs.Order.{IsTriangularOrder, Triangular}
-use Rattle.pivot_table.specs.Selected.{IsGreedySelection}
-use Rattle.pivot_table.proofs.Selecting.{greedy_one, selected, sparsest_one}
-use Rattle.optimistic_search.specs.Search.{IsGreedyFrom}
+use Rattle.pivot_table.specs.Selected.{IsGreedySelection, Selected}
+use Rattle.pivot_table.proofs.Selecting.{greedy_one, sparsest_one}
 use Rattle.spasm_run.specs.declared.answer.Answer.TheVariants as answer
 use Rattle.spasm_run.specs.declared.words.Task.TheVariants as task
 use Rattle.sms_text.specs.Written.{IsSmallPlace}
@@ -64,21 +62,11 @@ small_places A qs is high wide = λ k d l.
       omega (arith, at.1, wide, get_or-map (λ (q : Pair). q.col) qs k d 0 l),
     )
 
--- what was searched, put in order and copied
-pub pivots_answer : (a : ResidueMatrix) (c : Command) (first all : BookState) (listed : List Pair) (pairs : Vec Pair Global) → first.rows ≡ a → IsLeftmost a.matrix first.pairs →
-    all.rows ≡ first.rows → StartsWith all.pairs first.pairs → Maximal first.rows.matrix all.pairs → (c.workers ≡ 1 → IsGreedyFrom first all) →
-    IsTriangularOrder all.rows.matrix all.pairs listed → pairs.items ≡ listed → a.matrix.height ≤ LARGEST_SIZE → a.matrix.width ≤ LARGEST_SIZE →
+pub pivots_answer : (a : ResidueMatrix) (c : Command) (pairs : Vec Pair Global) → Selected a.matrix c.workers pairs.items → a.matrix.height < LARGEST_SIZE → a.matrix.width < LARGEST_SIZE →
     IsAnswerTo (asking task.Pivots a.modulus c) (matrices_alone (a.matrix ∷ [])) (answer.Pivots pairs)
-pivots_answer a c first all listed pairs rows leftmost same begins maximal greedy order copied high wide =
-    let A : Matrix = a.matrix in
-    let here : first.rows.matrix ≡ A = ap (λ (r : ResidueMatrix). r.matrix) rows in
-    let there : all.rows.matrix ≡ A = ap (λ (r : ResidueMatrix). r.matrix) (same ∙ rows) in
-    let at_rows : IsTriangularOrder A all.pairs listed = subst (λ (M : Matrix). IsTriangularOrder M all.pairs listed) there order in
-    let ordered : IsTriangularOrder A all.pairs pairs.items = subst (λ (o : List Pair). IsTriangularOrder A all.pairs o) (sym copied) at_rows in
-    let most : Maximal A all.pairs = subst (λ (M : Matrix). Maximal M all.pairs) here maximal in
-    let first_most : c.workers ≡ 1 → IsGreedy A first.pairs all.pairs = λ one. subst (λ (M : Matrix). IsGreedy M first.pairs all.pairs) here (greedy one) in record {
-      small = small_places A pairs.items ordered.triangular high wide;
-      fits = refl;
-      ends = refl;
-      answers = λ any. (pairs.items, selected A c.workers first.pairs all.pairs pairs.items leftmost begins most ordered first_most, refl);
-    }
+pivots_answer a c pairs selected high wide = record {
+  small = small_places a.matrix pairs.items selected.triangular (omega arith) (omega arith);
+  fits = refl;
+  ends = refl;
+  answers = λ any. (pairs.items, selected, refl);
+}

@@ -2,7 +2,6 @@
 use Rattle.std.proofs.Common.{ℕ, ◌≡◌, [], refl, sym, ap, subst, ◌∙◌}
 use Rattle.residue_words.specs.Residues.{IsPrime}
 use Rattle.row_space.specs.Echelon.{IsRref}
-use Rattle.echelon_form.specs.Form.{Form, IsFormOf}
 use Rattle.sparse_rows.specs.Rows.{ResidueMatrix, entry_count}
 use Rattle.spasm_run.specs.declared.answer.Answer.TheVariants as answer
 use Rattle.spasm_run.specs.declared.generator.Generator.{Generator}
@@ -13,19 +12,18 @@ use Rattle.spasm_run.specs.Computed.{IsAnswerTo, asking}
 use Rattle.spasm_run.specs.Contents.{matrices_alone}
 use Rattle.spasm_run.specs.Generator.{generated, place_sum, summary_of, summary_text}
 
-pub summary_answers : (c : Command) (g : Generator) (p : ℕ) (a form : ResidueMatrix) (f : Form) (s : Summary) → a.modulus ≡ p → a.matrix ≡ generated p g →
-    IsFormOf a.modulus a.matrix f → form.modulus ≡ f.modulus → form.matrix ≡ f.matrix → s.rank ≡ form.matrix.height → s.entries ≡ entry_count form.matrix →
+pub summary_answers : (c : Command) (g : Generator) (p : ℕ) (a form : ResidueMatrix) (s : Summary) → a.modulus ≡ p → a.matrix ≡ generated p g → form.modulus ≡ a.modulus →
+    (IsPrime a.modulus → IsRref a.modulus a.matrix form.matrix) → s.rank ≡ form.matrix.height → s.entries ≡ entry_count form.matrix →
     s.sum ≡ place_sum form.modulus form.matrix → IsAnswerTo (asking (Drill g) p c) (matrices_alone []) (answer.Summary s)
-summary_answers c g p a form f s modulus matrix is same_modulus same rank entries sum =
-    let of_modulus : form.modulus ≡ p = same_modulus ∙ is.modulus ∙ modulus in
-    let text : summary_text s.rank s.entries s.sum ≡ summary_of p f.matrix =
+summary_answers c g p a form s modulus matrix same is rank entries sum =
+    let text : summary_text s.rank s.entries s.sum ≡ summary_of p form.matrix =
     ap (λ n. summary_text n s.entries s.sum) rank ∙ ap (λ n. summary_text form.matrix.height n s.sum) entries ∙ ap (summary_text form.matrix.height (entry_count form.matrix)) sum
-    ∙ ap (λ q. summary_text form.matrix.height (entry_count form.matrix) (place_sum q form.matrix)) of_modulus ∙ ap (summary_of p) same in
+    ∙ ap (λ q. summary_text form.matrix.height (entry_count form.matrix) (place_sum q form.matrix)) (same ∙ modulus) in
     record {
       small = tt;
       fits = refl;
       ends = refl;
       answers = λ prime.
-          let rref : IsRref a.modulus a.matrix f.matrix = is.rref (subst IsPrime (sym modulus) prime) in
-          (f.matrix, subst (λ A. IsRref p A f.matrix) matrix (subst (λ q. IsRref q a.matrix f.matrix) modulus rref), text);
+          let rref : IsRref a.modulus a.matrix form.matrix = is (subst IsPrime (sym modulus) prime) in
+          (form.matrix, subst (λ A. IsRref p A form.matrix) matrix (subst (λ q. IsRref q a.matrix form.matrix) modulus rref), text);
     }

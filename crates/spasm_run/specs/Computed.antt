@@ -1,18 +1,10 @@
 -- What is found for matrices and for words: an answer, or the status with which a run ends.
-use Rattle.std.specs.Prelude.{◌≡◌, ◌<◌, if◌then◌else◌, ℕ, List, ◌++◌, Bool, false, Option, Some, None, Result, Ok, Err, All, codes, length}
-use Rattle.residue_words.specs.Residues.{IsPrime}
-use Rattle.residue_words.specs.Matrix.{Matrix, IsMatrix}
-use Rattle.residue_words.specs.declared.plain.Pair.{Pair}
-use Rattle.row_space.specs.Factors.{AreFactors, Shows}
-use Rattle.sparse_rows.specs.Rows.{ResidueMatrix, beside}
-use Rattle.certificates.specs.declared.certificate.CertKind.{CertKind}
-use Rattle.certificates.specs.Certificate.{HasExtra, IsFormed, certificate_of, claim_of}
-use Rattle.certificates.specs.CertificateText.{ClaimFitsText, HasText, certificate_text}
+use Rattle.std.specs.Prelude.{◌≡◌, ◌<◌, if◌then◌else◌, ℕ, List, ◌++◌, Bool, false, Some, None, Result, Ok, Err, All, codes}
+use Rattle.residue_words.specs.Matrix.{Matrix}
+use Rattle.certificates.specs.Certificate.{IsFormed, certificate_of}
+use Rattle.certificates.specs.CertificateText.{HasText, certificate_text}
 use Rattle.run_trace.specs.TraceText as trace
 use Rattle.sparse_rows.specs.declared.rows.TheConstants.{LARGEST_SIZE}
-use Rattle.kernel_solve.specs.Column.{column}
-use Rattle.kernel_solve.specs.declared.systems.Found.{Found}
-use Rattle.kernel_solve.specs.Found.{Answers}
 use Rattle.sms_text.specs.Reading.{Draws, untouched}
 use Rattle.sms_text.specs.Stream.{SourceState}
 use Rattle.sms_text.specs.Written.{IsSmallPlace, text_of}
@@ -69,13 +61,6 @@ IsSmall (answer.Trace t) = trace.HasTraceText t
 IsSmall (answer.Verdict valid) = Unit {0}
 IsSmall (answer.Script answers) = All AnswerFitsText answers.items
 
--- the matrix that a certificate of this kind claims of A: one that can be written, and that shows it to any factors of A
-pub record IsClaimed (p : ℕ) (A : Matrix) (kind : CertKind) (extra : Option ResidueMatrix) : Type 0 where
-  pub has : HasExtra p kind extra
-  pub fits : ClaimFitsText (claim_of kind extra)
-  pub shows : (pivots : List Pair) (L U : Matrix) → IsPrime p → AreFactors p A pivots L U →
-      Shows p A (length pivots) U (claim_of kind extra)
-
 -- the command, asking for this task modulo p
 abbrev pub asking : Task → ℕ → Command → Command
 asking t p c = record c { task = t; modulus = p }
@@ -91,13 +76,6 @@ pub record IsAnswerTo (c : Command) (said : Contents) (a : Answer) : Type 0 wher
   pub fits : misfit c.task said.matrices ≡ None
   pub answers : RestsOn c.task c.modulus → AnswerOf c said (answer_text a)
   pub ends : EndsWith c.task c.modulus said (status_behind a)
-
--- what is found for the system S: for a prime modulus the solution of A x = b, or that there is none, where S is [A | B]
--- and b the one column of B
-abbrev pub AnswersSystem : ℕ → Matrix → Found → Type 0
-AnswersSystem p S found =
-    IsPrime p → (A B : Matrix) → IsMatrix p A → IsMatrix p B → A.height ≡ B.height → B.width ≡ 1 →
-    S ≡ beside A B → Answers p A (column B) found
 
 -- what comes of a command for what was read: its answer; or its matrices are refused for their shapes; or memory was wanted
 abbrev pub ComesOfContents : Command → Contents → Result Answer Status → Type 0

@@ -1,18 +1,11 @@
 // What each command answers to the matrices that were read.
-ghost use Rattle.std.specs.Prelude.{◌≡◌, ◌≤◌, ◌<◌, ℕ, List, [], ◌∷◌, IfOk, IfSome};
-ghost use Rattle.residue_words.specs.Matrix.{IsMatrix, Matrix, row};
-ghost use Rattle.residue_words.specs.Residues.{IsPrime};
-ghost use Rattle.row_space.specs.Solution.{IsRefutingCombination, IsSolution};
-ghost use Rattle.kernel_solve.specs.Column.{column};
-ghost use Rattle.kernel_solve.specs.Found.{HasShape};
-ghost use Rattle.kernel_solve.specs.Inverted.{IsSquareOf, TellsInverse};
-ghost use Rattle.pluq_factor.specs.Basis.{IsBasis};
+ghost use Rattle.std.specs.Prelude.{◌≡◌, ◌≤◌, ◌<◌, [], ◌∷◌, IfOk};
 ghost use Rattle.sparse_rows.specs.declared.rows.TheConstants.{LARGEST_SIZE};
 ghost use Rattle.sms_text.specs.Text.{Header};
-ghost use Rattle.spasm_run.specs.Answers.{IsOneAnswer, as_row, wanted};
-ghost use Rattle.spasm_run.specs.Computed.{AnswersSystem, ComesOf, ComesOfContents, IsClaimed, IsSmall, asking};
-ghost use Rattle.spasm_run.specs.Contents.{AreToCheck, AreToReplay, Contents};
 ghost use Rattle.certificates.specs.Certificate.{IsFormed};
+ghost use Rattle.spasm_run.specs.Answers.{IsOneAnswer, wanted};
+ghost use Rattle.spasm_run.specs.Computed.{ComesOf, ComesOfContents, IsSmall, asking};
+ghost use Rattle.spasm_run.specs.Contents.{AreToCheck, AreToReplay, Contents};
 ghost use Rattle.spasm_run.specs.Generator.{HasSizesInRange};
 ghost use Rattle.spasm_run.specs.declared.words.Command.{Command};
 ghost use Rattle.spasm_run.specs.declared.words.Task.TheVariants as task;
@@ -22,19 +15,14 @@ use crate::generator::Generator;
 use crate::status::Status;
 use crate::summary::Summary;
 use crate::words::{Command, Task};
-use cert_checker::check;
 use certificates::{CertKind, Certificate};
-use dense_finish::finish;
-use fl_pivots::leftmost;
-use kernel_solve::{Found, doubled, inverse_in, null_row, refuting_system, solution};
-use optimistic_search::{Gate, search};
-use pluq_factor::{Factors, Plan, factor, form_of_basis};
+use optimistic_search::Gate;
 use residue_words::Modulus;
 use run_trace::{Trace, replay, trace_of};
-use sparse_rows::{Rows, Sparse};
-use std::alloc::{AllocError, Global};
+use spasm_lib::{Inverse, Solution, Team};
+use sparse_rows::Rows;
+use std::alloc::Global;
 use std::thread::Threads;
-use triangular_solve::Triangle;
 
 /// The most rows of a matrix that is inverted, 2^30.
 pub const LARGEST_INVERTED: u32 = 1_073_741_824;
@@ -44,14 +32,17 @@ pub fn at_most_one_answer()
     ensures { IsOneAnswer }
 {}
 
-// The workers and the rounds of a command.
-fn plan_of(command: Command) -> Plan
+// By whom a command is worked out, and how.
+fn team_of<'a, R, G>(rt: &'a R, alloc: Global, command: Command, gate: &'a G) -> Team<'a, R, G>
     ensures workers { result.workers ≡ command.workers }
     ensures rounds { result.rounds ≡ command.rounds }
 {
-    Plan {
+    Team {
+        runtime: rt,
+        alloc,
         workers: command.workers,
         rounds: command.rounds,
+        gate,
     }
 }
 
@@ -82,7 +73,7 @@ pub(crate) fn find_of_matrix<R: Threads + Sync, G: Gate>(
     }
 }
 
-// The rank of a matrix: by a dense elimination where there are no structural rounds, and else by these rounds.
+// The rank of a matrix.
 fn find_rank<R: Threads + Sync, G: Gate>(
     rt: &R,
     alloc: Global,
@@ -93,31 +84,11 @@ fn find_rank<R: Threads + Sync, G: Gate>(
     requires some { 1 ≤ command.workers }
     ensures { ComesOf (asking task.Rank a.now.modulus command) (a.now.matrix ∷ []) result }
 {
-    if command.rounds == 0 {
-        return count_pivots(rt, alloc, a, command);
-    }
-    let rank = pluq_factor::rank(rt, alloc, a, plan_of(command))?;
+    let rank = spasm_lib::rank(team_of(rt, alloc, command, gate), a)?;
     Ok(Answer::Rank(u64::from(rank)))
 }
 
-// The rank of a matrix as the number of pivots of a dense elimination.
-fn count_pivots<R: Threads + Sync>(
-    rt: &R,
-    alloc: Global,
-    a: &Rows,
-    command: Command,
-) -> Result<Answer, Status>
-    requires some { 1 ≤ command.workers }
-    ensures { ComesOf (asking task.Rank a.now.modulus command) (a.now.matrix ∷ []) result }
-{
-    // The law's contract: the rank is the number of the pivots of factors. The call tells that the entries are residues.
-    row_space::factors_give_rank();
-    let _ = a.height();
-    let factors = finish(rt, alloc, a, command.workers)?;
-    Ok(Answer::Rank(factors.pivots.items().len() as u64))
-}
-
-// The structural pivots of a matrix in triangular order: what a search finds that begins with the leftmost ones.
+// The structural pivots of a matrix in triangular order.
 fn find_pivots<R: Threads + Sync, G: Gate>(
     rt: &R,
     alloc: Global,
@@ -126,15 +97,11 @@ fn find_pivots<R: Threads + Sync, G: Gate>(
     gate: &G,
 ) -> Result<Answer, Status>
     requires some { 1 ≤ command.workers }
+    requires height { a.now.matrix.height < LARGEST_SIZE }
+    requires width { a.now.matrix.width < LARGEST_SIZE }
     ensures { ComesOf (asking task.Pivots a.now.modulus command) (a.now.matrix ∷ []) result }
 {
-    // The call tells that no row is beyond what can be written.
-    let _ = a.height();
-    let _ = a.width();
-    let book = leftmost(alloc, a)?;
-    let book = search(rt, alloc, book, command.workers, gate)?;
-    let triangle = Triangle::of(alloc, &book)?;
-    let pairs = Vec::from_slice(alloc, triangle.pairs())?;
+    let pairs = spasm_lib::pivots(team_of(rt, alloc, command, gate), a)?;
     Ok(Answer::Pivots(pairs))
 }
 
@@ -150,8 +117,8 @@ fn find_form<R: Threads + Sync, G: Gate>(
     requires width { a.now.matrix.width < LARGEST_SIZE }
     ensures { ComesOf (asking task.Rref a.now.modulus command) (a.now.matrix ∷ []) result }
 {
-    let form = pluq_factor::form(rt, alloc, a, plan_of(command), gate)?;
-    Ok(Answer::Matrix(form.into_rows()))
+    let form = spasm_lib::rref(team_of(rt, alloc, command, gate), a)?;
+    Ok(Answer::Matrix(form))
 }
 
 // A summary of the echelon form of a matrix that is generated modulo p.
@@ -168,8 +135,8 @@ pub(crate) fn find_summary<R: Threads + Sync, G: Gate>(
     ensures { ComesOf (asking (task.Drill generator.now) p.now command) [] result }
 {
     let a = generator.matrix(alloc, p)?;
-    let form = pluq_factor::form(rt, alloc, &a, plan_of(command), gate)?;
-    Ok(Answer::Summary(Summary::of(form.rows())))
+    let form = spasm_lib::rref(team_of(rt, alloc, command, gate), &a)?;
+    Ok(Answer::Summary(Summary::of(&form)))
 }
 
 // The kernel basis of a matrix.
@@ -184,8 +151,7 @@ fn find_kernel<R: Threads + Sync, G: Gate>(
     requires width { a.now.matrix.width < LARGEST_SIZE }
     ensures { ComesOf (asking task.Kernel a.now.modulus command) (a.now.matrix ∷ []) result }
 {
-    let form = pluq_factor::form(rt, alloc, a, plan_of(command), gate)?;
-    let basis = kernel_solve::kernel(alloc, &form)?;
+    let basis = spasm_lib::kernel(team_of(rt, alloc, command, gate), a)?;
     Ok(Answer::Matrix(basis))
 }
 
@@ -201,10 +167,7 @@ fn find_left_kernel<R: Threads + Sync, G: Gate>(
     requires height { a.now.matrix.height < LARGEST_SIZE }
     ensures { ComesOf (asking task.LeftKernel a.now.modulus command) (a.now.matrix ∷ []) result }
 {
-    let columns = a.transpose(alloc)?;
-    let form = pluq_factor::form(rt, alloc, &columns, plan_of(command), gate)?;
-    drop(columns);
-    let basis = kernel_solve::kernel(alloc, &form)?;
+    let basis = spasm_lib::left_kernel(team_of(rt, alloc, command, gate), a)?;
     Ok(Answer::Matrix(basis))
 }
 
@@ -219,8 +182,6 @@ fn find_inverse<R: Threads + Sync, G: Gate>(
     requires some { 1 ≤ command.workers }
     ensures { ComesOf (asking task.Inverse a.now.modulus command) (a.now.matrix ∷ []) result }
 {
-    // The law's contract: a matrix that takes a vector other than zero to zero has no inverse.
-    row_space::inverse_excludes_null();
     let height = a.height();
     let width = a.width();
     if height != width {
@@ -229,40 +190,10 @@ fn find_inverse<R: Threads + Sync, G: Gate>(
     if LARGEST_INVERTED < height {
         return Err(Status::Wide { height, width });
     }
-    match inverse_of(rt, alloc, a, plan_of(command), gate)? {
-        Some(b) => Ok(Answer::Inverse(b)),
-        None => {
-            let form = pluq_factor::form(rt, alloc, a, plan_of(command), gate)?;
-            let v = null_row(alloc, &form)?;
-            Ok(Answer::Singular(v))
-        }
+    match spasm_lib::inverse(team_of(rt, alloc, command, gate), a)? {
+        Inverse::Found(b) => Ok(Answer::Inverse(b)),
+        Inverse::Singular(v) => Ok(Answer::Singular(v)),
     }
-}
-
-// The inverse of a matrix, if there is one.
-fn inverse_of<R: Threads + Sync, G: Gate>(
-    rt: &R,
-    alloc: Global,
-    a: &Rows,
-    plan: Plan,
-    gate: &G,
-) -> Result<Option<Rows>, AllocError>
-    requires some { 1 ≤ plan.workers }
-    requires square { a.now.matrix.height ≡ a.now.matrix.width }
-    requires small { a.now.matrix.height ≤ LARGEST_INVERTED }
-    ensures shape { IfOk result (λ found. IfSome found (IsSquareOf a.now.modulus a.now.matrix.width)) }
-    ensures tells { IfOk result (λ found. IsPrime a.now.modulus →
-        TellsInverse a.now.modulus a.now.matrix found) }
-{
-    // The call's contract tells that the entries are residues.
-    let _ = a.height();
-    let Some(both) = doubled(alloc, a)? else {
-        return Ok(None);
-    };
-    let form = pluq_factor::form(rt, alloc, &both, plan, gate)?;
-    drop(both);
-    let found = inverse_in(alloc, &form, a.width())?;
-    Ok(found)
 }
 
 // The reduced solution of A x = b, or what refutes it. A right-hand side that isn't a column as long as A is high is refused.
@@ -285,17 +216,13 @@ pub(crate) fn find_solution<R: Threads + Sync, G: Gate>(
     if height != a.height() || width != 1 {
         return Err(Status::Shape { height, width });
     }
-    let plan = plan_of(command);
-    match solve(rt, alloc, a.beside(alloc, b)?, plan, gate)? {
-        Found::Solution(x) => Ok(Answer::Solution(x)),
-        Found::Inconsistent => {
-            let y = refutation(rt, alloc, a, b, plan, gate)?;
-            Ok(Answer::Refutation(y))
-        }
+    match spasm_lib::solve(team_of(rt, alloc, command, gate), a, b)? {
+        Solution::Found(x) => Ok(Answer::Solution(x)),
+        Solution::Refuted(y) => Ok(Answer::Refutation(y)),
     }
 }
 
-// A certificate of this kind, by factors.
+// A certificate of this kind.
 fn find_certificate<R: Threads + Sync, G: Gate>(
     rt: &R,
     alloc: Global,
@@ -309,45 +236,8 @@ fn find_certificate<R: Threads + Sync, G: Gate>(
     requires width { a.now.matrix.width < LARGEST_SIZE }
     ensures { ComesOf (asking (task.Certify kind) a.now.modulus command) (a.now.matrix ∷ []) result }
 {
-    let Factors { pivots, l, u } = factor(rt, alloc, a, plan_of(command), gate)?;
-    let extra = claimed(rt, alloc, &u, kind, command.workers)?;
-    Ok(Answer::Certificate(Certificate {
-        kind,
-        p: a.modulus().p(),
-        rank: pivots.items().len() as u32,
-        pivots,
-        l,
-        u,
-        extra,
-    }))
-}
-
-// The matrix that a certificate of this kind claims of a matrix with this row basis, if it claims one: its echelon form, or its
-// kernel basis.
-fn claimed<R: Threads + Sync>(
-    rt: &R,
-    alloc: Global,
-    basis: &Rows,
-    kind: CertKind,
-    workers: u32,
-) -> Result<Option<Rows>, AllocError>
-    requires some { 1 ≤ workers }
-    requires width { basis.now.matrix.width < LARGEST_SIZE }
-    ensures { IfOk result (λ extra. (p : ℕ) (A : Matrix) → IsMatrix p A → IsBasis p A basis.now →
-        IsClaimed p A kind extra) }
-{
-    match kind {
-        CertKind::Rank => Ok(None),
-        CertKind::Rref => {
-            let form = form_of_basis(rt, alloc, basis, workers)?;
-            Ok(Some(form.into_rows()))
-        }
-        CertKind::Kernel => {
-            let form = form_of_basis(rt, alloc, basis, workers)?;
-            let null = kernel_solve::kernel(alloc, &form)?;
-            Ok(Some(null))
-        }
-    }
+    let certificate = spasm_lib::certificate(team_of(rt, alloc, command, gate), a, kind)?;
+    Ok(Answer::Certificate(certificate))
 }
 
 // Whether a certificate is valid for a matrix, by multiplying: nothing is eliminated.
@@ -361,7 +251,7 @@ pub(crate) fn find_verdict(
         → ComesOfContents (asking task.Check a.now.modulus c) said result }
     ensures small { IfOk result IsSmall }
 {
-    let valid = check(alloc, a, certificate)?;
+    let valid = spasm_lib::check(alloc, a, certificate)?;
     Ok(Answer::Verdict(valid))
 }
 
@@ -390,73 +280,4 @@ pub(crate) fn find_lawfulness(alloc: Global, a: &Rows, trace: &Trace) -> Result<
 {
     let lawful = replay(alloc, a, trace)?;
     Ok(Answer::Verdict(lawful))
-}
-
-// What the echelon form of a system [A | b] tells of A x = b. The system is let go once its form is made.
-fn solve<R: Threads + Sync, G: Gate>(
-    rt: &R,
-    alloc: Global,
-    system: Rows,
-    plan: Plan,
-    gate: &G,
-) -> Result<Found, AllocError>
-    requires some { 1 ≤ plan.workers }
-    requires width { 1 ≤ system.matrix.width }
-    ensures shape { IfOk result (HasShape system.modulus system.matrix.width) }
-    ensures tells { IfOk result (AnswersSystem system.modulus system.matrix) }
-{
-    let form = pluq_factor::form(rt, alloc, &system, plan, gate)?;
-    drop(system);
-    let found = solution(alloc, &form)?;
-    Ok(found)
-}
-
-// The refuting combination of A x = b, as a row, where there is no solution. For a modulus that isn't prime there may be no combination
-// either, and then it is a zero row.
-fn refutation<R: Threads + Sync, G: Gate>(
-    rt: &R,
-    alloc: Global,
-    a: &Rows,
-    b: &Rows,
-    plan: Plan,
-    gate: &G,
-) -> Result<Rows, AllocError>
-    requires some { 1 ≤ plan.workers }
-    requires matrix { IsMatrix a.now.modulus a.now.matrix }
-    requires side { IsMatrix b.now.modulus b.now.matrix }
-    requires moduli { a.now.modulus ≡ b.now.modulus }
-    requires heights { a.now.matrix.height ≡ b.now.matrix.height }
-    requires column { b.now.matrix.width ≡ 1 }
-    requires height { a.now.matrix.height < LARGEST_SIZE }
-    requires width { a.now.matrix.width < LARGEST_SIZE }
-    ensures row { IfOk result (λ y. y.matrix ≡ as_row (row y.matrix 0)) }
-    ensures width { IfOk result (λ y. y.matrix.width ≡ a.now.matrix.height) }
-    ensures refutes { IfOk result (λ y. IsPrime a.now.modulus
-        → ((x : List ℕ) → ¬ IsSolution a.now.modulus a.now.matrix (column b.now.matrix) x)
-        → IsRefutingCombination a.now.modulus a.now.matrix (column b.now.matrix) (row y.matrix 0)) }
-{
-    // The laws' contracts: where A x = b has no solution the refuting system has one, and it refutes.
-    row_space::refuting_is_solvable();
-    row_space::refuting_system_refutes();
-    match solve(rt, alloc, refuting_system(alloc, a, b)?, plan, gate)? {
-        Found::Solution(y) => {
-            let row = y.transpose(alloc)?;
-            Ok(row)
-        }
-        Found::Inconsistent => {
-            let none = zero_row(alloc, a)?;
-            Ok(none)
-        }
-    }
-}
-
-// A zero row as long as the matrix is high.
-fn zero_row(alloc: Global, a: &Rows) -> Result<Rows, AllocError>
-    requires { a.now.matrix.height < LARGEST_SIZE }
-    ensures row { IfOk result (λ y. y.matrix ≡ as_row (row y.matrix 0)) }
-    ensures width { IfOk result (λ y. y.matrix.width ≡ a.now.matrix.height) }
-{
-    let mut rows = Rows::with_room(alloc, a.modulus(), a.height(), 1, 0)?;
-    rows.append(&Sparse::new(alloc, a.height(), a.modulus()))?;
-    Ok(rows)
 }

@@ -6,6 +6,7 @@ use kernel_solve::{
     Found, Inverse, Prepared, Reply, inverse, kernel, left_kernel, refuting_system, solution,
 };
 use residue_words::Modulus;
+use spasm_lib::Team;
 use sparse_rows::Rows;
 use std::alloc::{AllocError, Global};
 use std::test::Fail;
@@ -91,6 +92,22 @@ fn inverted<R: Threads + Sync>(
     Ok(told(alloc, &found)?)
 }
 
+// The same by rounds.
+fn inverted_by_rounds<R: Threads + Sync>(
+    rt: &R,
+    alloc: Global,
+    n: u32,
+    triples: &[(u32, u32, u64)],
+) -> Result<(bool, Vec<(u32, u32, u64)>), Fail>
+    requires { n ≤ 8 }
+{
+    let a = built(alloc, n, n, triples)?;
+    match spasm_lib::inverse(Team::of(rt, alloc), &a)? {
+        spasm_lib::Inverse::Found(b) => Ok((true, b.triples(alloc)?)),
+        spasm_lib::Inverse::Singular(v) => Ok((false, v.triples(alloc)?)),
+    }
+}
+
 // 3 x 3, of rank 2: the second column is twice the first.
 const X: &[(u32, u32, u64)] = &[
     (0, 0, 2),
@@ -147,6 +164,8 @@ fn left_kernels(rt: HostRuntime) -> Result<(), Fail> {
     let a = built(alloc, 3, 3, X)?;
     let found = left_kernel_of(&rt, alloc, &a)?;
     assert_eq!(rt; found.as_slice(), LEFT_KERNEL);
+    let by_rounds = spasm_lib::left_kernel(Team::of(&rt, alloc), &a)?.triples(alloc)?;
+    assert_eq!(rt; by_rounds.as_slice(), LEFT_KERNEL);
     Ok(())
 }
 
@@ -240,6 +259,8 @@ fn inverses(rt: HostRuntime) -> Result<(), Fail> {
         assert!(rt; *n <= 8);
         let (found, entries) = inverted(&rt, alloc, *n, *a)?;
         assert_eq!(rt; (found, entries.as_slice()), (*is_inverse, *expected));
+        let (found, entries) = inverted_by_rounds(&rt, alloc, *n, *a)?;
+        assert_eq!(rt; (found, entries.as_slice()), (*is_inverse, *expected));
     }
     Ok(())
 }
@@ -251,6 +272,15 @@ fn prepared<R: Threads + Sync>(rt: &R, alloc: Global) -> Result<Prepared, Fail>
 {
     let a = built(alloc, 3, 3, X)?;
     Ok(Prepared::of(rt, alloc, &a, 1)?)
+}
+
+// The matrix X prepared by rounds.
+fn prepared_by_rounds<R: Threads + Sync>(rt: &R, alloc: Global) -> Result<Prepared, Fail>
+    ensures modulus { IfOk result (λ kept. kept.modulus ≡ 7) }
+    ensures height { IfOk result (λ kept. kept.height ≡ 3) }
+{
+    let a = built(alloc, 3, 3, X)?;
+    Ok(spasm_lib::prepare(Team::of(rt, alloc), &a)?)
 }
 
 // What is replied to a column.
@@ -302,6 +332,9 @@ fn replies(rt: HostRuntime) -> Result<(), Fail> {
     let alloc = rt.alloc();
     for (b, is_solvable, expected) in REPLIES {
         let (found, entries) = read_reply(&rt, alloc, *b)?;
+        assert_eq!(rt; (found, entries.as_slice()), (*is_solvable, *expected));
+        let reply = reply_to(alloc, &prepared_by_rounds(&rt, alloc)?, *b)?;
+        let (found, entries) = read(alloc, &reply)?;
         assert_eq!(rt; (found, entries.as_slice()), (*is_solvable, *expected));
     }
     Ok(())

@@ -1,13 +1,12 @@
--- The kernel basis by the form.
+-- The kernel basis is the answer.
 use Rattle.std.proofs.Common.{arith, refl}
 use Rattle.spasm_run.proofs.commands.find_kernel.Goals as goal
 
 pub returns : goal.returns
 returns g c =
-    let A = c.args.a.now in
     let basis = c.in_ok-basis in record {
-      small = (omega (arith, basis.ensures.height, c.in_ok-form.ensures.width), omega (arith, basis.ensures.width, c.in_ok-form.ensures.width));
+      small = (omega (arith, basis.ensures.short, c.requires.width), omega (arith, basis.ensures.width, c.requires.width));
       fits = refl;
       ends = refl;
-      answers = λ prime. (basis.basis.matrix, basis.ensures.kernel A.modulus A.matrix prime c.in_ok-form.ensures, refl);
+      answers = λ prime. (basis.basis.matrix, basis.ensures.kernel prime, refl);
     }

@@ -1,13 +1,11 @@
--- From a search and its order to the answer.
-use Rattle.std.proofs.Common.{◌∙◌, arith}
+-- The pivots are the answer.
+use Rattle.std.proofs.Common.{subst}
+use Rattle.pivot_table.specs.Selected.{Selected}
 use Rattle.spasm_run.proofs.OneSelection.{pivots_answer}
 use Rattle.spasm_run.proofs.commands.find_pivots.Goals as goal
 
 pub returns : goal.returns
 returns g c =
-    let first = c.in_ok-book in
-    let all = c.in_ok-book-2 in
-    let triangle = c.in_ok-triangle in
-    pivots_answer c.args.a.now c.args.command first.book all.book triangle.triangle.pairs c.in_ok-pairs.pairs first.ensures.rows first.ensures.pairs
-    all.ensures.rows all.ensures.begins all.ensures.maximal all.ensures.greedy triangle.ensures.order (c.in_ok-pairs.ensures.items ∙ c.pairs.ensures.pairs)
-    (omega (arith, c.height.ensures.value, c.height.ensures.bound)) (omega (arith, c.width.ensures.value, c.width.ensures.bound))
+    let A = c.args.a.now in
+    let pairs = c.in_ok-pairs in
+    pivots_answer A c.args.command pairs.pairs (subst (λ w. Selected A.matrix w pairs.pairs.items) c.team_of.ensures.workers pairs.ensures) c.requires.height c.requires.width

@@ -6,5 +6,5 @@ pub returns : goal.returns
 returns g c =
     let a = c.in_ok-a in
     let form = c.in_ok-form in
-    summary_answers c.args.command c.args.generator.now c.args.p.now a.a c.rows.result.now form.form c.of.result a.ensures.modulus a.ensures.matrix
-    form.ensures c.rows.ensures.modulus c.rows.ensures.matrix c.of.ensures.rank c.of.ensures.entries c.of.ensures.sum
+    summary_answers c.args.command c.args.generator.now c.args.p.now a.a form.form c.of.result a.ensures.modulus a.ensures.matrix
+    form.ensures.modulus form.ensures.rref c.of.ensures.rank c.of.ensures.entries c.of.ensures.sum

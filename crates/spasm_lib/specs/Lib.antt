@@ -1,0 +1,3 @@
+pub mod Claimed
+pub mod Inversion
+pub mod Solved

@@ -1,0 +1,85 @@
+// Certificates.
+ghost use Rattle.std.specs.Prelude.{◌≡◌, ◌<◌, ◌≤◌, ℕ, IfOk};
+ghost use Rattle.residue_words.specs.Residues.{IsPrime};
+ghost use Rattle.residue_words.specs.Matrix.{IsMatrix, Matrix};
+ghost use Rattle.row_space.specs.Factors.{IsValid};
+ghost use Rattle.sparse_rows.specs.declared.rows.TheConstants.{LARGEST_SIZE};
+ghost use Rattle.pluq_factor.specs.Basis.{IsBasis};
+ghost use Rattle.pluq_factor.specs.Staged.{Staged};
+ghost use Rattle.certificates.specs.Certificate.{IsFormed, certificate_of};
+ghost use Rattle.certificates.specs.CertificateText.{HasText};
+ghost use Rattle.spasm_lib.specs.Claimed.{IsClaimed};
+
+use crate::team::Team;
+use certificates::{CertKind, Certificate};
+use optimistic_search::Gate;
+use pluq_factor::{Factors, factor, form_of_basis};
+use sparse_rows::Rows;
+use std::alloc::AllocError;
+use std::thread::Threads;
+
+/// A certificate of a matrix, of fewer than 2^31 rows and columns: of its rank, and by the kind of its echelon form or its kernel basis too;
+/// modulo a prime. What shows it are factors A = L U with their pivots. `check` says whether a certificate is valid, and
+/// `certificates::write` writes it.
+///
+/// Modulo another number it is some certificate, which need not be valid. It takes the factors, which may have many entries, and what is
+/// claimed is made of U.
+///
+/// ```
+/// let certificate = spasm_lib::certificate(team, &a, CertKind::Rank)?;
+/// let valid = spasm_lib::check(rt.alloc(), &a, &certificate)?;
+/// ```
+pub fn certificate<R: Threads + Sync, G: Gate>(
+    team: Team<'_, R, G>,
+    a: &Rows,
+    kind: CertKind,
+) -> Result<Certificate, AllocError>
+    requires some { 1 ≤ team.workers }
+    requires height { a.now.matrix.height < LARGEST_SIZE }
+    requires width { a.now.matrix.width < LARGEST_SIZE }
+    ensures kind { IfOk result (λ c. c.kind ≡ kind) }
+    ensures formed { IfOk result (IsFormed a.now.modulus) }
+    ensures text { IfOk result (λ c. HasText (certificate_of c)) }
+    ensures valid { IfOk result (λ c. IsPrime a.now.modulus →
+        IsValid a.now.modulus a.now.matrix (certificate_of c)) }
+    ensures staged { IfOk result (λ c. IsPrime a.now.modulus →
+        Staged a.now.modulus a.now.matrix team.entry.workers team.entry.rounds c.pivots) }
+{
+    let Factors { pivots, l, u } = factor(team.runtime, team.alloc, a, team.plan(), team.gate)?;
+    let extra = claimed(team, &u, kind)?;
+    Ok(Certificate {
+        kind,
+        p: a.modulus().p(),
+        rank: pivots.items().len() as u32,
+        pivots,
+        l,
+        u,
+        extra,
+    })
+}
+
+// The matrix that a certificate of this kind claims of a matrix with this row basis, if it claims one: its echelon form, or its
+// kernel basis.
+fn claimed<R: Threads + Sync, G: Gate>(
+    team: Team<'_, R, G>,
+    basis: &Rows,
+    kind: CertKind,
+) -> Result<Option<Rows>, AllocError>
+    requires some { 1 ≤ team.workers }
+    requires width { basis.now.matrix.width < LARGEST_SIZE }
+    ensures { IfOk result (λ extra. (p : ℕ) (A : Matrix) → IsMatrix p A → IsBasis p A basis.now →
+        IsClaimed p A kind extra) }
+{
+    match kind {
+        CertKind::Rank => Ok(None),
+        CertKind::Rref => {
+            let form = form_of_basis(team.runtime, team.alloc, basis, team.workers)?;
+            Ok(Some(form.into_rows()))
+        }
+        CertKind::Kernel => {
+            let form = form_of_basis(team.runtime, team.alloc, basis, team.workers)?;
+            let null = kernel_solve::kernel(team.alloc, &form)?;
+            Ok(Some(null))
+        }
+    }
+}
