@@ -133,7 +133,7 @@ fn finds<R: Threads + Sync>(
 {
     let has_form = finds_form(rt, alloc, rows, plan, known)?;
     let has_basis = finds_basis(rt, alloc, rows, plan, known)?;
-    Ok(has_form && has_basis && rank(rt, alloc, rows, plan, &Open)? == known.rank())
+    Ok(has_form && has_basis && rank(rt, alloc, rows, plan)? == known.rank())
 }
 
 // Whether each plan finds what an elimination without rounds finds.
