@@ -58,11 +58,11 @@ counted_round law {R} {B} {t} {n} {s} sound same order count fits left =
 -- before the first round
 pub counted_none : {R : ResidueMatrix} {s : Bool} → LeavesRank R (record { count = 0; rest = R; searches = s })
 counted_none {R} = record {
-    modulus = refl;
-    at_most_height = omega (arith);
-    at_most_width = omega (arith);
-    rank = λ prime r below. let e : r ≡ 0 + r = omega (arith) in subst (HasRank R.modulus R.matrix) e below;
-  }
+  modulus = refl;
+  at_most_height = omega (arith);
+  at_most_width = omega (arith);
+  rank = λ prime r below. let e : r ≡ 0 + r = omega (arith) in subst (HasRank R.modulus R.matrix) e below;
+}
 
 -- one round more, and what it leaves in another order: for a prime modulus its count fits, since what it leaves has a rank
 pub counted_more : {R S : ResidueMatrix} {c d : Counted} {most more : ℕ} {s : Bool} → LeavesRank R c → LeavesRank c.rest d → KeepsRank d.rest S → most ≡ min R.matrix.height R.matrix.width →

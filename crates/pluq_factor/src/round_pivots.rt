@@ -206,10 +206,7 @@ pub(crate) fn count_round<R: Threads + Sync>(
     ensures { IfOk result (λ r. IfSome r (LeavesRank before.now.rest)) }
 {
     let rows = &before.rest;
-    let FewPivots {
-        triangle,
-        searches,
-    } = few_pivots(alloc, rows, before.searches)?;
+    let FewPivots { triangle, searches } = few_pivots(alloc, rows, before.searches)?;
     if triangle.pairs().is_empty() {
         return Ok(None);
     }

@@ -10,11 +10,10 @@ ghost use Rattle.weight_order.specs.Keeping.{AreFilledInSomeOrder, KeepsRank};
 ghost use Rattle.weight_order.specs.Laws.{SelectingKeepsRank, SelectingKeepsSpan, TransposingKeepsRank};
 ghost use Rattle.weight_order.specs.Shape.{HasFewRisingRows, HasRarestFirst, HasRowsByWeight};
 
+pub use filled_rows::RowOrder;
 use filled_rows::rarest_first;
 use sparse_rows::Rows;
 use std::alloc::{AllocError, Global};
-
-pub use filled_rows::RowOrder;
 
 /// A matrix of the same rank that has its rarest columns first, and no row or column without an entry. If more columns than rows
 /// have an entry, it is transposed. Then its columns stand by how many entries they have, the fewest first, those with as many by

@@ -6,8 +6,8 @@ use kernel_solve::{
     Found, Inverse, Prepared, Reply, inverse, kernel, left_kernel, refuting_system, solution,
 };
 use residue_words::Modulus;
-use spasm_lib::Team;
 use sparse_rows::Rows;
+use spasm_lib::Team;
 use std::alloc::{AllocError, Global};
 use std::test::Fail;
 use std::thread::Threads;
