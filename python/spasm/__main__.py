@@ -8,10 +8,11 @@ import sys
 from typing import Callable, Optional, Sequence
 
 from . import commands, complexes
-from .faults import SpasmError
+from .faults import Singular, SpasmError
 
 MATRIX_COMMANDS = {"rref": commands.rref, "kernel": commands.kernel, "leftkernel": commands.left_kernel,
                    "inverse": commands.inverse}
+SINGULAR = "singular: A x = 0 for this row x"
 
 
 def parsed(words: Optional[Sequence[str]]) -> argparse.Namespace:
@@ -59,8 +60,13 @@ def answer(options: argparse.Namespace) -> int:
     words = {"modulus": options.modulus, "workers": options.workers, "rounds": options.rounds}
     if options.command == "rank":
         print(commands.rank(options.file, **words))
-    else:
-        MATRIX_COMMANDS[options.command](options.file, **words).write(sys.stdout.buffer)
+        return 0
+    try:
+        found = MATRIX_COMMANDS[options.command](options.file, **words)
+    except Singular as told:  # an answer like any other, as it is for the program
+        print(SINGULAR, flush=True)
+        found = told.null_vector
+    found.write(sys.stdout.buffer)
     return 0
 
 

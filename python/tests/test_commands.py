@@ -348,7 +348,8 @@ class CommandLine(unittest.TestCase):
                 (["betti", example, "--primes", "7", "--jobs", "1"], 0, "faces: 3 3\nunreduced Betti numbers modulo 7: 1 1\n", ""),
                 (["rank", faulty], 1, "", "faulty.sms, line 4: the row isn't"),
                 (["rank", example, "--modulus", "9"], 1, "", "error: the modulus 9 isn't prime\n"),
-                (["inverse", example, "--modulus", "7"], 1, "", "A has no inverse"),
+                (["inverse", example, "--modulus", "7"], 0,
+                 "singular: A x = 0 for this row x\n1 3 M\n1 1 5\n1 2 1\n0 0 0\n", ""),
                 (["rank", "none"], 1, "", "No such file"),
                 (["rang", example], 2, "", "invalid choice")):
             with self.subTest(words):
