@@ -29,6 +29,7 @@ pub certificate_answers : (c : Command) (k : CertKind) (A : ResidueMatrix) (s : 
 certificate_answers c k A s same formed text valid staged = record {
   small = (subst (λ q. IsFormed q s) (sym formed.left) formed, text);
   fits = refl;
+  shape = (s, same, formed, text, refl);
   ends = refl;
   answers = λ prime. (certificate_of s, claim_named A.modulus s.kind s.extra formed.extra ∙ ap kind_word same, valid prime, staged prime, refl);
 }

@@ -15,5 +15,6 @@ worked_runs = record {
   usage = refl;
   fault = refl;
   shape = refl;
+  never = λ h. (let e = h.3 in cc);
   pivots = refl;
 }

@@ -17,6 +17,7 @@ pub mod PlaceSums
 pub mod Program
 pub mod Reading
 pub mod Scripted
+pub mod Shapes
 pub mod Solving
 pub mod Spelled
 pub mod Spreading

@@ -67,6 +67,7 @@ pub pivots_answer : (a : ResidueMatrix) (c : Command) (pairs : Vec Pair Global) 
 pivots_answer a c pairs selected high wide = record {
   small = small_places a.matrix pairs.items selected.triangular (omega arith) (omega arith);
   fits = refl;
+  shape = tt;
   ends = refl;
   answers = λ any. (pairs.items, selected, refl);
 }

@@ -26,6 +26,7 @@ use Rattle.spasm_run.specs.Answers.{AnswersScript}
 use Rattle.spasm_run.specs.Computed.{IsAnswerTo, asking}
 use Rattle.spasm_run.specs.Contents.{AreAnswered, Contents, contents}
 use Rattle.spasm_run.specs.Input.{SaysContents, WasAnswered, WasRead}
+use Rattle.spasm_run.specs.Shapes.{HasAnswerShape}
 use Rattle.spasm_run.proofs.Input.{from_start, parts_read, parts_unread}
 
 -- these items say these contents
@@ -105,6 +106,7 @@ pub script_answers : (p : ℕ) (answers : Vec Answer Global) (said : Contents) (
 script_answers p answers said c fits are = record {
   small = fits;
   fits = refl;
+  shape = subst (λ values. HasAnswerShape task.Grow p values (answers_text answers.items)) (sym are.matrices) (answers.items, fits, refl);
   answers = λ prime. subst (λ values. AnswersScript p values said.lines (answers_text answers.items)) (sym are.matrices) (are.answered prime);
   ends = refl;
 }

@@ -55,6 +55,7 @@ module _ (p : ℕ) (A B : Matrix) (heights : A.height ≡ B.height) (narrow : B.
     small = (omega (arith, shape.2), omega (arith, shape.3));
     fits = side_fits;
     ends = refl;
+    shape = inl (x.matrix, shape.1, shape.2, shape.3, refl);
     answers = λ prime. inl (column x.matrix, solved prime, ap (λ X. codes "solution\n" ++ text_of X) (column_whole x.matrix shape.1 shape.3));
   }
 
@@ -64,6 +65,7 @@ module _ (p : ℕ) (A B : Matrix) (heights : A.height ≡ B.height) (narrow : B.
     small = (omega (arith, shape.2), omega (arith, shape.3));
     fits = side_fits;
     ends = refl;
+    shape = inr (y.matrix, shape.1, shape.2, shape.3, refl);
     answers = λ prime. inr (row y.matrix 0, (solved prime).0, (solved prime).1, ap (λ Y. codes "no solution\n" ++ text_of Y) (row_whole y.matrix shape.1 shape.2));
   }
 
@@ -77,6 +79,7 @@ inverse_answers c p A b square narrow shape inverse = record {
   small = (omega (arith, shape.2), omega (arith, shape.3));
   fits = inverse_fits A square narrow;
   ends = refl;
+  shape = inl (b.matrix, shape.1, shape.2, shape.3, refl);
   answers = λ prime. inl (b.matrix, inverse prime, refl);
 }
 
@@ -87,6 +90,7 @@ singular_answers c p A v square narrow shape singular = record {
   small = (omega (arith, shape.2), omega (arith, shape.3));
   fits = inverse_fits A square narrow;
   ends = refl;
+  shape = inr (v.matrix, shape.1, shape.2, shape.3, refl);
   answers = λ prime.
       let (none, null, nonzero, (K, kernel, some, same)) = singular prime in
       inr (K, none, kernel, some, ap (λ V. codes "singular\n" ++ text_of V) (row_whole v.matrix shape.1 shape.2 ∙ ap as_row same));

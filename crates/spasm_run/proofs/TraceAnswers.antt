@@ -14,7 +14,7 @@ use Rattle.spasm_run.specs.Contents.{AreToReplay, Contents, HasLawfulTrace, matr
 -- a trace that was found
 pub trace_answers : (A : ResidueMatrix) (c : Command) (t : Trace) → IsTraceOf A.modulus A.matrix c.workers t → HasTraceText t →
     IsAnswerTo (asking task.Trace A.modulus c) (matrices_alone (A.matrix ∷ [])) (answer.Trace t)
-trace_answers A c t is text = record { small = text; fits = refl; answers = λ any. (t, is, refl); ends = refl }
+trace_answers A c t is text = record { small = text; fits = refl; shape = tt; answers = λ any. (t, is, refl); ends = refl }
 
 module _ (p : ℕ) (A : ResidueMatrix) (t : Trace) (said : Contents) (are : AreToReplay A t said) where
   has_lawful : IsLawfulTrace p A.matrix t → HasLawfulTrace p said
@@ -33,7 +33,7 @@ module _ (p : ℕ) (A : ResidueMatrix) (t : Trace) (said : Contents) (are : AreT
   false_no e = cc
 
   pub replay_answers : (d : Command) (lawful : Bool) → (IsTrue lawful ↔ IsLawfulTrace p A.matrix t) → IsAnswerTo (asking task.Replay p d) said (answer.Verdict lawful)
-  replay_answers d true h = let is = has_lawful (h.0 refl) in record { small = tt; fits = refl; answers = λ any. inl (is, refl); ends = inl (is, refl) }
+  replay_answers d true h = let is = has_lawful (h.0 refl) in record { small = tt; fits = refl; shape = tt; answers = λ any. inl (is, refl); ends = inl (is, refl) }
   replay_answers d false h =
       let none : ¬ HasLawfulTrace p said = λ is. false_no (h.1 (lawful_here is)) in
-      record { small = tt; fits = refl; answers = λ any. inr (none, refl); ends = inr (none, refl) }
+      record { small = tt; fits = refl; shape = tt; answers = λ any. inr (none, refl); ends = inr (none, refl) }

@@ -30,7 +30,7 @@ module _ (p : ℕ) (A : ResidueMatrix) (c : Certificate) (said : Contents) (are 
   false_no e = cc
 
   pub verdict_answers : (d : Command) (valid : Bool) → (IsTrue valid ↔ IsValid p A.matrix (certificate_of c)) → IsAnswerTo (asking task.Check p d) said (answer.Verdict valid)
-  verdict_answers d true h = let is = certified (h.0 refl) in record { small = tt; fits = refl; answers = λ any. inl (is, refl); ends = inl (is, refl) }
+  verdict_answers d true h = let is = certified (h.0 refl) in record { small = tt; fits = refl; shape = tt; answers = λ any. inl (is, refl); ends = inl (is, refl) }
   verdict_answers d false h =
       let none : ¬ IsCertified p said = λ is. false_no (h.1 (valid_here is)) in
-      record { small = tt; fits = refl; answers = λ any. inr (none, refl); ends = inr (none, refl) }
+      record { small = tt; fits = refl; shape = tt; answers = λ any. inr (none, refl); ends = inr (none, refl) }

@@ -35,7 +35,7 @@ use Rattle.spasm_run.proofs.Outcomes.{Answered, Endings, Faulty, Outcome, Refuse
 module _ (words : List (List ℕ)) (c : Command) (limit : ℕ) (accepted : Accepted words c) (old new : SourceState) where
   found_in : (said : Contents) (result : Result Answer Status) (input : Input) → ComesOfContents c said result →
       HasContents (request c limit) input said → IsFoundIn words limit input result
-  found_in said (Ok a) input comes reads = (c, accepted, record { said = said; reads = reads; fits = comes.fits; answers = comes.answers; ends = comes.ends })
+  found_in said (Ok a) input comes reads = (c, accepted, record { said = said; reads = reads; fits = comes.fits; shape = comes.shape; answers = comes.answers; ends = comes.ends })
   found_in said (Err status.Done) input comes reads = absurd comes
   found_in said (Err status.No) input comes reads = absurd comes
   found_in said (Err status.Usage) input comes reads = absurd comes

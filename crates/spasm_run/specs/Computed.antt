@@ -21,6 +21,7 @@ use Rattle.spasm_run.specs.declared.words.Task.TheVariants as task
 use Rattle.spasm_run.specs.Generator.{HasSizesInRange, summary_text}
 use Rattle.spasm_run.specs.Input.{Input, supply_behind}
 use Rattle.spasm_run.specs.Ran.{AreTooFew, HasNoAnswer, IsAnswered}
+use Rattle.spasm_run.specs.Shapes.{HasAnswerShape}
 use Rattle.spasm_run.specs.Status.{is_unread}
 
 -- the text of an answer
@@ -74,6 +75,7 @@ IsOfSizes t = Unit {0}
 pub record IsAnswerTo (c : Command) (said : Contents) (a : Answer) : Type 0 where
   pub small : IsSmall a
   pub fits : misfit c.task said.matrices ≡ None
+  pub shape : HasAnswerShape c.task c.modulus said.matrices (answer_text a)
   pub answers : RestsOn c.task c.modulus → AnswerOf c said (answer_text a)
   pub ends : EndsWith c.task c.modulus said (status_behind a)
 

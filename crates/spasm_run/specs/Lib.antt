@@ -9,5 +9,6 @@ pub mod Line
 pub mod Options
 pub mod Plain
 pub mod Ran
+pub mod Shapes
 pub mod Status
 pub mod Words

@@ -10,6 +10,7 @@ use Rattle.spasm_run.specs.declared.words.Command.{Command}
 use Rattle.spasm_run.specs.Answers.{AnswerOf, EndsWith, RestsOn, misfit, wanted}
 use Rattle.spasm_run.specs.Contents.{Contents}
 use Rattle.spasm_run.specs.Input.{HasContents, Input, supply_behind}
+use Rattle.spasm_run.specs.Shapes.{HasAnswerShape}
 use Rattle.spasm_run.specs.Status.{is_unread}
 use Rattle.spasm_run.specs.Words.{Accepted, AreRefused}
 
@@ -30,12 +31,13 @@ request c limit = record { modulus = c.modulus; limit = limit; due = wanted c.ta
 abbrev pub WantNothing : List (List ℕ) → Type 0
 WantNothing words = (c : Command) → Accepted words c → wanted c.task ≡ []
 
--- the input is whole, its matrices are of the shapes that are wanted, this text is the answer where it has what it rests on, and with it a
--- run ends with this status
+-- the input is whole, its matrices are of the shapes that are wanted, this text has the shape of an answer, and is the answer where it has
+-- what it rests on, and with it a run ends with this status
 pub record HasAnswer (c : Command) (limit : ℕ) (input : Input) (text : List ℕ) (s : Status) : Type 0 where
   pub said : Contents
   pub reads : HasContents (request c limit) input said
   pub fits : misfit c.task said.matrices ≡ None
+  pub shape : HasAnswerShape c.task c.modulus said.matrices text
   pub answers : RestsOn c.task c.modulus → AnswerOf c said text
   pub ends : EndsWith c.task c.modulus said s
 
