@@ -19,8 +19,8 @@ use certificates::{CertKind, Certificate};
 use optimistic_search::Gate;
 use residue_words::Modulus;
 use run_trace::{Trace, replay, trace_of};
-use spasm_lib::{Inverse, Solution, Team};
 use sparse_rows::Rows;
+use spasm_lib::{Inverse, Solution, Team};
 use std::alloc::Global;
 use std::thread::Threads;
 
