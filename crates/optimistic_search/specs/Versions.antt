@@ -9,13 +9,13 @@ use Rattle.pivot_table.specs.Last.{IsLast}
 use Rattle.pivot_table.specs.declared.closed.Closed.{Closed}
 
 -- from place `from` on and before place `to` each version is the place itself
-abbrev pub ArePlaces : ℕ → ℕ → List ℕ → Type 0
-ArePlaces from to versions = (k : ℕ) → from ≤ k → k < to → slice_index versions k ≡ k
+abbrev pub AreOwnBetween : ℕ → ℕ → List ℕ → Type 0
+AreOwnBetween from to versions = (k : ℕ) → from ≤ k → k < to → slice_index versions k ≡ k
 
 -- a version for each of so many pairs: its place
 pub record AreOwnPlaces (count : ℕ) (versions : List ℕ) : Type 0 where
   pub long : length versions ≡ count
-  pub places : ArePlaces 0 count versions
+  pub places : AreOwnBetween 0 count versions
 
 -- a version for each pair of a history that begins with the pairs `first`, and none above its place. Workers that began with `first`
 -- came to a last state, with whose history this one begins: the version of each pair that they published is the start that the row
@@ -26,10 +26,10 @@ pub record TellsStarts (A : Matrix) (first history : List Pair) (versions : List
   pub begins : StartsWith history last.history
   pub long : length versions ≡ length history
   pub low : (k : ℕ) → k < length history → slice_index versions k ≤ k
-  pub given : ArePlaces 0 (length first) versions
+  pub given : AreOwnBetween 0 (length first) versions
   pub started : (k : ℕ) (q : Pair) → length first ≤ k → StandsAt last.history k q →
       Carries last.rows q.row (slice_index versions k)
-  pub swept : ArePlaces (length last.history) (length history) versions
+  pub swept : AreOwnBetween (length last.history) (length history) versions
 
 -- the starts that are left of a board that began with the pairs `first`, with whose history this one begins
 pub record AreStartsOf (A : Matrix) (first history : List Pair) (starts : Begun) : Type 0 where

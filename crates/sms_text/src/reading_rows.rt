@@ -88,7 +88,8 @@ fn take_plain(
 
 // Adds the entries.
 fn push_all(builder: &mut RowsBuilder, entries: &[Entry]) -> Result<(), AllocError>
-    requires { All (λ e. FitsMatrix builder.old.height builder.old.width builder.old.modulus (e.i, e.j, e.v)) entries.now }
+    requires { All (λ e. FitsMatrix builder.old.height builder.old.width builder.old.modulus (e.i, e.j, e.v))
+        entries.now }
     ensures { OnOk result (builder.new ≡ with_entries_pushed builder.old entries.now) }
 {
     for entry in entries {

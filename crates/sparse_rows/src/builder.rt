@@ -61,6 +61,7 @@ impl RowsBuilder {
     }
 
     /// Adds v at row i and column j, in constant time on average.
+    #[inline(always)]
     pub fn push(&mut self, i: u32, j: u32, v: u64) -> Result<(), AllocError>
         requires row { i < self.old.height }
         requires column { j < self.old.width }

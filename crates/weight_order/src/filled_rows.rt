@@ -66,8 +66,8 @@ fn last_first(alloc: Global, rows: &Rows) -> Result<Vec<u32>, AllocError>
 // From the first to the last, with their weights.
 fn weighed(alloc: Global, rows: &Rows) -> Result<Vec<WeighedRow>, AllocError>
     ensures rows { IfOk result (λ weighed. AreFilled rows.now.matrix (map (λ w. w.row) weighed.items)) }
-    ensures weights { IfOk result (λ weighed. All (λ w. w.weight ≡ length (support (row rows.now.matrix w.row)))
-        weighed.items) }
+    ensures weights { IfOk result (λ weighed.
+        All (λ w. w.weight ≡ length (support (row rows.now.matrix w.row))) weighed.items) }
 {
     // The contract of this call bounds the weights.
     let _ = rows.width();
