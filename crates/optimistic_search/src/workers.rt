@@ -50,8 +50,8 @@ pub fn search<'a, R: Threads + Sync, G: Gate>(
     Ok(found)
 }
 
-// What one worker does.
-fn search_alone(alloc: Global, book: Book) -> Result<Book, AllocError>
+/// What `search` does by one worker, for a caller who has no threads.
+pub fn search_alone(alloc: Global, book: Book) -> Result<Book, AllocError>
     ensures rows { IfOk result (λ b. b.rows ≡ book.entry.rows) }
     ensures begins { IfOk result (λ b. StartsWith b.pairs book.entry.pairs) }
     ensures maximal { IfOk result (λ b. Maximal book.entry.rows.matrix b.pairs) }
