@@ -3,7 +3,7 @@ use Rattle.std.proofs.Common.{ℕ, ◌≡◌, ◌≤◌, ◌++◌, ◌∙◌, Li
 use Rattle.residue_words.specs.Matrix.{Matrix}
 use Rattle.kernel_solve.specs.Column.{column}
 use Rattle.spasm_run.specs.Contents.{Contents}
-use Rattle.spasm_run.proofs.OneAnswer.{one_solution}
+use Rattle.spasm_run.proofs.Solving.{one_solution}
 use Rattle.spasm_run.proofs.Outcomes.{one_reading}
 use Rattle.batch_solve.specs.declared.batch_words.BatchCommand.{BatchCommand}
 use Rattle.batch_solve.specs.BatchAnswers.{AnswersBatch, AnswersEach}

@@ -1,17 +1,12 @@
 pub mod Accepting
 pub mod Building
 pub mod Certifying
-pub mod Continuing
-pub mod Elimination
 pub mod Exact
-pub mod Examples
 pub mod Generating
 pub mod InRange
 pub mod Input
 pub mod Matching
-pub mod OneAnswer
 pub mod OneSelection
-pub mod OneTrace
 pub mod Outcomes
 pub mod PlaceSums
 pub mod Program
@@ -20,7 +15,6 @@ pub mod Scripted
 pub mod Shapes
 pub mod Solving
 pub mod Spelled
-pub mod Spreading
 pub mod Stays
 pub mod Summaries
 pub mod TraceAnswers

@@ -5,6 +5,7 @@ use Rattle.std.proofs.lemmas.Bool.Decides.{nat_tests}
 use Rattle.residue_words.specs.Residues.{IsPrime}
 use Rattle.residue_words.specs.Matrix.{Matrix, IsMatrix, entry, row}
 use Rattle.residue_words.proofs.Vectors.{at_list_of, entry_matrix_of, entry_residue, is_matrix_of, length_list_of, matrix_equal}
+use Rattle.row_space.proofs.Unique.{refutation_unique, solution_unique}
 use Rattle.sms_text.specs.Written.{text_of}
 use Rattle.sparse_rows.specs.Rows.{ResidueMatrix}
 use Rattle.sparse_rows.specs.declared.rows.TheConstants.{LARGEST_SIZE}
@@ -18,7 +19,7 @@ use Rattle.spasm_run.specs.declared.answer.Answer.TheVariants as answer
 use Rattle.spasm_run.specs.declared.commands.TheConstants.{LARGEST_INVERTED}
 use Rattle.spasm_run.specs.declared.words.Command.{Command}
 use Rattle.spasm_run.specs.declared.words.Task.TheVariants as task
-use Rattle.spasm_run.specs.Answers.{as_row, misfit}
+use Rattle.spasm_run.specs.Answers.{SolvesTo, as_row, misfit}
 use Rattle.spasm_run.specs.Computed.{IsAnswerTo, asking}
 use Rattle.spasm_run.specs.Contents.{matrices_alone}
 
@@ -95,3 +96,14 @@ singular_answers c p A v square narrow shape singular = record {
       let (none, null, nonzero, (K, kernel, some, same)) = singular prime in
       inr (K, none, kernel, some, ap (λ V. codes "singular\n" ++ text_of V) (row_whole v.matrix shape.1 shape.2 ∙ ap as_row same));
 }
+
+-- a system's answer
+pub one_solution : (p : ℕ) (A : Matrix) (b x y : List ℕ) → 2 ≤ p → SolvesTo p A b x → SolvesTo p A b y → x ≡ y
+one_solution p A b x y two (inl s) (inl t) =
+    let same : s.0 ≡ t.0 = solution_unique p A b s.0 t.0 two s.1 t.1 in
+    s.2 ∙ ap (λ v. codes "solution\n" ++ text_of (column_matrix v)) same ∙ sym t.2
+one_solution p A b x y two (inl s) (inr t) = absurd (t.1 s.0 s.1.solves)
+one_solution p A b x y two (inr s) (inl t) = absurd (s.1 t.0 t.1.solves)
+one_solution p A b x y two (inr s) (inr t) =
+    let same : s.0 ≡ t.0 = refutation_unique p A b s.0 t.0 two s.2 t.2 in
+    s.3 ∙ ap (λ v. codes "no solution\n" ++ text_of (as_row v)) same ∙ sym t.3

@@ -1,13 +1,10 @@
 pub mod Answers
 pub mod Computed
 pub mod Contents
-pub mod Continuing
-pub mod Examples
 pub mod Generator
 pub mod Input
 pub mod Line
 pub mod Options
-pub mod Plain
 pub mod Ran
 pub mod Shapes
 pub mod Status

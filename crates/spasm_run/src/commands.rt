@@ -3,7 +3,7 @@ ghost use Rattle.std.specs.Prelude.{◌≡◌, ◌≤◌, ◌<◌, [], ◌∷◌
 ghost use Rattle.sparse_rows.specs.declared.rows.TheConstants.{LARGEST_SIZE};
 ghost use Rattle.sms_text.specs.Text.{Header};
 ghost use Rattle.certificates.specs.Certificate.{IsFormed};
-ghost use Rattle.spasm_run.specs.Answers.{IsOneAnswer, wanted};
+ghost use Rattle.spasm_run.specs.Answers.{wanted};
 ghost use Rattle.spasm_run.specs.Computed.{ComesOf, ComesOfContents, IsSmall, asking};
 ghost use Rattle.spasm_run.specs.Contents.{AreToCheck, AreToReplay, Contents};
 ghost use Rattle.spasm_run.specs.Generator.{HasSizesInRange};
@@ -26,11 +26,6 @@ use std::thread::Threads;
 
 /// The most rows of a matrix that is inverted, 2^30.
 pub const LARGEST_INVERTED: u32 = 1_073_741_824;
-
-/// A command has one answer for the matrices that it is given.
-pub fn at_most_one_answer()
-    ensures { IsOneAnswer }
-{}
 
 // By whom a command is worked out, and how.
 fn team_of<'a, R, G>(rt: &'a R, alloc: Global, command: Command, gate: &'a G) -> Team<'a, R, G>

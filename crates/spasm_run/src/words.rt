@@ -4,8 +4,7 @@ ghost use Rattle.std.specs.List.{list_any};
 ghost use Rattle.std.specs.Str.{bytes_eq};
 ghost use Rattle.clap.specs.Words.{app_of, first_value, found_of, is_simple_and_free, rows_of, subcommand_rows_of};
 ghost use Rattle.spasm_run.specs.Words.{InRange, IsInRange, IsValue, kind_place, kind_rule, own_settings};
-ghost use Rattle.spasm_run.specs.Options.{AcceptedIsPlain, IsCommandOf, IsNumberOf, IsOneCommand, IsTaskOf};
-ghost use Rattle.spasm_run.specs.Options.{AreTaken, AsksFor, RowsSet, bytes_of};
+ghost use Rattle.spasm_run.specs.Options.{AreTaken, AsksFor, IsCommandOf, IsNumberOf, IsTaskOf, RowsSet, bytes_of};
 ghost use Rattle.spasm_run.specs.declared.words.Task.TheVariants as task;
 
 pub mod command_line;
@@ -76,16 +75,6 @@ pub fn read_words<'a>(alloc: Global, words: &'a [&'a str]) -> Result<Option<Comm
         None => Ok(None),
     }
 }
-
-/// Words ask for one command at most.
-pub fn at_most_one_command()
-    ensures { IsOneCommand }
-{}
-
-/// No word that is accepted is `--`, no value that is given begins with `-`, and no name has an `=`.
-pub fn accepted_words_are_plain()
-    ensures { AcceptedIsPlain }
-{}
 
 /// Whether one of the words is `--`.
 pub fn has_dashes(words: &[&str]) -> bool

@@ -1,10 +1,10 @@
 // Ranks that are known from outside.
 ghost use Rattle.std.specs.Prelude.{◌<◌, IfOk};
 ghost use Rattle.residue_words.specs.Matrix.{IsMatrix, IsVector};
-ghost use Rattle.spasm_run.specs.Plain.{plain_matrix};
+ghost use Rattle.plain_elimination.specs.Plain.{plain_matrix};
 
 use residue_words::Modulus;
-use spasm_run::rank_of;
+use plain_elimination::rank_of;
 use std::alloc::{AllocError, Global};
 use std::test::Fail;
 

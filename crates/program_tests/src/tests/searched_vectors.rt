@@ -3,7 +3,7 @@ ghost use Rattle.std.specs.Prelude.{◌<◌, ◌≤◌};
 
 use crate::tests::runs::{CALM, rows_of, run_on};
 use residue_words::Modulus;
-use spasm_run::plain_rows;
+use plain_elimination::plain_rows;
 use std::alloc::{AllocError, Global};
 use std::process::Abort;
 use std::test::Fail;

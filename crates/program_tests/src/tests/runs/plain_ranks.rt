@@ -6,7 +6,7 @@ use dense_finish::finish;
 use echelon_form::Echelon;
 use residue_words::{MODULUS_BOUND, Modulus};
 use sparse_rows::Rows;
-use spasm_run::{plain_rows, rank_of};
+use plain_elimination::{plain_rows, rank_of};
 use std::alloc::{AllocError, Global};
 use std::test::Fail;
 use std::thread::Threads;

@@ -1,5 +1,5 @@
 use Rattle.residue_words.specs.Matrix.{IsMatrix}
-use Rattle.spasm_run.specs.Plain.{plain_matrix}
+use Rattle.plain_elimination.specs.Plain.{plain_matrix}
 use Rattle.program_tests.proofs.tests.known_ranks.rows_of.Given as goal
 
 abbrev pub invariant-loop-i : goal.invariant-loop-i

@@ -1,0 +1,4 @@
+pub mod Continuing
+pub mod Examples
+pub mod OneAnswer
+pub mod OneTrace

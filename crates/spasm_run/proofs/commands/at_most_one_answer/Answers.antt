@@ -1,5 +1,0 @@
-use Rattle.spasm_run.proofs.OneAnswer.{one_answer}
-use Rattle.spasm_run.proofs.commands.at_most_one_answer.Goals as goal
-
-pub returns : goal.returns
-returns c = one_answer

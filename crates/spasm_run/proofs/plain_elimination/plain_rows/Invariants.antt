@@ -1,7 +1,0 @@
--- The rows before i were spread.
-use Rattle.std.proofs.Common.{◌≡◌, take}
-use Rattle.spasm_run.specs.Plain.{lists}
-use Rattle.spasm_run.proofs.plain_elimination.plain_rows.Given as goal
-
-abbrev pub invariant-loop-i : goal.invariant-loop-i
-invariant-loop-i l = lists l.plain.items ≡ take l.i l.rows.matrix.rows

@@ -1,5 +1,0 @@
-use Rattle.spasm_run.proofs.Exact.{accepted_plain}
-use Rattle.spasm_run.proofs.words.accepted_words_are_plain.Goals as goal
-
-pub returns : goal.returns
-returns c = accepted_plain

@@ -1,5 +1,0 @@
-use Rattle.spasm_run.proofs.Exact.{one_command}
-use Rattle.spasm_run.proofs.words.at_most_one_command.Goals as goal
-
-pub returns : goal.returns
-returns c = one_command
