@@ -5,7 +5,9 @@ ghost use Rattle.dense_finish.specs.Block.{IsBlock, IsBlockOf, IsDense};
 ghost use Rattle.sparse_rows.specs.Rows.{AreBelow, AreOccupied};
 
 use crate::dense::Dense;
+use crate::reducing::Reducing;
 use crate::residue::Residue;
+use crate::split_work::Helping;
 use residue_words::Modulus;
 use sparse_rows::Rows;
 use std::alloc::{AllocError, Global};
@@ -40,14 +42,15 @@ impl<W: Residue> Model for Block<W> {
     } };
 }
 
-impl<W: Residue> Block<W> {
+impl<W: Reducing> Block<W> {
     // The block of a matrix, made by so many workers.
-    pub(crate) fn of<R: Threads + Sync>(
-        rt: &R,
+    pub(crate) fn of<C: Helping<W>>(
+        crew: &C,
         alloc: Global,
         rows: &Rows,
         workers: usize,
     ) -> Result<Block<W>, AllocError>
+        requires able { C.can_work }
         requires modulus { W.serves rows.now.modulus }
         ensures block { IfOk result (IsBlockOf rows.now) }
         ensures dense { IfOk result IsDense }
@@ -55,7 +58,7 @@ impl<W: Residue> Block<W> {
         let p = rows.modulus();
         let filled = rows.filled(alloc)?;
         let columns = rows.occupied(alloc)?;
-        let entries = shared_block(rt, alloc, rows, &filled, &columns, &p, workers)?;
+        let entries = crew.make_block(alloc, rows, &filled, &columns, &p, workers)?;
         Ok(Block {
             p,
             height: rows.height(),
@@ -68,7 +71,7 @@ impl<W: Residue> Block<W> {
 }
 
 // The entries of these rows at the columns that have one, made by so many workers: each makes some of the rows.
-fn shared_block<R: Threads + Sync, W: Residue>(
+pub(crate) fn shared_block<R: Threads + Sync, W: Residue>(
     rt: &R,
     alloc: Global,
     rows: &Rows,
@@ -111,7 +114,7 @@ fn shared_block<R: Threads + Sync, W: Residue>(
 }
 
 // The entries of these rows at the columns that have one.
-fn block_of<W: Residue>(
+pub(crate) fn block_of<W: Residue>(
     alloc: Global,
     rows: &Rows,
     filled_rows: &[u32],

@@ -23,9 +23,9 @@ use std::simd::prelude::*;
 // block with the first is gone through one by one.
 const SCAN_BLOCK: usize = 64;
 
-// A row of residues, zeros too. Contracts see the list of the residues.
+/// A row of residues, zeros too. Contracts see the list of the residues.
 #[derive(Drop)]
-pub(crate) struct Dense<W: Residue> {
+pub struct Dense<W: Residue> {
     places: Vec<W>,
 }
 

@@ -25,7 +25,9 @@ use crate::residue::Residue;
 use crate::right_factor::RightFactor;
 use crate::share::Share;
 use crate::shared_pieces::queue_of;
+use crate::split_work::Helping;
 use crate::taker::Taker;
+use crew::Threaded;
 use residue_words::{LANE_BOUND, Modulus};
 use sparse_rows::Rows;
 use std::alloc::{AllocError, Global};
@@ -38,19 +40,19 @@ const PART: usize = 16;
 // to a panel's share of it: so it is written to while they take long.
 const AHEAD: usize = 16 * PANEL;
 
-// What stays the same during an elimination: the columns of the matrix that the block's stand for, the modulus, and the number of
-// workers.
+/// What stays the same during an elimination: the columns of the matrix that the block's stand for, the modulus, and the number of
+/// workers.
 #[derive(Clone, Copy)]
-pub(crate) struct Elimination<'a> {
+pub struct Elimination<'a> {
     pub(crate) alloc: Global,
     columns: &'a [u32],
     pub(crate) p: Modulus,
     workers: usize,
 }
 
-// The rows of a block from `start` on and before `end`.
+/// The rows of a block from `start` on and before `end`.
 #[derive(Clone, Copy)]
-pub(crate) struct RowRange {
+pub struct RowRange {
     pub(crate) start: usize,
     pub(crate) end: usize,
 }
@@ -69,27 +71,29 @@ pub fn finish<R: Threads + Sync>(
     requires some { 1 ≤ workers }
     ensures { IfOk result (IsFactored rows.now.modulus rows.now.matrix) }
 {
+    let crew = Threaded::of(rt);
     if rows.modulus().p() < LANE_BOUND {
-        finish_in::<R, u32>(rt, alloc, rows, workers as usize)
+        finish_in::<Threaded<R>, u32>(&crew, alloc, rows, workers as usize)
     } else {
-        finish_in::<R, u64>(rt, alloc, rows, workers as usize)
+        finish_in::<Threaded<R>, u64>(&crew, alloc, rows, workers as usize)
     }
 }
 
 // The same with the residues kept so.
-fn finish_in<R: Threads + Sync, W: Reducing>(
-    rt: &R,
+fn finish_in<C: Helping<W>, W: Reducing>(
+    crew: &C,
     alloc: Global,
     rows: &Rows,
     workers: usize,
 ) -> Result<Factors, AllocError>
+    requires able { C.can_work }
     requires modulus { W.serves rows.now.modulus }
     requires some { 1 ≤ workers }
     ensures { IfOk result (IsFactored rows.now.modulus rows.now.matrix) }
 {
-    let mut block = Block::<W>::of(rt, alloc, rows, workers)?;
+    let mut block = Block::<W>::of(crew, alloc, rows, workers)?;
     let mut left = LeftRoom::of(alloc, &block)?;
-    let pivots = block.eliminate(rt, alloc, workers, &mut left)?;
+    let pivots = block.eliminate(crew, alloc, workers, &mut left)?;
     let l = left_factor(alloc, &block, &pivots, left)?;
     let RightFactor { pivots, u } = pivots.into_right_factor(alloc, &block)?;
     Ok(Factors { pivots, l, u })
@@ -98,13 +102,14 @@ fn finish_in<R: Threads + Sync, W: Reducing>(
 impl<W: Reducing> Block<W> {
     // Eliminates the block by so many workers: what is left are the coefficients of its rows at the pivots. Meanwhile the memory for the
     // left factor is written to.
-    pub(crate) fn eliminate<R: Threads + Sync>(
+    pub(crate) fn eliminate<C: Helping<W>>(
         &mut self,
-        rt: &R,
+        crew: &C,
         alloc: Global,
         workers: usize,
         left: &mut LeftRoom,
     ) -> Result<Pivots, AllocError>
+        requires able { C.can_work }
         requires modulus { W.serves self.old.modulus }
         requires some { 1 ≤ workers }
         requires dense { IsDense self.old }
@@ -116,19 +121,20 @@ impl<W: Reducing> Block<W> {
             p: self.p,
             workers,
         };
-        elimination.eliminate(rt, self.width, &mut self.entries, left)
+        elimination.eliminate(crew, self.width, &mut self.entries, left)
     }
 }
 
 impl<'a> Elimination<'a> {
     // Eliminates a block of a matrix of this width, panel by panel.
-    fn eliminate<R: Threads + Sync, W: Reducing>(
+    fn eliminate<C: Helping<W>, W: Reducing>(
         &self,
-        rt: &R,
+        crew: &C,
         width: u32,
         block: &mut [Dense<W>],
         left: &mut LeftRoom,
     ) -> Result<Pivots, AllocError>
+        requires able { C.can_work }
         requires modulus { W.serves self.now.p }
         requires some { 1 ≤ self.now.workers }
         requires narrow { width ≤ LARGEST_SIZE }
@@ -153,7 +159,7 @@ impl<'a> Elimination<'a> {
             };
             let size = rows.end - rows.start;
             left.expect((block.len() - done).min(AHEAD), pivots.rows.len());
-            found = self.next_panel(rt, &found, rows, &mut pivots, block, left)?;
+            found = self.next_panel(crew, &found, rows, &mut pivots, block, left)?;
             left.count(size, pivots.rows.len());
             done = rows.end;
         }
@@ -177,15 +183,16 @@ impl<'a> Elimination<'a> {
     }
 
     // Takes a panel's pivots out of the rows from the first on, and finds those of these rows meanwhile.
-    fn next_panel<R: Threads + Sync, W: Reducing>(
+    fn next_panel<C: Helping<W>, W: Reducing>(
         &self,
-        rt: &R,
+        crew: &C,
         found: &Found<W>,
         rows: RowRange,
         pivots: &mut Pivots,
         block: &mut [Dense<W>],
         left: &mut LeftRoom,
     ) -> Result<Found<W>, AllocError>
+        requires able { C.can_work }
         requires modulus { W.serves self.now.p }
         requires some { 1 ≤ self.now.workers }
         requires rows { AreRowsOf block.old rows }
@@ -197,15 +204,37 @@ impl<'a> Elimination<'a> {
     {
         let (own, others) = block.split_at_mut(rows.end);
         if self.workers == 1 || found.panel.is_empty() || others.is_empty() {
-            found.reduce_behind(others, 0, &self.p);
-            return self.reduce_and_find(found, rows, pivots, own);
+            return self.find_alone(found, rows, pivots, own, others);
         }
-        self.find_beside(rt, found, rows, pivots, own, others, left)
+        crew.find_beside(self, found, rows, pivots, own, others, left)
     }
 
-    // Takes a panel's pivots out of its own rows from the first on, and finds those of these rows, while the other workers take the
-    // panel's out of the other rows, piece by piece, as this one does then too.
-    fn find_beside<R: Threads + Sync, W: Reducing>(
+    // Takes a panel's pivots out of the other rows, then out of its own rows from the first on, and finds those of these rows.
+    pub(crate) fn find_alone<W: Reducing>(
+        &self,
+        found: &Found<W>,
+        rows: RowRange,
+        pivots: &mut Pivots,
+        own: &mut [Dense<W>],
+        others: &mut [Dense<W>],
+    ) -> Result<Found<W>, AllocError>
+        requires modulus { W.serves self.now.p }
+        requires rows { AreLastRowsOf own.old rows }
+        requires ready { CanGoOn self.now.p self.now.columns.now
+            (panel_stage pivots.old found.now own.old rows.start) }
+        requires others { AreVectors self.now.p found.now.panel.width others.old }
+        ensures own { IfOk result (λ next. FindsPanel self.now.p self.now.columns.now
+            (panel_stage pivots.old found.now own.old rows.start)
+            (panel_stage pivots.new next own.new rows.end)) }
+        ensures others { PanelReducesEach self.now.p found.now.panel others.old others.new }
+    {
+        found.reduce_behind(others, 0, &self.p);
+        self.reduce_and_find(found, rows, pivots, own)
+    }
+
+    // The same while the other workers take the panel's pivots out of the other rows, piece by piece, as this one does when it has found
+    // those of its own.
+    pub(crate) fn find_beside<R: Threads + Sync, W: Reducing>(
         &self,
         rt: &R,
         found: &Found<W>,

@@ -13,10 +13,10 @@ use residue_words::Modulus;
 use std::alloc::{AllocError, Global};
 use std::marker::Model;
 
-// A panel's pivots, and what they leave of the unit rows at their columns, which is 0 before column `first`. Contracts see these
-// as `FoundPanel`.
+/// A panel's pivots, and what they leave of the unit rows at their columns, which is 0 before column `first`. Contracts see these
+/// as `FoundPanel`.
 #[derive(Drop)]
-pub(crate) struct Found<W: Residue> {
+pub struct Found<W: Residue> {
     pub(crate) panel: Panel<W>,
     pub(crate) units: Vec<Dense<W>>,
     pub(crate) first: usize,

@@ -6,10 +6,10 @@ use crate::residue::Residue;
 use sparse_rows::EntryRoom;
 use std::alloc::{AllocError, Global};
 
-// Memory for the entries of a left factor, which a worker writes to while others wait: else the one that makes this factor would
-// wait for the system, page by page, longer than it takes to make it. No contract tells of it.
+/// Memory for the entries of a left factor, which a worker writes to while others wait: else the one that makes this factor would
+/// wait for the system, page by page, longer than it takes to make it. No contract tells of it.
 #[derive(Drop)]
-pub(crate) struct LeftRoom {
+pub struct LeftRoom {
     room: EntryRoom,
     // How many entries the rows that are done may have.
     entries: usize,

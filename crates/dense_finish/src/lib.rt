@@ -20,9 +20,11 @@ mod row_addition;
 mod row_room;
 mod share;
 mod shared_pieces;
+mod split_work;
 mod taker;
 
 pub use elimination::finish;
 pub use factors::Factors;
 pub use right_factor::{RightFactor, finish_right};
 pub use row_addition::{axpy, axpy_narrow, axpy_plainly};
+pub use split_work::Finishing;

@@ -17,10 +17,10 @@ use std::marker::Model;
 /// How many rows are searched for pivots before these are taken out of all rows behind.
 pub(crate) const PANEL: usize = 64;
 
-// The columns of some pivots, and their rows, of so many entries: each row is 1 at its column, and 0 before it and at the
-// columns of the pivots before. Contracts see these as `PanelRows`.
+/// The columns of some pivots, and their rows, of so many entries: each row is 1 at its column, and 0 before it and at the
+/// columns of the pivots before. Contracts see these as `PanelRows`.
 #[derive(Drop)]
-pub(crate) struct Panel<W: Residue> {
+pub struct Panel<W: Residue> {
     width: usize,
     columns: Vec<u32>,
     rows: Vec<Dense<W>>,

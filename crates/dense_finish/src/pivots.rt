@@ -21,10 +21,10 @@ pub(crate) fn room_for(rows: usize, columns: usize) -> usize {
     rows.saturating_mul(columns).min(MOST_ROOM)
 }
 
-// Of each pivot its row and its column in the block, and its row of U, in the matrix's columns; and which columns of the
-// block are pivots'.
+/// Of each pivot its row and its column in the block, and its row of U, in the matrix's columns; and which columns of the
+/// block are pivots'.
 #[derive(Drop)]
-pub(crate) struct Pivots {
+pub struct Pivots {
     pub rows: Vec<u32>,
     pub columns: Vec<u32>,
     pub u: Rows,

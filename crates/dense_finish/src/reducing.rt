@@ -10,7 +10,7 @@ use crate::residue::Residue;
 use residue_words::Modulus;
 
 /// A residue of whose rows a panel's pivots are taken out: in 32 bits by products of blocks, in 64 bits row by row.
-pub(crate) trait Reducing: Residue {
+pub trait Reducing: Residue {
     /// Takes the pivots out of each row. The units are what the panel leaves of the unit rows at its columns.
     fn take_out(
         panel: &Panel<Self>,

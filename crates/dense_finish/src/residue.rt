@@ -9,7 +9,7 @@ use residue_words::Modulus;
 use std::marker::{Send, Sync};
 
 /// A residue as dense rows keep it: in 32 bits, for a modulus below 2^31, or in 64 bits.
-pub(crate) trait Residue: Copy + Send + Sync {
+pub trait Residue: Copy + Send + Sync {
     /// The residue that it stands for.
     ghost value: { Self → ℕ };
 

@@ -7,11 +7,11 @@ use crate::left_room::LeftRoom;
 use crate::pivots::Pivots;
 use crate::reducing::Reducing;
 use crate::residue::Residue;
+use crate::split_work::{Finishing, Helping};
 use residue_words::LANE_BOUND;
 use residue_words::plain::Pair;
 use sparse_rows::{List, Rows};
 use std::alloc::{AllocError, Global};
-use std::thread::Threads;
 
 /// The pivots and the right factor of a matrix, as `Factors` have them.
 #[derive(Debug, Drop)]
@@ -23,38 +23,41 @@ pub struct RightFactor {
 }
 
 /// The pivots and the right factor that `finish` gives, by so many workers, at least one, in less memory: the matrix is given up once
-/// its dense block is made, and no left factor is.
-pub fn finish_right<R: Threads + Sync>(
-    rt: &R,
+/// its dense block is made, and no left factor is. They are the same for every number of workers and for every crew; a caller alone
+/// takes the time of one worker, whatever their number. An error only where memory runs out.
+pub fn finish_right<C: Finishing>(
+    crew: &C,
     alloc: Global,
     rows: Rows,
     workers: u32,
 ) -> Result<RightFactor, AllocError>
+    requires able { C.can_work }
     requires some { 1 ≤ workers }
     ensures { IfOk result (IsRightFactored rows.modulus rows.matrix) }
 {
     if rows.modulus().p() < LANE_BOUND {
-        finish_right_in::<R, u32>(rt, alloc, rows, workers as usize)
+        finish_right_in::<C, u32>(crew, alloc, rows, workers as usize)
     } else {
-        finish_right_in::<R, u64>(rt, alloc, rows, workers as usize)
+        finish_right_in::<C, u64>(crew, alloc, rows, workers as usize)
     }
 }
 
 // The same with the residues kept so.
-fn finish_right_in<R: Threads + Sync, W: Reducing>(
-    rt: &R,
+fn finish_right_in<C: Helping<W>, W: Reducing>(
+    crew: &C,
     alloc: Global,
     rows: Rows,
     workers: usize,
 ) -> Result<RightFactor, AllocError>
+    requires able { C.can_work }
     requires modulus { W.serves rows.modulus }
     requires some { 1 ≤ workers }
     ensures { IfOk result (IsRightFactored rows.modulus rows.matrix) }
 {
-    let mut block = Block::<W>::of(rt, alloc, &rows, workers)?;
+    let mut block = Block::<W>::of(crew, alloc, &rows, workers)?;
     drop(rows);
     let mut left = LeftRoom::none(alloc);
-    let pivots = block.eliminate(rt, alloc, workers, &mut left)?;
+    let pivots = block.eliminate(crew, alloc, workers, &mut left)?;
     pivots.into_right_factor(alloc, &block)
 }
 

@@ -5,8 +5,9 @@ ghost use Rattle.sparse_rows.specs.declared.rows.TheConstants.{LARGEST_SIZE};
 ghost use Rattle.echelon_form.specs.Form.{IsEchelon, IsFormOf, widened_form};
 
 use crate::lead_order::{leads_of, named, order_of};
-use crate::settle::{merged, shares_of};
+use crate::settle::{Settling, merged};
 use crate::sparse_elimination::{eliminated, is_wide};
+use crew::Threaded;
 use sparse_rows::Rows;
 use std::alloc::{AllocError, Global};
 use std::marker::Model;
@@ -35,12 +36,7 @@ impl Model for Echelon {
 }
 
 impl Echelon {
-    /// The form of a matrix, by so many workers, at least one: the same for every number of them. For a modulus that is not prime
-    /// it is some rows of that width.
-    ///
-    /// The rows are eliminated one after another by the caller, in the time of the entries that this makes; then each
-    /// worker settles a share of the rows that are left, each with 8 bytes a column. Columns without an entry cost nothing
-    /// where there are many. Where a thread cannot be started the caller does its work.
+    /// The form that `made_by` gives, by the threads of this runtime. Where a thread cannot be started the caller does its work.
     pub fn of<R: Threads + Sync>(
         rt: &R,
         alloc: Global,
@@ -50,30 +46,50 @@ impl Echelon {
         requires some { 1 ≤ workers }
         ensures { IfOk result (λ e. IsFormOf rows.now.modulus rows.now.matrix e) }
     {
+        Echelon::made_by(&Threaded::of(rt), alloc, rows, workers)
+    }
+
+    /// The form of a matrix, by so many workers, at least one: the same for every number of them and for every crew. For a modulus that
+    /// is not prime it is some rows of that width. An error only where memory runs out.
+    ///
+    /// The rows are eliminated one after another by the caller, in the time of the entries that this makes; then each
+    /// worker settles a share of the rows that are left, each with 8 bytes a column. Columns without an entry cost nothing
+    /// where there are many. To a caller alone one worker is best, since more only take more memory.
+    pub fn made_by<C: Settling>(
+        crew: &C,
+        alloc: Global,
+        rows: &Rows,
+        workers: u32,
+    ) -> Result<Echelon, AllocError>
+        requires able { C.can_work }
+        requires some { 1 ≤ workers }
+        ensures { IfOk result (λ e. IsFormOf rows.now.modulus rows.now.matrix e) }
+    {
         // The call's contract tells that the entries are residues.
         let _ = rows.modulus();
         if is_wide(rows) {
             let columns = rows.occupied(alloc)?;
             let narrow = rows.narrowed(alloc, &columns)?;
-            Echelon::settled(rt, alloc, &narrow, workers)?.widened(alloc, rows.width(), &columns)
+            Echelon::settled(crew, alloc, &narrow, workers)?.widened(alloc, rows.width(), &columns)
         } else {
-            Echelon::settled(rt, alloc, rows, workers)
+            Echelon::settled(crew, alloc, rows, workers)
         }
     }
 
     // The form, with memory for each column.
-    fn settled<R: Threads + Sync>(
-        rt: &R,
+    fn settled<C: Settling>(
+        crew: &C,
         alloc: Global,
         rows: &Rows,
         workers: u32,
     ) -> Result<Echelon, AllocError>
+        requires able { C.can_work }
         requires some { 1 ≤ workers }
         ensures { IfOk result (λ e. IsFormOf rows.now.modulus rows.now.matrix e) }
     {
         let kept = eliminated(alloc, rows)?;
         let order = order_of(alloc, &kept)?;
-        let shares = shares_of(rt, alloc, &kept, &order, workers)?;
+        let shares = crew.shares_of(alloc, &kept, &order, workers)?;
         Ok(Echelon {
             rows: merged(alloc, &kept, &order, &shares)?,
             leads: leads_of(alloc, &order)?,

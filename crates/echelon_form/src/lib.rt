@@ -7,4 +7,5 @@ mod settle;
 mod sparse_elimination;
 
 pub use echelon::Echelon;
+pub use settle::Settling;
 pub use sparse_elimination::rank;

@@ -3,34 +3,64 @@ ghost use Rattle.std.specs.Prelude.{◌≡◌, ◌<◌, ◌≤◌, length, IfOk}
 ghost use Rattle.triangular_solve.specs.Leads.{IsSound};
 ghost use Rattle.echelon_form.specs.Settling.{AreSettled, AreShares, IsOrderOfLeads, IsShare};
 
+use crew::{Alone, Crew, Threaded, map_indices_alone};
 use sparse_rows::{Rows, Sparse};
 use std::alloc::{AllocError, Global};
 use std::thread;
 use std::thread::Threads;
 use triangular_solve::{Accumulator, Leads};
 
-// What each worker makes, or that memory ran out for it.
-type Share = Result<Vec<Sparse>, AllocError>;
+/// What each worker makes, or that memory ran out for it.
+pub type Share = Result<Vec<Sparse>, AllocError>;
 
-// The shares of so many workers.
-pub(crate) fn shares_of<R: Threads + Sync>(
-    rt: &R,
-    alloc: Global,
-    kept: &Leads,
-    order: &[(u32, u32)],
-    workers: u32,
-) -> Result<Vec<Share>, AllocError>
-    requires some { 1 ≤ workers }
-    requires order { IsOrderOfLeads kept.now order.now }
-    ensures count { IfOk result (λ shares. length shares.items ≡ workers) }
-    ensures shares { IfOk result (λ shares. AreShares kept.now order.now shares.items) }
-{
-    thread::map_indices(
-        rt,
-        alloc,
-        workers as usize,
-        &|worker| share_of(alloc, kept, order, worker, workers),
-    )
+/// A crew that settles the rows of an echelon form. This crate implements it for both crews that there are.
+pub trait Settling: Crew {
+    /// The shares of so many workers: each settles the rows at every so many places of this order.
+    fn shares_of(
+        &self,
+        alloc: Global,
+        kept: &Leads,
+        order: &[(u32, u32)],
+        workers: u32,
+    ) -> Result<Vec<Share>, AllocError>
+        requires able { Self.can_work }
+        requires some { 1 ≤ workers }
+        requires order { IsOrderOfLeads kept.now order.now }
+        ensures count { IfOk result (λ shares. length shares.items ≡ workers) }
+        ensures shares { IfOk result (λ shares. AreShares kept.now order.now shares.items) };
+}
+
+impl Settling for Alone {
+    fn shares_of(
+        &self,
+        alloc: Global,
+        kept: &Leads,
+        order: &[(u32, u32)],
+        workers: u32,
+    ) -> Result<Vec<Share>, AllocError> {
+        map_indices_alone(
+            alloc,
+            workers as usize,
+            &|worker| share_of(alloc, kept, order, worker, workers),
+        )
+    }
+}
+
+impl<'a, R: Threads + Sync> Settling for Threaded<'a, R> {
+    fn shares_of(
+        &self,
+        alloc: Global,
+        kept: &Leads,
+        order: &[(u32, u32)],
+        workers: u32,
+    ) -> Result<Vec<Share>, AllocError> {
+        thread::map_indices(
+            self.runtime,
+            alloc,
+            workers as usize,
+            &|worker| share_of(alloc, kept, order, worker, workers),
+        )
+    }
 }
 
 // The settled rows at the places worker, worker + workers, worker + 2 workers and so on.

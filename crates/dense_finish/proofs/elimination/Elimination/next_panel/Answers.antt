@@ -6,8 +6,12 @@ use Rattle.dense_finish.proofs.PanelStages.{finds_joined, front_ready}
 use Rattle.dense_finish.proofs.ReducedPieces.{both_clauses}
 use Rattle.dense_finish.proofs.elimination.Elimination.next_panel.Goals as goal
 
+pub find_alone-requires-clause-ready : goal.find_alone-requires-clause-ready
+find_alone-requires-clause-ready g c κs within =
+    rw c.split_at_mut-own.ensures.front (front_ready c.args.rows.end c.requires.rows.order c.requires.rows.inside c.requires.ready)
+
 pub find_beside-requires-clause-ready : goal.find_beside-requires-clause-ready
-find_beside-requires-clause-ready g c κs within =
+find_beside-requires-clause-ready g c =
     rw c.split_at_mut-own.ensures.front (front_ready c.args.rows.end c.requires.rows.order c.requires.rows.inside c.requires.ready)
 
 pub returns-then-self-eq1 : goal.returns-then-self-eq1
@@ -16,14 +20,14 @@ returns-then-self-eq1 g c =
     let names = c.args.self.now.columns.now in
     let found = c.args.found.now in
     let f = c.args.pivots.now in
-    let own = c.reduce_and_find.new.block in
-    let others = c.reduce_behind.new.rows in
+    let own = c.find_alone.new.own in
+    let others = c.find_alone.new.others in
     let front = c.split_at_mut-own.ensures.front in
     let back = c.split_at_mut-own.ensures.back in
-    IfOk-weaker c.reduce_and_find.result _ _ (λ next finds.
-    finds_joined others c.requires.rows.order c.requires.rows.inside c.requires.ready (omega arith) (c.reduce_and_find.auto.block ∙ ap length front) (c.reduce_behind.auto.rows ∙ ap length back)
-    (subst (λ rows. FindsPanel p names (panel_stage f found rows c.args.rows.start) (panel_stage c.reduce_and_find.new.pivots next own c.args.rows.end)) front finds)
-    (subst (λ rows. PanelReducesEach p found.panel rows others) back (λ t l. c.reduce_behind.ensures.behind t (omega arith) l))) c.reduce_and_find.ensures
+    IfOk-weaker c.find_alone.result _ _ (λ next finds.
+    finds_joined others c.requires.rows.order c.requires.rows.inside c.requires.ready (omega arith) (c.find_alone.auto.own ∙ ap length front) (c.find_alone.auto.others ∙ ap length back)
+    (subst (λ rows. FindsPanel p names (panel_stage f found rows c.args.rows.start) (panel_stage c.find_alone.new.pivots next own c.args.rows.end)) front finds)
+    (subst (λ rows. PanelReducesEach p found.panel rows others) back c.find_alone.ensures.others)) c.find_alone.ensures.own
 
 pub returns : goal.returns
 returns g c =

@@ -4,7 +4,7 @@ use Rattle.residue_words.specs.Matrix.{Matrix}
 use Rattle.sparse_rows.specs.Rows.{AreRising, narrowed}
 use Rattle.echelon_form.specs.Form.{widened_form}
 use Rattle.echelon_form.proofs.Widening.{narrow_form}
-use Rattle.echelon_form.proofs.echelon.Echelon.of.Goals as goal
+use Rattle.echelon_form.proofs.echelon.Echelon.made_by.Goals as goal
 
 pub returns-in_ok-settled : goal.returns-in_ok-settled
 returns-in_ok-settled g c =
