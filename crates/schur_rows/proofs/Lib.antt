@@ -1,6 +1,6 @@
 pub mod Above
 pub mod Cuts
-pub mod Dealing
+pub mod Dealt
 pub mod Distinct
 pub mod FactorRows
 pub mod Joining

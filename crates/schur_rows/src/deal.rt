@@ -8,14 +8,14 @@ use std::alloc::{AllocError, Global};
 // The rows from `from` up to `to` in so many parts, which begin at these cuts: so many parts a stage, which the workers take as they
 // become free.
 #[derive(Clone, Copy, Debug)]
-pub(crate) struct Deal<'r, 't, 'a> {
-    pub(crate) pass: Pass<'r, 't, 'a>,
-    pub(crate) from: u32,
-    pub(crate) to: u32,
-    pub(crate) cuts: &'r [u32],
-    pub(crate) count: usize,
-    pub(crate) stage: usize,
-    pub(crate) workers: usize,
+pub struct Deal<'r, 't, 'a> {
+    pub pass: Pass<'r, 't, 'a>,
+    pub from: u32,
+    pub to: u32,
+    pub cuts: &'r [u32],
+    pub count: usize,
+    pub stage: usize,
+    pub workers: usize,
 }
 
 impl<'r, 't, 'a> Deal<'r, 't, 'a> {

@@ -1,11 +1,13 @@
 //! What pivots leave of a sparse matrix: the Schur complement, with the coefficients of the pivot rows where they are wanted,
-//! by several workers; and the laws by which factors, row space and rank of the matrix follow from those of the complement.
+//! by several workers or by the caller alone; and the laws by which factors, row space and rank of the matrix follow from those
+//! of the complement.
 //!
 //! The pivots stand in triangular order, so a row is reduced by them without any division but by themselves. One such step is
 //! a round of the elimination of Bouillaguet, Delaplace and Voge, 'Parallel Sparse PLUQ Factorization modulo p', PASCO 2017.
 #![tactic(auto)]
 
 mod deal;
+mod dealing;
 mod numbered_part;
 mod pass;
 mod pivot_numbers;
@@ -18,6 +20,7 @@ mod workers;
 
 ghost use Rattle.schur_rows.specs.Laws.{ComplementIsOne, RoundJoins, RoundRank, RoundSpans};
 
+pub use dealing::Dealing;
 pub use round::{SchurRows, complement, schur};
 pub use row_reducer::RowReducer;
 pub use sampling::mean_left;

@@ -4,11 +4,11 @@ use crate::row_reducer::RowReducer;
 
 // What the workers of a pass share.
 #[derive(Clone, Copy, Debug)]
-pub(crate) struct Pass<'r, 't, 'a> {
-    pub(crate) reducer: &'r RowReducer<'t, 'a>,
-    pub(crate) pivot_rows: &'r PivotNumbers,
+pub struct Pass<'r, 't, 'a> {
+    pub reducer: &'r RowReducer<'t, 'a>,
+    pub pivot_rows: &'r PivotNumbers,
     // Whether the coefficients are kept.
-    pub(crate) kept: bool,
+    pub kept: bool,
     // About how many entries it leaves of all rows.
-    pub(crate) total: u64,
+    pub total: u64,
 }

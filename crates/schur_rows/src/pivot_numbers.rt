@@ -18,7 +18,7 @@ const NONE: u32 = u32::MAX;
 
 // The rows of a triangle's matrix that have an entry, with the numbers of the pairs that they belong to: 8 bytes a row.
 #[derive(Debug, Drop)]
-pub(crate) struct PivotNumbers {
+pub struct PivotNumbers {
     // Ascending.
     rows: Vec<u32>,
     numbers: Vec<u32>,

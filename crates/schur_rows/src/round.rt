@@ -4,8 +4,10 @@ ghost use Rattle.residue_words.specs.Residues.{IsPrime};
 ghost use Rattle.triangular_solve.specs.Reduced.{IsComplement};
 ghost use Rattle.schur_rows.specs.Round.{FitsComplement, FitsRound, IsRound};
 
+use crate::dealing::Dealing;
 use crate::row_reducer::RowReducer;
 use crate::workers::left_by;
+use crew::Threaded;
 use sparse_rows::Rows;
 use std::alloc::{AllocError, Global};
 use std::thread::Threads;
@@ -40,17 +42,18 @@ pub fn schur<R: Threads + Sync>(
     // The calls' contracts tell that the pivots are triangular, and the entries residues.
     let _ = (triangle.pairs().len(), triangle.rows().modulus());
     let reducer = RowReducer::by_walks(triangle);
-    let left = left_by(rt, alloc, &reducer, workers, true)?;
+    let left = left_by(&Threaded::of(rt), alloc, &reducer, workers, true)?;
     Ok(left)
 }
 
 /// The complement alone, by so many workers, at least one, in the way that the reducer has chosen.
-pub fn complement<R: Threads + Sync>(
-    rt: &R,
+pub fn complement<C: Dealing>(
+    crew: &C,
     alloc: Global,
     reducer: &RowReducer,
     workers: u32,
 ) -> Result<Rows, AllocError>
+    requires able { C.can_work }
     requires some { 1 ≤ workers }
     ensures fits { IfOk result (FitsComplement reducer.now) }
     ensures complement { IfOk result (λ rows. IsPrime reducer.now.rows.modulus →
@@ -59,7 +62,7 @@ pub fn complement<R: Threads + Sync>(
 {
     // The calls' contracts tell that the pivots are triangular, and the entries residues.
     let _ = (reducer.pairs().len(), reducer.rows().modulus());
-    let left = left_by(rt, alloc, reducer, workers, false)?;
+    let left = left_by(crew, alloc, reducer, workers, false)?;
     let SchurRows { rows, .. } = left;
     Ok(rows)
 }

@@ -63,6 +63,22 @@ pub(crate) fn part_of(
     Ok(part)
 }
 
+// The same by the caller alone, in room of its own.
+pub(crate) fn part_by_caller(
+    alloc: Global,
+    pass: Pass,
+    from: u32,
+    to: u32,
+) -> Result<SchurRows, AllocError>
+    requires order { from ≤ to }
+    requires inside { to ≤ pass.reducer.now.rows.matrix.height }
+    requires numbers { HasNumbers pass.reducer.now.pairs pass.pivot_rows.now }
+    ensures { IfOk result (IsPartTo pass.entry.reducer.now pass.entry.kept from to) }
+{
+    let mut work = pass.reducer.work(alloc)?;
+    part_of(alloc, pass, from, to, &mut work)
+}
+
 // Appends what is left of the rows from `from` up to `to`. It passes through `left`.
 fn append_rows(
     alloc: Global,

@@ -5,6 +5,7 @@ ghost use Rattle.sparse_rows.specs.Rows.{above};
 ghost use Rattle.schur_rows.specs.PivotNumbers.{HasNumbers};
 ghost use Rattle.schur_rows.specs.Streamed.{IsBasisLeft, IsBasisUpTo};
 
+use crate::dealing::Dealing;
 use crate::pass::Pass;
 use crate::pivot_numbers::PivotNumbers;
 use crate::round::SchurRows;
@@ -12,10 +13,9 @@ use crate::row_ranges::end_of;
 use crate::row_reducer::RowReducer;
 use crate::sampling::total_left;
 use crate::workers::left_between;
-use dense_finish::{RightFactor, finish_right};
+use dense_finish::{Finishing, RightFactor, finish_right};
 use sparse_rows::Rows;
 use std::alloc::{AllocError, Global};
-use std::thread::Threads;
 
 /// How many rows a chunk has, of those that have an entry and are no pivot's. Any two numbers will do: they decide about time and
 /// memory alone.
@@ -59,27 +59,29 @@ impl ChunkSize {
 /// and both are eliminated densely (`dense_finish::finish_right`): the right factor is the next basis. The memory is that of a chunk,
 /// of some 2^21 to 2^24 places in the columns that are left. Where these are few a chunk has four times the rows of the basis, so that
 /// eliminating the basis again takes an eighth of the time.
-pub fn left_basis<R: Threads + Sync>(
-    rt: &R,
+pub fn left_basis<C: Dealing + Finishing>(
+    crew: &C,
     alloc: Global,
     reducer: &RowReducer,
     workers: u32,
 ) -> Result<Rows, AllocError>
+    requires able { C.can_work }
     requires some { 1 ≤ workers }
     ensures { IfOk result (IsBasisLeft reducer.now) }
 {
-    left_basis_by(rt, alloc, reducer, workers, CHUNK)
+    left_basis_by(crew, alloc, reducer, workers, CHUNK)
 }
 
 /// The same, by at least one worker too, in chunks of this size. Larger ones take more memory, 4 bytes a place where the modulus is
 /// below 2^31 and else 8, and eliminate the basis again less often.
-pub fn left_basis_by<R: Threads + Sync>(
-    rt: &R,
+pub fn left_basis_by<C: Dealing + Finishing>(
+    crew: &C,
     alloc: Global,
     reducer: &RowReducer,
     workers: u32,
     size: ChunkSize,
 ) -> Result<Rows, AllocError>
+    requires able { C.can_work }
     requires some { 1 ≤ workers }
     ensures { IfOk result (IsBasisLeft reducer.now) }
 {
@@ -90,17 +92,18 @@ pub fn left_basis_by<R: Threads + Sync>(
         kept: false,
         total: total_left(alloc, reducer, &pivot_rows)?,
     };
-    basis_of(rt, alloc, pass, workers, size)
+    basis_of(crew, alloc, pass, workers, size)
 }
 
 // The same by a pass.
-fn basis_of<R: Threads + Sync>(
-    rt: &R,
+fn basis_of<C: Dealing + Finishing>(
+    crew: &C,
     alloc: Global,
     pass: Pass,
     workers: u32,
     size: ChunkSize,
 ) -> Result<Rows, AllocError>
+    requires able { C.can_work }
     requires some { 1 ≤ workers }
     requires numbers { HasNumbers pass.reducer.now.pairs pass.pivot_rows.now }
     ensures { IfOk result (IsBasisLeft pass.entry.reducer.now) }
@@ -115,7 +118,7 @@ fn basis_of<R: Threads + Sync>(
     while from < height {
         let count = size.rows_below(basis.height(), columns);
         let to = end_of(pass.reducer, pass.pivot_rows, from, count);
-        basis = basis_with(rt, alloc, pass, workers, basis, from, to)?;
+        basis = basis_with(crew, alloc, pass, workers, basis, from, to)?;
         from = to;
     }
     Ok(basis)
@@ -145,8 +148,8 @@ fn stacked(basis: Rows, below: Rows) -> Result<Rows, AllocError>
 }
 
 // A basis of what is left of the rows up to `to`, from one of what is left of those up to `from`.
-fn basis_with<R: Threads + Sync>(
-    rt: &R,
+fn basis_with<C: Dealing + Finishing>(
+    crew: &C,
     alloc: Global,
     pass: Pass,
     workers: u32,
@@ -154,6 +157,7 @@ fn basis_with<R: Threads + Sync>(
     from: u32,
     to: u32,
 ) -> Result<Rows, AllocError>
+    requires able { C.can_work }
     requires some { 1 ≤ workers }
     requires order { from ≤ to }
     requires inside { to ≤ pass.reducer.now.rows.matrix.height }
@@ -163,9 +167,9 @@ fn basis_with<R: Threads + Sync>(
 {
     // The call's contract tells how high a matrix is.
     let _ = pass.reducer.rows().height();
-    let left = left_between(rt, alloc, pass, workers, from, to)?;
+    let left = left_between(crew, alloc, pass, workers, from, to)?;
     let SchurRows { rows: below, .. } = left;
     let stacked = stacked(basis, below)?;
-    let RightFactor { u, .. } = finish_right(rt, alloc, stacked, workers)?;
+    let RightFactor { u, .. } = finish_right(crew, alloc, stacked, workers)?;
     Ok(u)
 }

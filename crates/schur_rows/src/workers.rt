@@ -7,11 +7,12 @@ ghost use Rattle.schur_rows.specs.PivotNumbers.{HasNumbers};
 ghost use Rattle.triangular_solve.specs.Reduced.{workspace_of};
 
 use crate::deal::{Deal, Stage, cuts_between};
+use crate::dealing::Dealing;
 use crate::numbered_part::{NumberedPart, part_among};
 use crate::pass::Pass;
 use crate::pivot_numbers::PivotNumbers;
 use crate::round::SchurRows;
-use crate::row_ranges::{no_rows, part_of, share_of_rows};
+use crate::row_ranges::{no_rows, part_by_caller, part_of, share_of_rows};
 use crate::row_reducer::RowReducer;
 use crate::sampling::total_left;
 use std::alloc::{AllocError, Global};
@@ -41,13 +42,14 @@ fn stages(entries: usize) -> usize
 }
 
 // What a triangle leaves of its matrix.
-pub(crate) fn left_by<R: Threads + Sync>(
-    rt: &R,
+pub(crate) fn left_by<C: Dealing>(
+    crew: &C,
     alloc: Global,
     reducer: &RowReducer,
     workers: u32,
     kept: bool,
 ) -> Result<SchurRows, AllocError>
+    requires able { C.can_work }
     requires some { 1 ≤ workers }
     ensures { IfOk result (IsPartTo reducer.now kept 0 reducer.now.rows.matrix.height) }
 {
@@ -64,18 +66,19 @@ pub(crate) fn left_by<R: Threads + Sync>(
         kept,
         total,
     };
-    left_between(rt, alloc, pass, workers, 0, height)
+    left_between(crew, alloc, pass, workers, 0, height)
 }
 
 // What a pass leaves of the rows from `from` up to `to`.
-pub(crate) fn left_between<R: Threads + Sync>(
-    rt: &R,
+pub(crate) fn left_between<C: Dealing>(
+    crew: &C,
     alloc: Global,
     pass: Pass,
     workers: u32,
     from: u32,
     to: u32,
 ) -> Result<SchurRows, AllocError>
+    requires able { C.can_work }
     requires some { 1 ≤ workers }
     requires order { from ≤ to }
     requires inside { to ≤ pass.reducer.now.rows.matrix.height }
@@ -85,8 +88,7 @@ pub(crate) fn left_between<R: Threads + Sync>(
     // The call's contract tells how high a matrix is.
     let _ = pass.reducer.rows().height();
     if workers == 1 {
-        let mut work = pass.reducer.work(alloc)?;
-        return part_of(alloc, pass, from, to, &mut work);
+        return part_by_caller(alloc, pass, from, to);
     }
     let rows = pass.reducer.rows();
     let stage = PARTS * workers as usize;
@@ -101,11 +103,11 @@ pub(crate) fn left_between<R: Threads + Sync>(
         stage,
         workers: workers as usize,
     };
-    left_by_stages(rt, alloc, deal)
+    crew.left_of(alloc, deal)
 }
 
-// What is left of all rows of a deal.
-fn left_by_stages<R: Threads + Sync>(
+// What is left of all rows of a deal, by threads.
+pub(crate) fn left_by_stages<R: Threads + Sync>(
     rt: &R,
     alloc: Global,
     deal: Deal,

@@ -1,4 +1,4 @@
-use Rattle.schur_rows.proofs.Dealing.{joined_part}
+use Rattle.schur_rows.proofs.Dealt.{joined_part}
 use Rattle.schur_rows.proofs.workers.join_missing.Goals as goal
 
 pub returns : goal.returns

@@ -1,4 +1,4 @@
-use Rattle.schur_rows.proofs.Dealing.{joined_part, part_of_number}
+use Rattle.schur_rows.proofs.Dealt.{joined_part, part_of_number}
 use Rattle.schur_rows.proofs.workers.join_number.Goals as goal
 
 pub returns-in-Some : goal.returns-in-Some

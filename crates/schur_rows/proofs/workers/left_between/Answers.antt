@@ -3,8 +3,8 @@ use Rattle.sparse_rows.specs.Rows.{ResidueMatrix}
 use Rattle.schur_rows.specs.Parts.{ArePartCuts}
 use Rattle.schur_rows.proofs.workers.left_between.Goals as goal
 
-pub left_by_stages-requires-clause-deal : goal.left_by_stages-requires-clause-deal
-left_by_stages-requires-clause-deal g c κs within = record {
+pub left_of-requires-clause-deal : goal.left_of-requires-clause-deal
+left_of-requires-clause-deal g c = record {
   order = c.requires.order;
   end = omega (arith, c.requires.inside, c.height.ensures.bound, c.height.ensures.value, ap (λ (r : ResidueMatrix). r.matrix.height) c.rows.ensures);
   several = omega (arith, c.requires.some, c.if-workers-eq1.false);

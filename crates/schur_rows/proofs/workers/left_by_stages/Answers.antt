@@ -1,6 +1,6 @@
 use Rattle.std.proofs.Common.{◌≡◌, arith, subst, sym}
 use Rattle.schur_rows.specs.Parts.{cut_at}
-use Rattle.schur_rows.proofs.Dealing.{cut_all, cut_none}
+use Rattle.schur_rows.proofs.Dealt.{cut_all, cut_none}
 use Rattle.schur_rows.proofs.workers.left_by_stages.Goals as goal
 
 pub loop-begun-init : goal.loop-begun-init
