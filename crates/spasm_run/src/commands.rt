@@ -20,7 +20,7 @@ use optimistic_search::Gate;
 use residue_words::Modulus;
 use run_trace::{Trace, replay, trace_of};
 use sparse_rows::Rows;
-use spasm_lib::{Inverse, Solution, Team};
+use spasm_lib::{Inverse, Solution, Team, Threaded};
 use std::alloc::Global;
 use std::thread::Threads;
 
@@ -33,12 +33,17 @@ pub fn at_most_one_answer()
 {}
 
 // By whom a command is worked out, and how.
-fn team_of<'a, R, G>(rt: &'a R, alloc: Global, command: Command, gate: &'a G) -> Team<'a, R, G>
+fn team_of<'a, R: Threads, G>(
+    rt: &'a R,
+    alloc: Global,
+    command: Command,
+    gate: &'a G,
+) -> Team<'a, Threaded<'a, R>, G>
     ensures workers { result.workers ≡ command.workers }
     ensures rounds { result.rounds ≡ command.rounds }
 {
     Team {
-        runtime: rt,
+        crew: Threaded::of(rt),
         alloc,
         workers: command.workers,
         rounds: command.rounds,
