@@ -1,11 +1,11 @@
-// Who eliminates by rounds.
+// Who eliminates by rounds: by what pivots leave, by dense eliminations, and by settled rows.
 use crew::{Alone, Threaded};
 use dense_finish::Finishing;
 use echelon_form::Settling;
 use schur_rows::Dealing;
 use std::thread::Threads;
 
-/// Who works out an elimination by rounds: what pivots leave, dense eliminations and settled rows.
+/// A crew that works out ranks and forms by rounds. This crate implements it for both crews that there are.
 pub trait Eliminating: Settling + Dealing + Finishing + Copy {}
 
 impl Eliminating for Alone {}
