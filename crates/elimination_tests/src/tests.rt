@@ -1,5 +1,6 @@
 // The calls of each crate against values from outside.
 mod added_rows;
+mod alone;
 mod certificates_read;
 mod checks;
 mod complements;

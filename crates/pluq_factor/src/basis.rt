@@ -4,85 +4,90 @@ ghost use Rattle.sparse_rows.specs.declared.rows.TheConstants.{LARGEST_SIZE};
 ghost use Rattle.sparse_rows.specs.Rows.{above};
 ghost use Rattle.pluq_factor.specs.Basis.{IsBasis};
 
+use crate::eliminating::Eliminating;
 use crate::extent::Extent;
 use crate::plan::Plan;
 use crate::round_pivots::{Left, Rest, take_left};
 use dense_finish::{RightFactor, finish_right};
 use echelon_form::Echelon;
-use optimistic_search::Gate;
 use sparse_rows::{LARGEST_SIZE, Rows};
 use std::alloc::{AllocError, Global};
-use std::thread::Threads;
 
 /// Rows of a matrix's row space, by a plan of at least one worker: for a prime modulus they are independent and span it. They are the
 /// pivots' rows of each round, and those of the finish; no coefficients are kept. For a modulus that is not prime they are some
 /// rows of that width.
 ///
-/// The rounds end as those of `rank` do, and what is left is eliminated densely where it is small and dense, and else by the
-/// rows of its echelon form. With no round there is the dense elimination alone.
-pub fn row_basis<R: Threads + Sync, G: Gate>(
-    rt: &R,
+/// A round takes the leftmost pivots and those that a search finds within three steps an entry; a matrix four times as wide or as high
+/// as it has entries is searched to the end, in memory by the entries. The search is one worker's, by levels, whoever works. The rounds
+/// end with the plan, or when a fifth of what is left isn't 0. That is eliminated densely where it is small and dense, and else by the
+/// rows of its echelon form; or it is taken chunk by chunk into a dense basis if this takes less memory. With no round there is the
+/// dense elimination alone, and so for a matrix of some size that is a tenth full from the start.
+pub fn row_basis<C: Eliminating>(
+    crew: &C,
     alloc: Global,
     rows: &Rows,
     plan: Plan,
-    gate: &G,
 ) -> Result<Rows, AllocError>
+    requires able { C.can_work }
     requires some { 1 ≤ plan.workers }
     ensures { IfOk result (IsBasis rows.now.modulus rows.now.matrix) }
 {
     let copy = rows.copy(alloc)?;
     if plan.rounds == 0 || Extent::of(alloc, rows)?.is_full() {
-        let basis = dense_basis(rt, alloc, copy, plan.workers)?;
+        let basis = dense_basis(crew, alloc, copy, plan.workers)?;
         return Ok(basis);
     }
-    let basis = basis_from(rt, alloc, copy, plan.workers, plan.rounds, gate)?;
+    let basis = basis_from(crew, alloc, copy, plan.workers, plan.rounds)?;
     Ok(basis)
 }
 
 // The rows of a finish.
-fn finished<R: Threads + Sync>(
-    rt: &R,
+fn finished<C: Eliminating>(
+    crew: &C,
     alloc: Global,
     rows: Rows,
     workers: u32,
 ) -> Result<Rows, AllocError>
+    requires able { C.can_work }
     requires some { 1 ≤ workers }
     ensures { IfOk result (IsBasis rows.modulus rows.matrix) }
 {
     if Extent::of(alloc, &rows)?.is_block() {
-        dense_basis(rt, alloc, rows, workers)
+        dense_basis(crew, alloc, rows, workers)
     } else {
-        form_basis(rt, alloc, &rows, workers)
+        form_basis(crew, alloc, &rows, workers)
     }
 }
 
 // The rows of a dense elimination.
-fn dense_basis<R: Threads + Sync>(
-    rt: &R,
+fn dense_basis<C: Eliminating>(
+    crew: &C,
     alloc: Global,
     rows: Rows,
     workers: u32,
 ) -> Result<Rows, AllocError>
+    requires able { C.can_work }
     requires some { 1 ≤ workers }
     ensures { IfOk result (IsBasis rows.modulus rows.matrix) }
 {
     // The call's contract tells that the entries are residues.
     let _ = rows.height();
-    let RightFactor { u, .. } = finish_right(rt, alloc, rows, workers)?;
+    let RightFactor { u, .. } = finish_right(crew, alloc, rows, workers)?;
     Ok(u)
 }
 
 // The rows of the echelon form.
-fn form_basis<R: Threads + Sync>(
-    rt: &R,
+fn form_basis<C: Eliminating>(
+    crew: &C,
     alloc: Global,
     rows: &Rows,
     workers: u32,
 ) -> Result<Rows, AllocError>
+    requires able { C.can_work }
     requires some { 1 ≤ workers }
     ensures { IfOk result (IsBasis rows.now.modulus rows.now.matrix) }
 {
-    let form = Echelon::of(rt, alloc, rows, workers)?;
+    let form = Echelon::made_by(crew, alloc, rows, workers)?;
     let basis = form.into_rows();
     Ok(basis)
 }
@@ -99,24 +104,24 @@ fn rounds_behind(alloc: Global, rest: &Rows, rounds: u32) -> Result<u32, AllocEr
 }
 
 // The rows by so many rounds and the finish. The matrix is given up before the next round begins.
-fn basis_from<R: Threads + Sync, G: Gate>(
-    rt: &R,
+fn basis_from<C: Eliminating>(
+    crew: &C,
     alloc: Global,
     rows: Rows,
     workers: u32,
     rounds: u32,
-    gate: &G,
 ) -> Result<Rows, AllocError>
+    requires able { C.can_work }
     requires some { 1 ≤ workers }
     ensures { IfOk result (IsBasis rows.modulus rows.matrix) }
 {
     // The call's contract tells how high a matrix is.
     let _ = rows.height();
     if rounds == 0 {
-        return finished(rt, alloc, rows, workers);
+        return finished(crew, alloc, rows, workers);
     }
-    let Some(left) = take_left(rt, alloc, &rows, workers, gate)? else {
-        return finished(rt, alloc, rows, workers);
+    let Some(left) = take_left(crew, alloc, &rows, workers)? else {
+        return finished(crew, alloc, rows, workers);
     };
     drop(rows);
     let Left { top, rest } = left;
@@ -131,7 +136,7 @@ fn basis_from<R: Threads + Sync, G: Gate>(
         return Ok(whole);
     }
     let more = rounds_behind(alloc, &rest, rounds - 1)?;
-    let below = basis_from(rt, alloc, rest, workers, more, gate)?;
+    let below = basis_from(crew, alloc, rest, workers, more)?;
     // And here too.
     let _ = below.height();
     let basis = with_below(top, &below)?;

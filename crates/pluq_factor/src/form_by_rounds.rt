@@ -4,13 +4,12 @@ ghost use Rattle.echelon_form.specs.Form.{IsFormOf};
 ghost use Rattle.pluq_factor.specs.Turned.{AreLastFirst, IsTurned};
 
 use crate::basis::row_basis;
+use crate::eliminating::Eliminating;
 use crate::extent::Extent;
 use crate::plan::Plan;
-use echelon_form::Echelon;
-use optimistic_search::Gate;
+use echelon_form::{Echelon, Settling};
 use sparse_rows::Rows;
 use std::alloc::{AllocError, Global};
-use std::thread::Threads;
 
 /// The reduced row echelon form of a matrix, the same for every plan, of at least one worker. For a modulus that is not prime it is
 /// some rows of that width.
@@ -18,24 +17,24 @@ use std::thread::Threads;
 /// It is the form of the basis of the row space that the rounds and their finish give (`row_basis`), so the rows that depend on
 /// others are eliminated by structural pivots and densely. With no round it is that of a dense elimination where the matrix is
 /// small and dense, and else its rows are eliminated one after another, in time and memory of the entries that this makes.
-pub fn form<R: Threads + Sync, G: Gate>(
-    rt: &R,
+pub fn form<C: Eliminating>(
+    crew: &C,
     alloc: Global,
     rows: &Rows,
     plan: Plan,
-    gate: &G,
 ) -> Result<Echelon, AllocError>
+    requires able { C.can_work }
     requires some { 1 ≤ plan.workers }
     ensures { IfOk result (IsFormOf rows.now.modulus rows.now.matrix) }
 {
     if plan.rounds == 0 && !Extent::of(alloc, rows)?.is_block() {
-        let form = Echelon::of(rt, alloc, rows, plan.workers)?;
+        let form = Echelon::made_by(crew, alloc, rows, plan.workers)?;
         return Ok(form);
     }
-    let basis = row_basis(rt, alloc, rows, plan, gate)?;
+    let basis = row_basis(crew, alloc, rows, plan)?;
     let turned = last_first(alloc, &basis)?;
     drop(basis);
-    let form = Echelon::of(rt, alloc, &turned, plan.workers)?;
+    let form = Echelon::made_by(crew, alloc, &turned, plan.workers)?;
     Ok(form)
 }
 
@@ -44,17 +43,18 @@ pub fn form<R: Threads + Sync, G: Gate>(
 ///
 /// The rows are taken from the last to the first: a pivot's row is met by rows that are reduced already, where from the first to
 /// the last each would fill up and be reduced again.
-pub fn form_of_basis<R: Threads + Sync>(
-    rt: &R,
+pub fn form_of_basis<C: Settling>(
+    crew: &C,
     alloc: Global,
     basis: &Rows,
     workers: u32,
 ) -> Result<Echelon, AllocError>
+    requires able { C.can_work }
     requires some { 1 ≤ workers }
     ensures { IfOk result (IsFormOf basis.now.modulus basis.now.matrix) }
 {
     let turned = last_first(alloc, basis)?;
-    let form = Echelon::of(rt, alloc, &turned, workers)?;
+    let form = Echelon::made_by(crew, alloc, &turned, workers)?;
     Ok(form)
 }
 

@@ -7,6 +7,7 @@
 
 mod basis;
 mod by_rounds;
+mod eliminating;
 mod extent;
 mod form_by_rounds;
 mod plan;
@@ -19,6 +20,7 @@ ghost use Rattle.pluq_factor.specs.Laws.{FactorsKeepRows, SelectedIsOne, StagedG
 pub use basis::row_basis;
 pub use by_rounds::factor;
 pub use dense_finish::Factors;
+pub use eliminating::Eliminating;
 pub use form_by_rounds::{form, form_of_basis};
 pub use plan::Plan;
 pub use rank_by_rounds::rank;

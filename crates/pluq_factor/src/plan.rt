@@ -4,7 +4,7 @@ ghost use Rattle.pivot_table.specs.Order.{Triangular};
 ghost use Rattle.pivot_table.specs.Selected.{Selected};
 
 use fl_pivots::leftmost;
-use optimistic_search::{Gate, search, search_counted, search_within};
+use optimistic_search::{Gate, search, search_alone, search_within};
 use pivot_table::{Book, Pair};
 use sparse_rows::Rows;
 use std::alloc::{AllocError, Global};
@@ -37,28 +37,6 @@ pub(crate) fn select_pivots<'a, R: Threads + Sync, G: Gate>(
     Ok(triangle)
 }
 
-// Pivots of one round, in triangular order, where nobody is told which: by one worker too they are found from the last row to the first.
-pub(crate) fn any_pivots<'a, R: Threads + Sync, G: Gate>(
-    rt: &R,
-    alloc: Global,
-    rows: &'a Rows,
-    workers: u32,
-    gate: &G,
-) -> Result<Triangle<'a>, AllocError>
-    requires some { 1 ≤ workers }
-    ensures rows { IfOk result (λ t. t.rows ≡ rows.now) }
-    ensures triangular { IfOk result (λ t. Triangular rows.now.matrix t.pairs) }
-{
-    if has_few_entries(rows) {
-        return select_pivots(rt, alloc, rows, workers, gate);
-    }
-    let (book, _steps) = search_counted(rt, alloc, leftmost(alloc, rows)?, workers, gate)?;
-    let triangle = Triangle::of(alloc, &book)?;
-    // The call's contract tells that the pivots are triangular.
-    let _ = triangle.pairs().len();
-    Ok(triangle)
-}
-
 // A search takes so many steps an entry at most: what takes more are long chains of pivots, which fill what they leave.
 const STEPS_AN_ENTRY: u64 = 3;
 
@@ -69,7 +47,8 @@ pub(crate) struct FewPivots<'a> {
     pub(crate) searches: bool,
 }
 
-// The leftmost pivots, and those that a search of one worker finds in few steps, if there is to be one.
+// The leftmost pivots, and those that a search of one worker finds, if there is to be one: in few steps, or in memory by the entries
+// where these are few.
 pub(crate) fn few_pivots<'a>(
     alloc: Global,
     rows: &'a Rows,
@@ -83,6 +62,11 @@ pub(crate) fn few_pivots<'a>(
         return found(alloc, &first, false);
     }
     let few = first.pairs().len();
+    if has_few_entries(rows) {
+        // The other search takes memory by all columns.
+        let book = search_alone(alloc, first)?;
+        return found(alloc, &book, few < book.pairs().len());
+    }
     let most = rows.entries().saturating_mul(STEPS_AN_ENTRY);
     match search_within(alloc, first, most)? {
         Some(book) => found(alloc, &book, few < book.pairs().len()),

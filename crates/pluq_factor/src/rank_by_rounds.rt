@@ -5,13 +5,13 @@ ghost use Rattle.row_space.specs.Echelon.{HasRank};
 ghost use Rattle.sparse_rows.specs.Rows.{ResidueMatrix};
 ghost use Rattle.pluq_factor.specs.Counted.{LeavesRank};
 
+use crate::eliminating::Eliminating;
 use crate::extent::Extent;
 use crate::plan::Plan;
 use crate::round_pivots::{Counted, count_round};
 use dense_finish::finish_right;
 use sparse_rows::Rows;
 use std::alloc::{AllocError, Global};
-use std::thread::Threads;
 use weight_order::{RowOrder, by_weight};
 
 // So many rounds at most, whatever they leave.
@@ -30,12 +30,13 @@ const MOST_ROUNDS: u32 = 64;
 ///
 /// Beside the matrix there are at most three copies of what a round works on and what it leaves. The pivots are those of Bouillaguet,
 /// Delaplace and Voge, PASCO 2017; the order of columns by weight is a form of Markowitz's rule.
-pub fn rank<R: Threads + Sync>(
-    rt: &R,
+pub fn rank<C: Eliminating>(
+    crew: &C,
     alloc: Global,
     rows: &Rows,
     plan: Plan,
 ) -> Result<u32, AllocError>
+    requires able { C.can_work }
     requires some { 1 ≤ plan.workers }
     ensures rank { IfOk result (λ r. IsPrime rows.now.modulus → HasRank rows.now.modulus rows.now.matrix r) }
     ensures at_most_height { IfOk result (λ r. r ≤ rows.now.matrix.height) }
@@ -43,45 +44,47 @@ pub fn rank<R: Threads + Sync>(
 {
     if plan.rounds == 0 {
         let copy = rows.copy(alloc)?;
-        let rank = dense_rank(rt, alloc, copy, plan.workers)?;
+        let rank = dense_rank(crew, alloc, copy, plan.workers)?;
         return Ok(rank);
     }
     let ordered = by_weight(alloc, rows, RowOrder::LastFirst)?;
-    let rank = rank_in_order(rt, alloc, ordered, plan.workers)?;
+    let rank = rank_in_order(crew, alloc, ordered, plan.workers)?;
     Ok(rank)
 }
 
 // The rank of a matrix that stands in order of weight.
-fn rank_in_order<R: Threads + Sync>(
-    rt: &R,
+fn rank_in_order<C: Eliminating>(
+    crew: &C,
     alloc: Global,
     rows: Rows,
     workers: u32,
 ) -> Result<u32, AllocError>
+    requires able { C.can_work }
     requires some { 1 ≤ workers }
     ensures rank { IfOk result (λ r. IsPrime rows.modulus → HasRank rows.modulus rows.matrix r) }
     ensures at_most_height { IfOk result (λ r. r ≤ rows.matrix.height) }
     ensures at_most_width { IfOk result (λ r. r ≤ rows.matrix.width) }
 {
     if Extent::of(alloc, &rows)?.is_full() {
-        return dense_rank(rt, alloc, rows, workers);
+        return dense_rank(crew, alloc, rows, workers);
     }
     // The call's contract tells that the entries are residues.
     let most = rows.height().min(rows.width());
-    let Counted { count, rest, .. } = count_rounds(rt, alloc, rows, workers)?;
-    let below = rank_of_rest(rt, alloc, rest, workers)?;
+    let Counted { count, rest, .. } = count_rounds(crew, alloc, rows, workers)?;
+    let below = rank_of_rest(crew, alloc, rest, workers)?;
     // Less only if the modulus isn't prime.
     let rank = count + below.min(most - count);
     Ok(rank)
 }
 
 // The pivots of all rounds, and what they leave.
-fn count_rounds<R: Threads + Sync>(
-    rt: &R,
+fn count_rounds<C: Eliminating>(
+    crew: &C,
     alloc: Global,
     rows: Rows,
     workers: u32,
 ) -> Result<Counted, AllocError>
+    requires able { C.can_work }
     requires some { 1 ≤ workers }
     ensures { IfOk result (LeavesRank rows) }
 {
@@ -95,7 +98,7 @@ fn count_rounds<R: Threads + Sync>(
         if Extent::of(alloc, &left.rest)?.is_dense() {
             break;
         }
-        let Some(round) = count_round(rt, alloc, &left, workers)? else {
+        let Some(round) = count_round(crew, alloc, &left, workers)? else {
             break;
         };
         left = counted_with(alloc, left, round, most)?;
@@ -126,31 +129,33 @@ fn counted_with(
 }
 
 // The rank without a round, of a matrix that nobody wants any more.
-fn rank_of_rest<R: Threads + Sync>(
-    rt: &R,
+fn rank_of_rest<C: Eliminating>(
+    crew: &C,
     alloc: Global,
     rows: Rows,
     workers: u32,
 ) -> Result<u32, AllocError>
+    requires able { C.can_work }
     requires some { 1 ≤ workers }
     ensures rank { IfOk result (λ r. IsPrime rows.modulus → HasRank rows.modulus rows.matrix r) }
     ensures at_most_height { IfOk result (λ r. r ≤ rows.matrix.height) }
     ensures at_most_width { IfOk result (λ r. r ≤ rows.matrix.width) }
 {
     if Extent::of(alloc, &rows)?.is_block() {
-        dense_rank(rt, alloc, rows, workers)
+        dense_rank(crew, alloc, rows, workers)
     } else {
         echelon_form::rank(alloc, &rows)
     }
 }
 
 // The rank as the number of pivots of a dense elimination.
-fn dense_rank<R: Threads + Sync>(
-    rt: &R,
+fn dense_rank<C: Eliminating>(
+    crew: &C,
     alloc: Global,
     rows: Rows,
     workers: u32,
 ) -> Result<u32, AllocError>
+    requires able { C.can_work }
     requires some { 1 ≤ workers }
     ensures rank { IfOk result (λ r. IsPrime rows.modulus → HasRank rows.modulus rows.matrix r) }
     ensures at_most_height { IfOk result (λ r. r ≤ rows.matrix.height) }
@@ -160,7 +165,7 @@ fn dense_rank<R: Threads + Sync>(
     row_space::factors_give_rank();
     // The calls' contracts tell that the entries are residues, and how many rows and columns there are at most.
     let _ = (rows.height(), rows.width());
-    let right = finish_right(rt, alloc, rows, workers)?;
+    let right = finish_right(crew, alloc, rows, workers)?;
     let rank = right.pivots.items().len() as u32;
     Ok(rank)
 }

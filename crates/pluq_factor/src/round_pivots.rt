@@ -6,8 +6,9 @@ ghost use Rattle.pluq_factor.specs.Counted.{LeavesRank};
 ghost use Rattle.pluq_factor.specs.RoundPivots.{IsLeftBy, IsRestOf, IsRoundTaken};
 ghost use Rattle.schur_rows.specs.Round.{pivot_rows};
 
+use crate::eliminating::Eliminating;
 use crate::extent::Extent;
-use crate::plan::{FewPivots, any_pivots, few_pivots, rows_of, select_pivots};
+use crate::plan::{FewPivots, few_pivots, rows_of, select_pivots};
 use optimistic_search::Gate;
 use pivot_table::Pair;
 use schur_rows::{RowReducer, SchurRows, complement, left_basis, schur};
@@ -107,70 +108,73 @@ fn rows_at_pivots(alloc: Global, triangle: &Triangle) -> Result<Rows, AllocError
 }
 
 // One round without the coefficients; None where there is no pivot.
-pub(crate) fn take_left<R: Threads + Sync, G: Gate>(
-    rt: &R,
+pub(crate) fn take_left<C: Eliminating>(
+    crew: &C,
     alloc: Global,
     rows: &Rows,
     workers: u32,
-    gate: &G,
 ) -> Result<Option<Left>, AllocError>
+    requires able { C.can_work }
     requires some { 1 ≤ workers }
     ensures { IfOk result (λ r. IfSome r (IsLeftBy rows.now)) }
 {
-    let triangle = any_pivots(rt, alloc, rows, workers, gate)?;
+    let FewPivots { triangle, .. } = few_pivots(alloc, rows, true)?;
     if triangle.pairs().is_empty() {
         return Ok(None);
     }
-    let left = left_by(rt, alloc, &triangle, workers)?;
+    let left = left_by(crew, alloc, &triangle, workers)?;
     Ok(Some(left))
 }
 
 // The rows of these pivots, and what they leave.
-fn left_by<R: Threads + Sync>(
-    rt: &R,
+fn left_by<C: Eliminating>(
+    crew: &C,
     alloc: Global,
     triangle: &Triangle,
     workers: u32,
 ) -> Result<Left, AllocError>
+    requires able { C.can_work }
     requires some { 1 ≤ workers }
     ensures { IfOk result (IsLeftBy triangle.now.rows) }
 {
     // The calls' contracts tell that the entries are residues, and that the pivots are triangular.
     let _ = (triangle.rows().height(), triangle.pairs().len());
-    let rest = rest_of(rt, alloc, triangle, workers)?;
+    let rest = rest_of(crew, alloc, triangle, workers)?;
     let top = rows_at_pivots(alloc, triangle)?;
     Ok(Left { top, rest })
 }
 
 // What the pivots leave. Where few columns, many rows and many entries are left, it isn't stored, but a basis of its row space is
 // made.
-fn rest_of<R: Threads + Sync>(
-    rt: &R,
+fn rest_of<C: Eliminating>(
+    crew: &C,
     alloc: Global,
     triangle: &Triangle,
     workers: u32,
 ) -> Result<Rest, AllocError>
+    requires able { C.can_work }
     requires some { 1 ≤ workers }
     ensures { IfOk result (IsRestOf triangle.now) }
 {
     let reducer = RowReducer::of(alloc, triangle, workers)?;
     if Extent::is_streamed(alloc, &reducer)? {
-        return basis_rest(rt, alloc, &reducer, workers);
+        return basis_rest(crew, alloc, &reducer, workers);
     }
-    whole_rest(rt, alloc, &reducer, workers)
+    whole_rest(crew, alloc, &reducer, workers)
 }
 
 // A basis of what pivots leave.
-fn basis_rest<R: Threads + Sync>(
-    rt: &R,
+fn basis_rest<C: Eliminating>(
+    crew: &C,
     alloc: Global,
     reducer: &RowReducer,
     workers: u32,
 ) -> Result<Rest, AllocError>
+    requires able { C.can_work }
     requires some { 1 ≤ workers }
     ensures { IfOk result (IsRestOf reducer.now) }
 {
-    let rows = left_basis(rt, alloc, reducer, workers)?;
+    let rows = left_basis(crew, alloc, reducer, workers)?;
     Ok(Rest {
         rows,
         is_basis: true,
@@ -178,16 +182,17 @@ fn basis_rest<R: Threads + Sync>(
 }
 
 // All that pivots leave.
-fn whole_rest<R: Threads + Sync>(
-    rt: &R,
+fn whole_rest<C: Eliminating>(
+    crew: &C,
     alloc: Global,
     reducer: &RowReducer,
     workers: u32,
 ) -> Result<Rest, AllocError>
+    requires able { C.can_work }
     requires some { 1 ≤ workers }
     ensures { IfOk result (IsRestOf reducer.now) }
 {
-    let rows = complement(rt, alloc, reducer, workers)?;
+    let rows = complement(crew, alloc, reducer, workers)?;
     Ok(Rest {
         rows,
         is_basis: false,
@@ -196,12 +201,13 @@ fn whole_rest<R: Threads + Sync>(
 
 // One round more, whose pivots are counted alone; None if there is no pivot. If what is left is to be taken into a dense basis it isn't
 // stored, but counted too.
-pub(crate) fn count_round<R: Threads + Sync>(
-    rt: &R,
+pub(crate) fn count_round<C: Eliminating>(
+    crew: &C,
     alloc: Global,
     before: &Counted,
     workers: u32,
 ) -> Result<Option<Counted>, AllocError>
+    requires able { C.can_work }
     requires some { 1 ≤ workers }
     ensures { IfOk result (λ r. IfSome r (LeavesRank before.now.rest)) }
 {
@@ -210,36 +216,38 @@ pub(crate) fn count_round<R: Threads + Sync>(
     if triangle.pairs().is_empty() {
         return Ok(None);
     }
-    let counted = count_by(rt, alloc, &triangle, workers, searches)?;
+    let counted = count_by(crew, alloc, &triangle, workers, searches)?;
     Ok(Some(counted))
 }
 
 // The number of these pivots, and what they leave or its rank.
-fn count_by<R: Threads + Sync>(
-    rt: &R,
+fn count_by<C: Eliminating>(
+    crew: &C,
     alloc: Global,
     triangle: &Triangle,
     workers: u32,
     searches: bool,
 ) -> Result<Counted, AllocError>
+    requires able { C.can_work }
     requires some { 1 ≤ workers }
     ensures { IfOk result (LeavesRank triangle.now.rows) }
 {
     let reducer = RowReducer::of(alloc, triangle, workers)?;
     if Extent::is_streamed(alloc, &reducer)? {
-        return count_left(rt, alloc, &reducer, workers);
+        return count_left(crew, alloc, &reducer, workers);
     }
-    count_stored(rt, alloc, &reducer, workers, searches)
+    count_stored(crew, alloc, &reducer, workers, searches)
 }
 
 // The number of the pivots, and what they leave.
-fn count_stored<R: Threads + Sync>(
-    rt: &R,
+fn count_stored<C: Eliminating>(
+    crew: &C,
     alloc: Global,
     reducer: &RowReducer,
     workers: u32,
     searches: bool,
 ) -> Result<Counted, AllocError>
+    requires able { C.can_work }
     requires some { 1 ≤ workers }
     ensures { IfOk result (LeavesRank reducer.now.rows) }
 {
@@ -248,7 +256,7 @@ fn count_stored<R: Threads + Sync>(
     // The call's contract tells that the entries are residues.
     let _ = reducer.rows().height();
     let count = reducer.pairs().len() as u32;
-    let rest = complement(rt, alloc, reducer, workers)?;
+    let rest = complement(crew, alloc, reducer, workers)?;
     Ok(Counted {
         count,
         rest,
@@ -257,12 +265,13 @@ fn count_stored<R: Threads + Sync>(
 }
 
 // The number of the pivots with the rank of what they leave: no entry is left.
-fn count_left<R: Threads + Sync>(
-    rt: &R,
+fn count_left<C: Eliminating>(
+    crew: &C,
     alloc: Global,
     reducer: &RowReducer,
     workers: u32,
 ) -> Result<Counted, AllocError>
+    requires able { C.can_work }
     requires some { 1 ≤ workers }
     ensures { IfOk result (LeavesRank reducer.now.rows) }
 {
@@ -271,7 +280,7 @@ fn count_left<R: Threads + Sync>(
     let width = rows.width();
     let most = height.min(width);
     let count = reducer.pairs().len() as u32;
-    let left = left_basis(rt, alloc, reducer, workers)?.height();
+    let left = left_basis(crew, alloc, reducer, workers)?.height();
     let mut rest = Rows::with_room(alloc, rows.modulus(), width, 0, 0)?;
     rest.append_zeros(height)?;
     // Less only if the modulus isn't prime.

@@ -12,8 +12,9 @@ ghost use Rattle.spasm_lib.specs.Claimed.{IsClaimed};
 
 use crate::team::Team;
 use certificates::{CertKind, Certificate};
+use crew::Threaded;
 use optimistic_search::Gate;
-use pluq_factor::{Factors, factor, form_of_basis};
+use pluq_factor::{Eliminating, Factors, factor, form_of_basis};
 use sparse_rows::Rows;
 use std::alloc::AllocError;
 use std::thread::Threads;
@@ -30,7 +31,7 @@ use std::thread::Threads;
 /// let valid = spasm_lib::check(rt.alloc(), &a, &certificate)?;
 /// ```
 pub fn certificate<R: Threads + Sync, G: Gate>(
-    team: Team<'_, R, G>,
+    team: Team<'_, Threaded<'_, R>, G>,
     a: &Rows,
     kind: CertKind,
 ) -> Result<Certificate, AllocError>
@@ -45,8 +46,9 @@ pub fn certificate<R: Threads + Sync, G: Gate>(
     ensures staged { IfOk result (λ c. IsPrime a.now.modulus →
         Staged a.now.modulus a.now.matrix team.entry.workers team.entry.rounds c.pivots) }
 {
-    let Factors { pivots, l, u } = factor(team.runtime, team.alloc, a, team.plan(), team.gate)?;
-    let extra = claimed(team, &u, kind)?;
+    let rt = team.crew.runtime;
+    let Factors { pivots, l, u } = factor(rt, team.alloc, a, team.plan(), team.gate)?;
+    let extra = claimed(&team, &u, kind)?;
     Ok(Certificate {
         kind,
         p: a.modulus().p(),
@@ -60,12 +62,13 @@ pub fn certificate<R: Threads + Sync, G: Gate>(
 
 // The matrix that a certificate of this kind claims of a matrix with this row basis, if it claims one: its echelon form, or its
 // kernel basis.
-fn claimed<R: Threads + Sync, G: Gate>(
-    team: Team<'_, R, G>,
+fn claimed<C: Eliminating, G>(
+    team: &Team<'_, C, G>,
     basis: &Rows,
     kind: CertKind,
 ) -> Result<Option<Rows>, AllocError>
-    requires some { 1 ≤ team.workers }
+    requires able { C.can_work }
+    requires some { 1 ≤ team.now.workers }
     requires width { basis.now.matrix.width < LARGEST_SIZE }
     ensures { IfOk result (λ extra. (p : ℕ) (A : Matrix) → IsMatrix p A → IsBasis p A basis.now →
         IsClaimed p A kind extra) }
@@ -73,11 +76,11 @@ fn claimed<R: Threads + Sync, G: Gate>(
     match kind {
         CertKind::Rank => Ok(None),
         CertKind::Rref => {
-            let form = form_of_basis(team.runtime, team.alloc, basis, team.workers)?;
+            let form = form_of_basis(&team.crew, team.alloc, basis, team.workers)?;
             Ok(Some(form.into_rows()))
         }
         CertKind::Kernel => {
-            let form = form_of_basis(team.runtime, team.alloc, basis, team.workers)?;
+            let form = form_of_basis(&team.crew, team.alloc, basis, team.workers)?;
             let null = kernel_solve::kernel(team.alloc, &form)?;
             Ok(Some(null))
         }

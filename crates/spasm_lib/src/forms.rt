@@ -7,10 +7,9 @@ ghost use Rattle.row_space.specs.Kernel.{IsKernel};
 ghost use Rattle.sparse_rows.specs.Rows.{transposed};
 
 use crate::team::Team;
-use optimistic_search::Gate;
+use pluq_factor::Eliminating;
 use sparse_rows::Rows;
 use std::alloc::AllocError;
-use std::thread::Threads;
 
 /// The rank of a matrix, modulo a prime.
 ///
@@ -20,13 +19,14 @@ use std::thread::Threads;
 /// ```
 /// let rank = spasm_lib::rank(Team::of(&rt, rt.alloc()), &rows)?;
 /// ```
-pub fn rank<R: Threads + Sync, G: Gate>(team: Team<'_, R, G>, a: &Rows) -> Result<u32, AllocError>
+pub fn rank<C: Eliminating, G>(team: Team<'_, C, G>, a: &Rows) -> Result<u32, AllocError>
+    requires able { C.can_work }
     requires some { 1 ≤ team.workers }
     ensures rank { IfOk result (λ r. IsPrime a.now.modulus → HasRank a.now.modulus a.now.matrix r) }
     ensures at_most_height { IfOk result (λ r. r ≤ a.now.matrix.height) }
     ensures at_most_width { IfOk result (λ r. r ≤ a.now.matrix.width) }
 {
-    let rank = pluq_factor::rank(team.runtime, team.alloc, a, team.plan())?;
+    let rank = pluq_factor::rank(&team.crew, team.alloc, a, team.plan())?;
     Ok(rank)
 }
 
@@ -39,7 +39,8 @@ pub fn rank<R: Threads + Sync, G: Gate>(team: Team<'_, R, G>, a: &Rows) -> Resul
 /// let form = spasm_lib::rref(team, &rows)?;
 /// println!(rt; "rank {}", form.height())?;
 /// ```
-pub fn rref<R: Threads + Sync, G: Gate>(team: Team<'_, R, G>, a: &Rows) -> Result<Rows, AllocError>
+pub fn rref<C: Eliminating, G>(team: Team<'_, C, G>, a: &Rows) -> Result<Rows, AllocError>
+    requires able { C.can_work }
     requires some { 1 ≤ team.workers }
     ensures modulus { IfOk result (λ e. e.modulus ≡ a.now.modulus) }
     ensures sound { IfOk result (λ e. IsMatrix e.modulus e.matrix) }
@@ -63,10 +64,8 @@ pub fn rref<R: Threads + Sync, G: Gate>(team: Team<'_, R, G>, a: &Rows) -> Resul
 ///     println!(rt; "columns {:?}, values {:?}", basis.cols(i), basis.vals(i))?;
 /// }
 /// ```
-pub fn kernel<R: Threads + Sync, G: Gate>(
-    team: Team<'_, R, G>,
-    a: &Rows,
-) -> Result<Rows, AllocError>
+pub fn kernel<C: Eliminating, G>(team: Team<'_, C, G>, a: &Rows) -> Result<Rows, AllocError>
+    requires able { C.can_work }
     requires some { 1 ≤ team.workers }
     ensures modulus { IfOk result (λ k. k.modulus ≡ a.now.modulus) }
     ensures sound { IfOk result (λ k. IsMatrix k.modulus k.matrix) }
@@ -86,10 +85,8 @@ pub fn kernel<R: Threads + Sync, G: Gate>(
 /// ```
 /// let relations = spasm_lib::left_kernel(team, &rows)?;
 /// ```
-pub fn left_kernel<R: Threads + Sync, G: Gate>(
-    team: Team<'_, R, G>,
-    a: &Rows,
-) -> Result<Rows, AllocError>
+pub fn left_kernel<C: Eliminating, G>(team: Team<'_, C, G>, a: &Rows) -> Result<Rows, AllocError>
+    requires able { C.can_work }
     requires some { 1 ≤ team.workers }
     ensures modulus { IfOk result (λ k. k.modulus ≡ a.now.modulus) }
     ensures sound { IfOk result (λ k. IsMatrix k.modulus k.matrix) }

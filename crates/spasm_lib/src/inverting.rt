@@ -8,10 +8,9 @@ ghost use Rattle.spasm_lib.specs.Inversion.{HasInversionShape, IsInversion};
 use crate::outcome::Inverse;
 use crate::team::Team;
 use kernel_solve::{doubled, inverse_in, null_row};
-use optimistic_search::Gate;
+use pluq_factor::Eliminating;
 use sparse_rows::Rows;
 use std::alloc::AllocError;
-use std::thread::Threads;
 
 /// The inverse of a square matrix of at most 2^30 rows, or, if there is none, a null vector; modulo a prime.
 ///
@@ -24,10 +23,8 @@ use std::thread::Threads;
 ///     Inverse::Singular(v) => println!(rt; "columns {:?} are dependent", v.cols(0))?,
 /// }
 /// ```
-pub fn inverse<R: Threads + Sync, G: Gate>(
-    team: Team<'_, R, G>,
-    a: &Rows,
-) -> Result<Inverse, AllocError>
+pub fn inverse<C: Eliminating, G>(team: Team<'_, C, G>, a: &Rows) -> Result<Inverse, AllocError>
+    requires able { C.can_work }
     requires some { 1 ≤ team.workers }
     requires square { a.now.matrix.height ≡ a.now.matrix.width }
     requires small { 2 * a.now.matrix.width ≤ LARGEST_SIZE }
@@ -37,7 +34,7 @@ pub fn inverse<R: Threads + Sync, G: Gate>(
 {
     // The law's contract: a matrix that takes a vector other than zero to zero has no inverse.
     row_space::inverse_excludes_null();
-    match inverse_of(team, a)? {
+    match inverse_of(&team, a)? {
         Some(b) => Ok(Inverse::Found(b)),
         None => {
             let form = team.form(a)?;
@@ -48,11 +45,12 @@ pub fn inverse<R: Threads + Sync, G: Gate>(
 }
 
 // The inverse of a matrix, if there is one.
-fn inverse_of<R: Threads + Sync, G: Gate>(
-    team: Team<'_, R, G>,
+fn inverse_of<C: Eliminating, G>(
+    team: &Team<'_, C, G>,
     a: &Rows,
 ) -> Result<Option<Rows>, AllocError>
-    requires some { 1 ≤ team.workers }
+    requires able { C.can_work }
+    requires some { 1 ≤ team.now.workers }
     requires square { a.now.matrix.height ≡ a.now.matrix.width }
     requires small { 2 * a.now.matrix.width ≤ LARGEST_SIZE }
     ensures shape { IfOk result (λ found. IfSome found (IsSquareOf a.now.modulus a.now.matrix.width)) }

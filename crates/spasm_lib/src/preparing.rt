@@ -3,6 +3,7 @@ ghost use Rattle.std.specs.Prelude.{◌≤◌, IfOk};
 ghost use Rattle.kernel_solve.specs.Prepared.{IsPreparedFor};
 
 use crate::team::Team;
+use crew::Threaded;
 use kernel_solve::{Prepared, kernel};
 use optimistic_search::Gate;
 use pluq_factor::{factor, form_of_basis};
@@ -23,7 +24,7 @@ use std::thread::Threads;
 /// }
 /// ```
 pub fn prepare<R: Threads + Sync, G: Gate>(
-    team: Team<'_, R, G>,
+    team: Team<'_, Threaded<'_, R>, G>,
     a: &Rows,
 ) -> Result<Prepared, AllocError>
     requires some { 1 ≤ team.workers }
@@ -31,8 +32,8 @@ pub fn prepare<R: Threads + Sync, G: Gate>(
 {
     // The call's contract tells that the entries are residues.
     let _ = a.height();
-    let factors = factor(team.runtime, team.alloc, a, team.plan(), team.gate)?;
-    let rows_form = form_of_basis(team.runtime, team.alloc, &factors.u, team.workers)?;
+    let factors = factor(team.crew.runtime, team.alloc, a, team.plan(), team.gate)?;
+    let rows_form = form_of_basis(&team.crew, team.alloc, &factors.u, team.workers)?;
     let null = kernel(team.alloc, &rows_form)?;
     drop(rows_form);
     let columns = a.transpose(team.alloc)?;

@@ -3,6 +3,7 @@ ghost use Rattle.std.specs.Prelude.{◌≤◌, IfOk};
 ghost use Rattle.pivot_table.specs.Selected.{Selected};
 
 use crate::team::Team;
+use crew::Threaded;
 use fl_pivots::leftmost;
 use optimistic_search::{Gate, search};
 use pivot_table::Pair;
@@ -22,14 +23,15 @@ use triangular_solve::Triangle;
 /// println!(rt; "the rank is at least {}", pivots.len())?;
 /// ```
 pub fn pivots<R: Threads + Sync, G: Gate>(
-    team: Team<'_, R, G>,
+    team: Team<'_, Threaded<'_, R>, G>,
     a: &Rows,
 ) -> Result<Vec<Pair>, AllocError>
     requires some { 1 ≤ team.workers }
     ensures { IfOk result (λ pairs. Selected a.now.matrix team.entry.workers pairs.items) }
 {
+    let rt = team.crew.runtime;
     let first = leftmost(team.alloc, a)?;
-    let book = search(team.runtime, team.alloc, first, team.workers, team.gate)?;
+    let book = search(rt, team.alloc, first, team.workers, team.gate)?;
     let triangle = Triangle::of(team.alloc, &book)?;
     let pairs = Vec::from_slice(team.alloc, triangle.pairs())?;
     Ok(pairs)

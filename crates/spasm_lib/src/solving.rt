@@ -11,11 +11,10 @@ ghost use Rattle.spasm_lib.specs.Solved.{AnswersSystem, HasSolutionShape, IsSolv
 use crate::outcome::Solution;
 use crate::team::Team;
 use kernel_solve::{Found, refuting_system, solution};
-use optimistic_search::Gate;
+use pluq_factor::Eliminating;
 use residue_words::Modulus;
 use sparse_rows::Rows;
 use std::alloc::{AllocError, Global};
-use std::thread::Threads;
 
 /// The reduced solution of A x = b for a column b as long as A is high, or, if there is none, the row that refutes the system; modulo a
 /// prime. Both matrices have one modulus, and fewer than 2^31 rows and columns.
@@ -29,11 +28,12 @@ use std::thread::Threads;
 ///     Solution::Refuted(y) => println!(rt; "rows {:?} refute it", y.cols(0))?,
 /// }
 /// ```
-pub fn solve<R: Threads + Sync, G: Gate>(
-    team: Team<'_, R, G>,
+pub fn solve<C: Eliminating, G>(
+    team: Team<'_, C, G>,
     a: &Rows,
     b: &Rows,
 ) -> Result<Solution, AllocError>
+    requires able { C.can_work }
     requires some { 1 ≤ team.workers }
     requires moduli { a.now.modulus ≡ b.now.modulus }
     requires heights { a.now.matrix.height ≡ b.now.matrix.height }
@@ -46,21 +46,19 @@ pub fn solve<R: Threads + Sync, G: Gate>(
 {
     // The calls' contracts tell that the entries are residues.
     let _ = (a.height(), b.height());
-    match told_by(team, a.beside(team.alloc, b)?)? {
+    match told_by(&team, a.beside(team.alloc, b)?)? {
         Found::Solution(x) => Ok(Solution::Found(x)),
         Found::Inconsistent => {
-            let y = refutation(team, a, b)?;
+            let y = refutation(&team, a, b)?;
             Ok(Solution::Refuted(y))
         }
     }
 }
 
 // What the echelon form of a system [A | b] tells of A x = b. The system is let go once its form is made.
-fn told_by<R: Threads + Sync, G: Gate>(
-    team: Team<'_, R, G>,
-    system: Rows,
-) -> Result<Found, AllocError>
-    requires some { 1 ≤ team.workers }
+fn told_by<C: Eliminating, G>(team: &Team<'_, C, G>, system: Rows) -> Result<Found, AllocError>
+    requires able { C.can_work }
+    requires some { 1 ≤ team.now.workers }
     requires width { 1 ≤ system.matrix.width }
     ensures shape { IfOk result (HasShape system.modulus system.matrix.width) }
     ensures tells { IfOk result (AnswersSystem system.modulus system.matrix) }
@@ -73,12 +71,13 @@ fn told_by<R: Threads + Sync, G: Gate>(
 
 // The refuting combination of A x = b, as a row, if there is no solution. For a modulus that isn't prime there may be no combination
 // either, and then it is a row of zeros.
-fn refutation<R: Threads + Sync, G: Gate>(
-    team: Team<'_, R, G>,
+fn refutation<C: Eliminating, G>(
+    team: &Team<'_, C, G>,
     a: &Rows,
     b: &Rows,
 ) -> Result<Rows, AllocError>
-    requires some { 1 ≤ team.workers }
+    requires able { C.can_work }
+    requires some { 1 ≤ team.now.workers }
     requires matrix { IsMatrix a.now.modulus a.now.matrix }
     requires side { IsMatrix b.now.modulus b.now.matrix }
     requires moduli { a.now.modulus ≡ b.now.modulus }

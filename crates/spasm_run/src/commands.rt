@@ -20,7 +20,7 @@ use optimistic_search::Gate;
 use residue_words::Modulus;
 use run_trace::{Trace, replay, trace_of};
 use sparse_rows::Rows;
-use spasm_lib::{Inverse, Solution, Team};
+use spasm_lib::{Inverse, Solution, Team, Threaded};
 use std::alloc::Global;
 use std::thread::Threads;
 
@@ -28,12 +28,17 @@ use std::thread::Threads;
 pub const LARGEST_INVERTED: u32 = 1_073_741_824;
 
 // By whom a command is worked out, and how.
-fn team_of<'a, R, G>(rt: &'a R, alloc: Global, command: Command, gate: &'a G) -> Team<'a, R, G>
+fn team_of<'a, R: Threads, G>(
+    rt: &'a R,
+    alloc: Global,
+    command: Command,
+    gate: &'a G,
+) -> Team<'a, Threaded<'a, R>, G>
     ensures workers { result.workers ≡ command.workers }
     ensures rounds { result.rounds ≡ command.rounds }
 {
     Team {
-        runtime: rt,
+        crew: Threaded::of(rt),
         alloc,
         workers: command.workers,
         rounds: command.rounds,

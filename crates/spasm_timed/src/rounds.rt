@@ -2,6 +2,7 @@
 ghost use Rattle.std.specs.Prelude.{◌≡◌, ◌≤◌};
 
 use crate::texts::{PRIME, matrix};
+use crew::Threaded;
 use fl_pivots::leftmost;
 use optimistic_search::{Open, search_counted};
 use pluq_factor::{Plan, rank};
@@ -55,7 +56,7 @@ fn time_rank<R: Threads + Sync + Clock + Print>(
     requires some { 1 ≤ plan.workers }
 {
     let start = Instant::now(rt)?;
-    let rank = rank(rt, alloc, rows, plan)?;
+    let rank = rank(&Threaded::of(rt), alloc, rows, plan)?;
     let time = start.elapsed(rt)?.as_micros();
     println!(rt; "{time} {rank}")
 }
@@ -97,7 +98,7 @@ fn left<R: Threads + Sync + Clock>(
 {
     let start = Instant::now(rt)?;
     let reducer = RowReducer::of(alloc, triangle, workers)?;
-    let rest = complement(rt, alloc, &reducer, workers)?;
+    let rest = complement(&Threaded::of(rt), alloc, &reducer, workers)?;
     let time = start.elapsed(rt)?.as_micros();
     Ok((rest, time))
 }

@@ -2,6 +2,7 @@
 ghost use Rattle.std.specs.Prelude.{◌<◌, ◌≤◌};
 
 use crate::tests::matrices::{have_same_entries, scattered};
+use crew::Threaded;
 use dense_finish::finish;
 use fl_pivots::leftmost;
 use schur_rows::{ChunkSize, RowReducer, complement, left_basis_by};
@@ -21,7 +22,7 @@ fn leaves<R: Threads + Sync>(
 ) -> Result<bool, AllocError>
     requires some { 1 ≤ workers }
 {
-    let left = complement(rt, alloc, reducer, workers)?;
+    let left = complement(&Threaded::of(rt), alloc, reducer, workers)?;
     have_same_entries(alloc, &left, known)
 }
 
@@ -37,7 +38,7 @@ fn has_basis<R: Threads + Sync>(
     requires some { 1 ≤ workers }
 {
     let size = ChunkSize { rows, places: 1 };
-    let basis = left_basis_by(rt, alloc, reducer, workers, size)?;
+    let basis = left_basis_by(&Threaded::of(rt), alloc, reducer, workers, size)?;
     Ok(basis.height() as usize == rank)
 }
 
@@ -63,7 +64,7 @@ fn known_rest<R: Threads + Sync>(
     alloc: Global,
     triangle: &Triangle,
 ) -> Result<(Rows, usize), AllocError> {
-    let known = complement(rt, alloc, &RowReducer::by_walks(triangle), 1)?;
+    let known = complement(&Threaded::of(rt), alloc, &RowReducer::by_walks(triangle), 1)?;
     let factors = finish(rt, alloc, &known, 1)?;
     Ok((known, factors.pivots.items().len()))
 }

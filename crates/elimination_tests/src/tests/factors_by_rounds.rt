@@ -2,6 +2,7 @@
 ghost use Rattle.std.specs.Prelude.{◌<◌, ◌≤◌};
 
 use crate::tests::matrices::scattered;
+use crew::Threaded;
 use echelon_form::Echelon;
 use optimistic_search::Open;
 use pivot_table::Pair;
@@ -54,7 +55,7 @@ fn ranks<R: Threads + Sync>(
     requires some { 1 ≤ plan.workers }
 {
     let factors = factor(rt, alloc, rows, plan, &Open)?;
-    let basis = row_basis(rt, alloc, rows, plan, &Open)?;
+    let basis = row_basis(&Threaded::of(rt), alloc, rows, plan)?;
     Ok((factors.pivots.items().len(), basis.height()))
 }
 
@@ -102,7 +103,7 @@ fn finds_form<R: Threads + Sync>(
 ) -> Result<bool, AllocError>
     requires some { 1 ≤ plan.workers }
 {
-    let at_once = form(rt, alloc, rows, plan, &Open)?;
+    let at_once = form(&Threaded::of(rt), alloc, rows, plan)?;
     are_same(alloc, &at_once, known)
 }
 
@@ -116,8 +117,8 @@ fn finds_basis<R: Threads + Sync>(
 ) -> Result<bool, AllocError>
     requires some { 1 ≤ plan.workers }
 {
-    let basis = row_basis(rt, alloc, rows, plan, &Open)?;
-    let of_basis = form_of_basis(rt, alloc, &basis, plan.workers)?;
+    let basis = row_basis(&Threaded::of(rt), alloc, rows, plan)?;
+    let of_basis = form_of_basis(&Threaded::of(rt), alloc, &basis, plan.workers)?;
     are_same(alloc, &of_basis, known)
 }
 
@@ -133,7 +134,8 @@ fn finds<R: Threads + Sync>(
 {
     let has_form = finds_form(rt, alloc, rows, plan, known)?;
     let has_basis = finds_basis(rt, alloc, rows, plan, known)?;
-    Ok(has_form && has_basis && rank(rt, alloc, rows, plan)? == known.rank())
+    let rank = rank(&Threaded::of(rt), alloc, rows, plan)?;
+    Ok(has_form && has_basis && rank == known.rank())
 }
 
 // Whether each plan finds what an elimination without rounds finds.

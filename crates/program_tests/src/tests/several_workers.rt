@@ -154,8 +154,8 @@ impl Gate for Hold {
 }
 
 // Words of commands that search by two workers, matrices, and what is answered where the third row overtakes the second. In the first
-// matrix the second row is dropped, which changes the pivots and no form; in the last one it is published behind, with the version of its
-// claim.
+// matrix the second row is dropped, which leaves it to a later round and changes no form; in the last one it is published behind, with the
+// version of its claim.
 const OVERTAKEN: &[(&[&str], &str, &str)] = &[
     (
         &["pivots", "--modulus=7", "--workers=2"],
@@ -163,9 +163,12 @@ const OVERTAKEN: &[(&[&str], &str, &str)] = &[
         "pivots 2\n3 2\n1 1\n",
     ),
     (
-        &["rref", "--modulus=7", "--workers=2"],
+        &["certify", "--modulus=7", "--kind=rref", "--workers=2"],
         Y,
-        "3 3 M\n1 1 1\n2 2 1\n3 3 1\n0 0 0\n",
+        "certificate rref 7 3\n3 2\n1 1\n2 3\n\
+         3 3 M\n1 2 1\n2 1 1\n2 3 1\n3 1 1\n0 0 0\n\
+         3 3 M\n1 1 1\n1 2 1\n1 3 2\n2 1 1\n3 3 6\n0 0 0\n\
+         3 3 M\n1 1 1\n2 2 1\n3 3 1\n0 0 0\n",
     ),
     (
         &["trace", "--modulus=7", "--workers=2"],
