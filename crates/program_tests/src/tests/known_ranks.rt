@@ -3,8 +3,8 @@ ghost use Rattle.std.specs.Prelude.{◌<◌, IfOk};
 ghost use Rattle.residue_words.specs.Matrix.{IsMatrix, IsVector};
 ghost use Rattle.plain_elimination.specs.Plain.{plain_matrix};
 
-use residue_words::Modulus;
 use plain_elimination::rank_of;
+use residue_words::Modulus;
 use std::alloc::{AllocError, Global};
 use std::test::Fail;
 

@@ -2,8 +2,8 @@
 ghost use Rattle.std.specs.Prelude.{◌<◌, ◌≤◌};
 
 use crate::tests::runs::{CALM, rows_of, run_on};
-use residue_words::Modulus;
 use plain_elimination::plain_rows;
+use residue_words::Modulus;
 use std::alloc::{AllocError, Global};
 use std::process::Abort;
 use std::test::Fail;
