@@ -4,7 +4,7 @@ use Rattle.std.proofs.lemmas.List.{get_or-map, length-map}
 use Rattle.residue_words.specs.Residues.{IsPrime}
 use Rattle.residue_words.specs.Matrix.{Matrix, IsCombination, IsMatrix, IsVector, row}
 use Rattle.residue_words.proofs.Vectors.{row_combination}
-use Rattle.row_space.specs.Echelon.{SameSpan}
+use Rattle.row_space.specs.Echelon.{IsIndependent, SameSpan}
 use Rattle.row_space.proofs.Spans.{same_span_chained, same_span_of_rows}
 use Rattle.sparse_rows.specs.Rows.{ResidueMatrix, selected}
 use Rattle.echelon_form.specs.Form.{Form, IsFormOf}
@@ -58,3 +58,15 @@ form_turned {R} {T} {f} h =
 
 pub form_based : {p : ℕ} {A : Matrix} {U : ResidueMatrix} {f : Form} → IsBasis p A U → IsFormOf U.modulus U.matrix f → IsFormOf p A f
 form_based {p} {A} {U} {f} h = form_chained h.modulus h.width h.span
+
+-- a basis of the rows from the last to the first is one of the rows
+pub basis_turned : {R T U : ResidueMatrix} → IsTurned R T → IsBasis T.modulus T.matrix U → IsBasis R.modulus R.matrix U
+basis_turned {R} {T} {U} h b =
+    let back : IsPrime R.modulus → IsPrime T.modulus = subst IsPrime (sym h.modulus) in record {
+      modulus = b.modulus ∙ h.modulus;
+      width = b.width ∙ ap (λ (M : Matrix). M.width) h.matrix;
+      independent = λ prime. subst (λ p. IsIndependent p U.matrix) h.modulus (b.independent (back prime));
+      span = λ prime. same_span_chained R.modulus R.matrix T.matrix U.matrix
+          (subst (SameSpan R.modulus R.matrix) (sym h.matrix) (span_turned R.modulus R.matrix h.numbers prime.two_or_more h.sound h.last_first))
+          (subst (λ p. SameSpan p T.matrix U.matrix) h.modulus (b.span (back prime)));
+    }

@@ -8,6 +8,7 @@ use crate::eliminating::Eliminating;
 use crate::extent::Extent;
 use crate::plan::Plan;
 use crate::round_pivots::{Left, Rest, take_left};
+use crate::turned_rows::last_first;
 use dense_finish::{RightFactor, finish_right};
 use echelon_form::Echelon;
 use sparse_rows::{LARGEST_SIZE, Rows};
@@ -17,11 +18,11 @@ use std::alloc::{AllocError, Global};
 /// pivots' rows of each round, and those of the finish; no coefficients are kept. For a modulus that is not prime they are some
 /// rows of that width.
 ///
-/// A round takes the leftmost pivots and those that a search finds within three steps an entry; a matrix four times as wide or as high
-/// as it has entries is searched to the end, in memory by the entries. The search is one worker's, by levels, whoever works. The rounds
-/// end with the plan, or when a fifth of what is left isn't 0. That is eliminated densely where it is small and dense, and else by the
-/// rows of its echelon form; or it is taken chunk by chunk into a dense basis if this takes less memory. With no round there is the
-/// dense elimination alone, and so for a matrix of some size that is a tenth full from the start.
+/// The rows are taken from the last to the first, since a search then leaves much less of a boundary map. A round takes the leftmost
+/// pivots and all that a search of one worker adds, by levels. The rounds end with the plan, or when a fifth of what is left isn't 0.
+/// That is eliminated densely where it is small and dense, and else by the rows of its echelon form; or it is taken chunk by chunk into
+/// a dense basis if this takes less memory. With no round there is the dense elimination alone, and so for a matrix of some size that is
+/// a tenth full from the start.
 pub fn row_basis<C: Eliminating>(
     crew: &C,
     alloc: Global,
@@ -32,13 +33,26 @@ pub fn row_basis<C: Eliminating>(
     requires some { 1 ≤ plan.workers }
     ensures { IfOk result (IsBasis rows.now.modulus rows.now.matrix) }
 {
-    let copy = rows.copy(alloc)?;
-    if plan.rounds == 0 || Extent::of(alloc, rows)?.is_full() {
-        let basis = dense_basis(crew, alloc, copy, plan.workers)?;
-        return Ok(basis);
-    }
-    let basis = basis_from(crew, alloc, copy, plan.workers, plan.rounds)?;
+    let turned = last_first(alloc, rows)?;
+    let basis = basis_by(crew, alloc, turned, plan)?;
     Ok(basis)
+}
+
+// The same in the order in which the rows stand.
+fn basis_by<C: Eliminating>(
+    crew: &C,
+    alloc: Global,
+    rows: Rows,
+    plan: Plan,
+) -> Result<Rows, AllocError>
+    requires able { C.can_work }
+    requires some { 1 ≤ plan.workers }
+    ensures { IfOk result (IsBasis rows.modulus rows.matrix) }
+{
+    if plan.rounds == 0 || Extent::of(alloc, &rows)?.is_full() {
+        return dense_basis(crew, alloc, rows, plan.workers);
+    }
+    basis_from(crew, alloc, rows, plan.workers, plan.rounds)
 }
 
 // The rows of a finish.

@@ -1,12 +1,12 @@
 // The echelon form by rounds.
 ghost use Rattle.std.specs.Prelude.{◌≡◌, ◌≤◌, IfOk};
 ghost use Rattle.echelon_form.specs.Form.{IsFormOf};
-ghost use Rattle.pluq_factor.specs.Turned.{AreLastFirst, IsTurned};
 
 use crate::basis::row_basis;
 use crate::eliminating::Eliminating;
 use crate::extent::Extent;
 use crate::plan::Plan;
+use crate::turned_rows::last_first;
 use echelon_form::{Echelon, Settling};
 use sparse_rows::Rows;
 use std::alloc::{AllocError, Global};
@@ -56,24 +56,4 @@ pub fn form_of_basis<C: Settling>(
     let turned = last_first(alloc, basis)?;
     let form = Echelon::made_by(crew, alloc, &turned, workers)?;
     Ok(form)
-}
-
-// The rows from the last to the first.
-fn last_first(alloc: Global, rows: &Rows) -> Result<Rows, AllocError>
-    ensures { IfOk result (IsTurned rows.now) }
-{
-    let numbers = down_from(alloc, rows.height())?;
-    let turned = rows.select(alloc, &numbers)?;
-    Ok(turned)
-}
-
-// The numbers below n, the greatest first.
-fn down_from(alloc: Global, n: u32) -> Result<Vec<u32>, AllocError>
-    ensures { IfOk result (λ numbers. AreLastFirst n numbers.items) }
-{
-    let mut numbers = Vec::with_capacity(alloc, n as usize)?;
-    for k in 0..n {
-        numbers.push(n - 1 - k)?;
-    }
-    Ok(numbers)
 }

@@ -47,8 +47,7 @@ pub(crate) struct FewPivots<'a> {
     pub(crate) searches: bool,
 }
 
-// The leftmost pivots, and those that a search of one worker finds, if there is to be one: in few steps, or in memory by the entries
-// where these are few.
+// The leftmost pivots, and those that a search of one worker finds in few steps, if there is to be one.
 pub(crate) fn few_pivots<'a>(
     alloc: Global,
     rows: &'a Rows,
@@ -62,11 +61,6 @@ pub(crate) fn few_pivots<'a>(
         return found(alloc, &first, false);
     }
     let few = first.pairs().len();
-    if has_few_entries(rows) {
-        // The other search takes memory by all columns.
-        let book = search_alone(alloc, first)?;
-        return found(alloc, &book, few < book.pairs().len());
-    }
     let most = rows.entries().saturating_mul(STEPS_AN_ENTRY);
     match search_within(alloc, first, most)? {
         Some(book) => found(alloc, &book, few < book.pairs().len()),
@@ -83,6 +77,18 @@ fn found<'a>(alloc: Global, book: &Book<'a>, searches: bool) -> Result<FewPivots
     // The call's contract tells that the pivots are triangular.
     let _ = triangle.pairs().len();
     Ok(FewPivots { triangle, searches })
+}
+
+// Pivots of a round in triangular order, to which none can be added: the leftmost ones, and those that one worker finds by levels.
+pub(crate) fn all_pivots<'a>(alloc: Global, rows: &'a Rows) -> Result<Triangle<'a>, AllocError>
+    ensures rows { IfOk result (λ t. t.rows ≡ rows.now) }
+    ensures triangular { IfOk result (λ t. Triangular rows.now.matrix t.pairs) }
+{
+    let book = search_alone(alloc, leftmost(alloc, rows)?)?;
+    let triangle = Triangle::of(alloc, &book)?;
+    // The call's contract tells that the pivots are triangular.
+    let _ = triangle.pairs().len();
+    Ok(triangle)
 }
 
 // Whether what takes memory by rows and columns, as a board does, would take much more than the entries do.

@@ -8,7 +8,7 @@ ghost use Rattle.schur_rows.specs.Round.{pivot_rows};
 
 use crate::eliminating::Eliminating;
 use crate::extent::Extent;
-use crate::plan::{FewPivots, few_pivots, rows_of, select_pivots};
+use crate::plan::{FewPivots, all_pivots, few_pivots, rows_of, select_pivots};
 use optimistic_search::Gate;
 use pivot_table::Pair;
 use schur_rows::{RowReducer, SchurRows, complement, left_basis, schur};
@@ -118,7 +118,7 @@ pub(crate) fn take_left<C: Eliminating>(
     requires some { 1 ≤ workers }
     ensures { IfOk result (λ r. IfSome r (IsLeftBy rows.now)) }
 {
-    let FewPivots { triangle, .. } = few_pivots(alloc, rows, true)?;
+    let triangle = all_pivots(alloc, rows)?;
     if triangle.pairs().is_empty() {
         return Ok(None);
     }
