@@ -10,6 +10,7 @@ use Rattle.sparse_rows.specs.declared.rows.TheConstants.{LARGEST_SIZE}
 use Rattle.sparse_rows.specs.Stored.{with_row}
 use Rattle.triangular_solve.specs.Reduced.{IsPivotRow, IsReduced, IsSchurRow, Reduction}
 use Rattle.triangular_solve.specs.Triangle.{TriangleState}
+use Rattle.schur_rows.specs.PivotNumbers.{HasNumbers}
 use Rattle.schur_rows.specs.declared.round.SchurRows.{SchurRows}
 use Rattle.schur_rows.specs.declared.deal.Deal.{Deal}
 use Rattle.schur_rows.specs.declared.deal.Stage.{Stage}
@@ -103,9 +104,11 @@ pub record ArePartCuts (from to count : ℕ) (cuts : List ℕ) : Type 0 where
   pub order : (j : ℕ) → j < count → slice_index cuts j ≤ slice_index cuts (j + 1)
   pub inside : (j : ℕ) → j ≤ count → slice_index cuts j ≤ to
 
--- the parts are those of the cuts
+-- the parts are those of the cuts, of rows of the matrix, and the pass knows which rows are pivots'
 pub record IsDeal (deal : Deal) : Type 0 where
+  pub numbers : HasNumbers deal.pass.reducer.now.pairs deal.pass.pivot_rows.now
   pub order : deal.from ≤ deal.to
+  pub inside : deal.to ≤ deal.pass.reducer.now.rows.matrix.height
   pub end : deal.to ≤ LARGEST_SIZE
   pub several : 2 ≤ deal.workers
   pub some : 1 ≤ deal.stage

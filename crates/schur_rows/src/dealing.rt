@@ -1,7 +1,6 @@
 // Who makes what is left of rows that are dealt out in parts.
-ghost use Rattle.std.specs.Prelude.{◌≤◌, IfOk};
+ghost use Rattle.std.specs.Prelude.{IfOk};
 ghost use Rattle.schur_rows.specs.Parts.{IsDeal, IsPartTo};
-ghost use Rattle.schur_rows.specs.PivotNumbers.{HasNumbers};
 
 use crate::deal::Deal;
 use crate::round::SchurRows;
@@ -18,8 +17,6 @@ pub trait Dealing: Crew {
     fn left_of(&self, alloc: Global, deal: Deal) -> Result<SchurRows, AllocError>
         requires able { Self.can_work }
         requires deal { IsDeal deal }
-        requires inside { deal.to ≤ deal.pass.reducer.now.rows.matrix.height }
-        requires numbers { HasNumbers deal.pass.reducer.now.pairs deal.pass.pivot_rows.now }
         ensures { IfOk result (IsPartTo deal.entry.pass.reducer.now deal.entry.pass.kept
             deal.entry.from deal.entry.to) };
 }

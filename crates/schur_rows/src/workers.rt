@@ -113,8 +113,6 @@ pub(crate) fn left_by_stages<R: Threads + Sync>(
     deal: Deal,
 ) -> Result<SchurRows, AllocError>
     requires deal { IsDeal deal }
-    requires inside { deal.to ≤ deal.pass.reducer.now.rows.matrix.height }
-    requires numbers { HasNumbers deal.pass.reducer.now.pairs deal.pass.pivot_rows.now }
     ensures { IfOk result (IsPartTo deal.entry.pass.reducer.now deal.entry.pass.kept
         deal.entry.from deal.entry.to) }
 {
@@ -145,8 +143,6 @@ fn next_stage<R: Threads + Sync>(
     made: &mut SchurRows,
 ) -> Share
     requires deal { IsDeal deal }
-    requires inside { deal.to ≤ deal.pass.reducer.now.rows.matrix.height }
-    requires numbers { HasNumbers deal.pass.reducer.now.pairs deal.pass.pivot_rows.now }
     requires stage { IsStage deal stage }
     requires parts { All (IsNumbered deal.pass.reducer.now deal) parts.now }
     requires made { IsPartTo deal.pass.reducer.now deal.pass.kept
@@ -158,15 +154,11 @@ fn next_stage<R: Threads + Sync>(
     let next = AtomicU64::new(stage.begun as u64);
     let helpers = deal.workers - 1;
     let mut help = || -> Share
-        requires { IsSync R.row × (1 ≤ helpers) × IsDeal deal × (stage.end ≤ deal.count)
-            × (deal.to ≤ deal.pass.reducer.now.rows.matrix.height)
-            × HasNumbers deal.pass.reducer.now.pairs deal.pass.pivot_rows.now }
+        requires { IsSync R.row × (1 ≤ helpers) × IsDeal deal × (stage.end ≤ deal.count) }
         ensures { IsWorkersShare deal.entry.pass.reducer.now deal.entry result }
     { parts_by(rt, alloc, deal, stage.end, &next, helpers) };
     let mut own = || -> Share
         requires { IsDeal deal × IsStage deal stage
-            × (deal.to ≤ deal.pass.reducer.now.rows.matrix.height)
-            × HasNumbers deal.pass.reducer.now.pairs deal.pass.pivot_rows.now
             × All (IsNumbered deal.pass.reducer.now deal) parts.now
             × IsPartTo deal.pass.reducer.now deal.pass.kept deal.from (cut_at deal stage.joined) made.now }
         ensures { IsWorkersShare deal.entry.pass.reducer.now deal.entry result
@@ -191,8 +183,6 @@ fn join_and_go_on(
     made: &mut SchurRows,
 ) -> Share
     requires deal { IsDeal deal }
-    requires inside { deal.to ≤ deal.pass.reducer.now.rows.matrix.height }
-    requires numbers { HasNumbers deal.pass.reducer.now.pairs deal.pass.pivot_rows.now }
     requires stage { IsStage deal stage }
     requires parts { All (IsNumbered deal.pass.reducer.now deal) parts.now }
     requires made { IsPartTo deal.pass.reducer.now deal.pass.kept
@@ -219,8 +209,6 @@ fn parts_by<R: Threads + Sync>(
     workers: usize,
 ) -> Share
     requires deal { IsDeal deal }
-    requires inside { deal.to ≤ deal.pass.reducer.now.rows.matrix.height }
-    requires numbers { HasNumbers deal.pass.reducer.now.pairs deal.pass.pivot_rows.now }
     requires end { end ≤ deal.count }
     ensures { IsWorkersShare deal.entry.pass.reducer.now deal.entry result }
 {
@@ -243,8 +231,6 @@ fn shares_of<R: Threads + Sync>(
     workers: usize,
 ) -> Result<Vec<Share>, AllocError>
     requires deal { IsDeal deal }
-    requires inside { deal.to ≤ deal.pass.reducer.now.rows.matrix.height }
-    requires numbers { HasNumbers deal.pass.reducer.now.pairs deal.pass.pivot_rows.now }
     requires end { end ≤ deal.count }
     ensures { IfOk result (λ shares.
         All (IsWorkersShare deal.entry.pass.reducer.now deal.entry) shares.items) }
@@ -260,8 +246,6 @@ fn shares_of<R: Threads + Sync>(
 // The parts that one worker makes: it takes the next one below `end` as long as there is one.
 fn parts_of_worker(alloc: Global, deal: Deal, end: usize, next: &AtomicU64) -> Share
     requires deal { IsDeal deal }
-    requires inside { deal.to ≤ deal.pass.reducer.now.rows.matrix.height }
-    requires numbers { HasNumbers deal.pass.reducer.now.pairs deal.pass.pivot_rows.now }
     requires end { end ≤ deal.count }
     ensures { IsWorkersShare deal.entry.pass.reducer.now deal.entry result }
 {
@@ -289,8 +273,6 @@ fn part_by_number(
     work: &mut Work,
 ) -> Result<SchurRows, AllocError>
     requires deal { IsDeal deal }
-    requires inside { deal.to ≤ deal.pass.reducer.now.rows.matrix.height }
-    requires numbers { HasNumbers deal.pass.reducer.now.pairs deal.pass.pivot_rows.now }
     requires number { number < deal.count }
     requires work { work.old ≡ workspace_of deal.pass.reducer.now }
     ensures work { work.new ≡ work.old }
@@ -317,8 +299,6 @@ fn join_parts(
     made: &mut SchurRows,
 ) -> Result<(), AllocError>
     requires deal { IsDeal deal }
-    requires inside { deal.to ≤ deal.pass.reducer.now.rows.matrix.height }
-    requires numbers { HasNumbers deal.pass.reducer.now.pairs deal.pass.pivot_rows.now }
     requires order { from ≤ to }
     requires end { to ≤ deal.count }
     requires parts { All (IsNumbered deal.pass.reducer.now deal) parts.now }
@@ -342,8 +322,6 @@ fn join_number(
     made: &mut SchurRows,
 ) -> Result<(), AllocError>
     requires deal { IsDeal deal }
-    requires inside { deal.to ≤ deal.pass.reducer.now.rows.matrix.height }
-    requires numbers { HasNumbers deal.pass.reducer.now.pairs deal.pass.pivot_rows.now }
     requires number { number < deal.count }
     requires parts { All (IsNumbered deal.pass.reducer.now deal) parts.now }
     requires made { IsPartTo deal.pass.reducer.now deal.pass.kept
@@ -368,8 +346,6 @@ fn join_missing(
     made: &mut SchurRows,
 ) -> Result<(), AllocError>
     requires deal { IsDeal deal }
-    requires inside { deal.to ≤ deal.pass.reducer.now.rows.matrix.height }
-    requires numbers { HasNumbers deal.pass.reducer.now.pairs deal.pass.pivot_rows.now }
     requires number { number < deal.count }
     requires made { IsPartTo deal.pass.reducer.now deal.pass.kept
         deal.from (cut_at deal number) made.old }
@@ -386,8 +362,6 @@ fn join_missing(
 // The part of this number, made in room of its own.
 fn part_alone(alloc: Global, deal: Deal, number: usize) -> Result<SchurRows, AllocError>
     requires deal { IsDeal deal }
-    requires inside { deal.to ≤ deal.pass.reducer.now.rows.matrix.height }
-    requires numbers { HasNumbers deal.pass.reducer.now.pairs deal.pass.pivot_rows.now }
     requires number { number < deal.count }
     ensures { IfOk result (IsPartOf deal.entry.pass.reducer.now deal.entry number) }
 {

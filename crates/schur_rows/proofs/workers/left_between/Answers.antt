@@ -5,7 +5,9 @@ use Rattle.schur_rows.proofs.workers.left_between.Goals as goal
 
 pub left_of-requires-clause-deal : goal.left_of-requires-clause-deal
 left_of-requires-clause-deal g c = record {
+  numbers = c.requires.numbers;
   order = c.requires.order;
+  inside = c.requires.inside;
   end = omega (arith, c.requires.inside, c.height.ensures.bound, c.height.ensures.value, ap (λ (r : ResidueMatrix). r.matrix.height) c.rows.ensures);
   several = omega (arith, c.requires.some, c.if-workers-eq1.false);
   some = omega (arith, c.requires.some);
