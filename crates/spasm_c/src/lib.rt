@@ -38,7 +38,8 @@ pub extern "C" fn spasm_version() -> u32
     10000
 }
 
-/// The rank.
+/// The rank of a matrix, modulo a prime; the cheapest of the calls. Modulo another number it is some number that is no more than the height
+/// and the width.
 #[unsafe(no_mangle)]
 pub extern "C" fn spasm_rank(alloc: Global, a: &Given<'_>, rank: &mut u32) -> u32
     ensures rank { result ≡ SPASM_OK → IsRankOf a.now rank.new }
@@ -55,7 +56,8 @@ pub extern "C" fn spasm_rank(alloc: Global, a: &Given<'_>, rank: &mut u32) -> u3
     }
 }
 
-/// The reduced row echelon form.
+/// The reduced row echelon form of a matrix, modulo a prime: as many rows as the rank r, and no more than r + r (width - r) entries. Modulo
+/// another number it is some rows of the matrix's width.
 #[unsafe(no_mangle)]
 pub extern "C" fn spasm_rref(alloc: Global, a: &Given<'_>, form: &mut Room<'_>) -> u32
     ensures form { result ≡ SPASM_OK → Holds (IsRrefOf a.now) form.new }
@@ -70,7 +72,8 @@ pub extern "C" fn spasm_rref(alloc: Global, a: &Given<'_>, form: &mut Room<'_>) 
     }
 }
 
-/// The kernel basis.
+/// The basis of the kernel in its reduced form, modulo a prime: a row for each column where no row of the echelon form leads, with no more
+/// entries than the rank and one more.
 #[unsafe(no_mangle)]
 pub extern "C" fn spasm_kernel(alloc: Global, a: &Given<'_>, basis: &mut Room<'_>) -> u32
     ensures basis { result ≡ SPASM_OK → Holds (IsKernelOf a.now) basis.new }
@@ -85,7 +88,7 @@ pub extern "C" fn spasm_kernel(alloc: Global, a: &Given<'_>, basis: &mut Room<'_
     }
 }
 
-/// The basis of the left kernel.
+/// The basis of the left kernel, modulo a prime: the kernel basis of the transposed matrix.
 #[unsafe(no_mangle)]
 pub extern "C" fn spasm_left_kernel(alloc: Global, a: &Given<'_>, basis: &mut Room<'_>) -> u32
     ensures basis { result ≡ SPASM_OK → Holds (IsLeftKernelOf a.now) basis.new }
@@ -100,7 +103,8 @@ pub extern "C" fn spasm_left_kernel(alloc: Global, a: &Given<'_>, basis: &mut Ro
     }
 }
 
-/// The solution.
+/// The reduced solution of A x = b as a column, or, with `SPASM_REFUTED`, the row that refutes the system; modulo a prime. Both matrices have
+/// one modulus, and fewer than 2^31 rows and columns; the second is a column as long as the first is high.
 #[unsafe(no_mangle)]
 pub extern "C" fn spasm_solve(
     alloc: Global,
@@ -122,7 +126,7 @@ pub extern "C" fn spasm_solve(
     }
 }
 
-/// The inverse.
+/// The inverse of a square matrix of at most 2^30 rows, or, with `SPASM_SINGULAR`, a null vector as a row; modulo a prime.
 #[unsafe(no_mangle)]
 pub extern "C" fn spasm_inverse(alloc: Global, a: &Given<'_>, answer: &mut Room<'_>) -> u32
     ensures inverse { result ≡ SPASM_OK → Holds (IsInverseOf a.now) answer.new }
@@ -139,7 +143,8 @@ pub extern "C" fn spasm_inverse(alloc: Global, a: &Given<'_>, answer: &mut Room<
     }
 }
 
-/// Structural pivots.
+/// Structural pivots of a matrix, those that one worker finds, in an order in which they are triangular. No arithmetic is done, so the
+/// modulus need not be prime.
 #[unsafe(no_mangle)]
 pub extern "C" fn spasm_pivots(alloc: Global, a: &Given<'_>, pivots: &mut Places<'_>) -> u32
     ensures pivots { result ≡ SPASM_OK → HoldsPlaces (ArePivotsOf a.now) pivots.new }
