@@ -1,17 +1,13 @@
 -- Rows from the last to the first.
-use Rattle.std.specs.Prelude.{◌≡◌, ◌<◌, ◌+◌, ℕ, List, length, slice_index}
+use Rattle.std.specs.Prelude.{◌≡◌, ℕ, List}
 use Rattle.residue_words.specs.Matrix.{IsMatrix}
 use Rattle.sparse_rows.specs.Rows.{ResidueMatrix, selected}
+use Rattle.weight_order.specs.Laws.{HasEachFilled}
 
--- the numbers below n, the greatest first
-pub record AreLastFirst (n : ℕ) (numbers : List ℕ) : Type 0 where
-  pub long : length numbers ≡ n
-  pub each : (k : ℕ) → k < n → slice_index numbers k + k + 1 ≡ n
-
--- T has the rows of R from the last to the first
-pub record IsTurned (R T : ResidueMatrix) : Type 0 where
+-- T has rows of R, and each that has an entry is among them
+pub record HasFilledRows (R T : ResidueMatrix) : Type 0 where
   pub sound : IsMatrix R.modulus R.matrix
   pub modulus : T.modulus ≡ R.modulus
   pub numbers : List ℕ
-  pub last_first : AreLastFirst R.matrix.height numbers
+  pub filled : HasEachFilled R.matrix numbers
   pub matrix : T.matrix ≡ selected R.matrix numbers

@@ -1,0 +1,22 @@
+use Rattle.std.proofs.Common.{subst, sym, arith}
+use Rattle.weight_order.specs.Keeping.{AreFilledInSomeOrder}
+use Rattle.weight_order.proofs.Keeping.{each_filled, no_more}
+use Rattle.pluq_factor.proofs.turned_rows.last_first.Goals as goal
+
+pub select-requires-clause-many : goal.select-requires-clause-many
+select-requires-clause-many c =
+    let order : AreFilledInSomeOrder c.args.rows.now.matrix c.deref.result.now = subst (AreFilledInSomeOrder c.args.rows.now.matrix) (sym c.deref.ensures.value) c.in_ok-order.ensures in
+    omega (arith, no_more order, c.height.ensures.value, c.height.ensures.bound)
+
+pub select-requires-clause-inside : goal.select-requires-clause-inside
+select-requires-clause-inside c =
+    (each_filled (subst (AreFilledInSomeOrder c.args.rows.now.matrix) (sym c.deref.ensures.value) c.in_ok-order.ensures)).inside
+
+pub returns : goal.returns
+returns c = record {
+  sound = c.height.ensures.sound;
+  modulus = c.in_ok-turned.ensures.modulus;
+  numbers = c.deref.result.now;
+  filled = each_filled (subst (AreFilledInSomeOrder c.args.rows.now.matrix) (sym c.deref.ensures.value) c.in_ok-order.ensures);
+  matrix = c.in_ok-turned.ensures.matrix;
+}
