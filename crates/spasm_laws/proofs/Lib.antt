@@ -1,3 +1,4 @@
+pub mod Checking
 pub mod Continuing
 pub mod Examples
 pub mod OneAnswer

@@ -3,6 +3,7 @@
 
 ghost use Rattle.spasm_run.specs.Answers.{IsOneAnswer};
 ghost use Rattle.spasm_run.specs.Options.{AcceptedIsPlain, IsOneCommand};
+ghost use Rattle.spasm_laws.specs.Checked.{CheckedIsTrue};
 ghost use Rattle.spasm_laws.specs.Continuing.{AreClosedTexts, CertifiedIsChecked, TracedIsReplayed};
 ghost use Rattle.spasm_laws.specs.Examples.{AreWorkedRuns};
 
@@ -19,6 +20,11 @@ pub fn accepted_words_are_plain()
 /// A command has one answer for the matrices that it is given.
 pub fn at_most_one_answer()
     ensures { IsOneAnswer }
+{}
+
+/// If `check` ends with 0, modulo a prime, what the certificate says of the matrix is so, whoever wrote it.
+pub fn checked_is_true()
+    ensures { CheckedIsTrue }
 {}
 
 /// Modulo a prime, what `certify` wrote for a matrix text, put behind this text, is answered `yes` by `check`, unless memory is wanted.
