@@ -1,4 +1,6 @@
-/* Exact linear algebra modulo a prime for sparse matrices: the C functions of libspasm. Each is proved to answer as is said here.
+/* Exact linear algebra modulo a prime for sparse matrices: the C functions of libspasm. For a caller that keeps to this page it is proved
+   what the answers are, when each status comes but SPASM_NO_MEMORY, and what is written. How many entries an answer has at most, and what
+   is said of memory and threads, is told and not proved.
 
    MATRICES. A matrix is passed as three arrays with an item for each entry: its row, its column and its value. Rows and columns count
    from 0, values are below the modulus, entries come in any order, and those at one place are added up. A pointer is never null, even if

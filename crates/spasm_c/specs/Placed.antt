@@ -1,5 +1,5 @@
 -- Places in the room that a caller gives for them.
-use Rattle.std.specs.Prelude.{◌≡◌, ◌<◌, ◌⊎◌, ℕ, List, length, map, take}
+use Rattle.std.specs.Prelude.{◌≡◌, ◌<◌, ◌⊎◌, List, length, map, take}
 use Rattle.residue_words.specs.declared.plain.Pair.{Pair}
 use Rattle.spasm_c.specs.declared.places.Places.{Places}
 

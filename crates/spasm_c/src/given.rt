@@ -7,6 +7,7 @@ use sparse_rows::Rows;
 use std::alloc::{AllocError, Global};
 
 /// A matrix as C passes it, by three arrays of one length: the entries in any order, of which those at one place are added up.
+#[derive(Drop)]
 #[repr(C)]
 pub struct Given<'a> {
     /// The row of each entry, from 0.

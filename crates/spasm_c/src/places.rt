@@ -8,6 +8,7 @@ use pivot_table::Pair;
 use std::alloc::{AllocError, Global};
 
 /// The caller's room for places, and how many there are.
+#[derive(Drop)]
 #[repr(C)]
 pub struct Places<'a> {
     /// For the row of each, from 0.

@@ -9,6 +9,7 @@ use sparse_rows::Rows;
 use std::alloc::Global;
 
 /// The caller's room for an answer, and what is told of the answer.
+#[derive(Drop)]
 #[repr(C)]
 pub struct Room<'a> {
     /// For the row of each entry, from 0.

@@ -51,37 +51,58 @@ fn told(
         width: 1,
         modulus,
     };
-    let (mut rows, mut columns, mut values) = ([0; 2], [0; 2], [0; 2]);
-    let (mut needed, mut height) = (0, 0);
-    let status = if call == 0 {
-        spasm_rank(alloc, &a, &mut height)
-    } else if call == 6 {
-        let mut pivots = Places {
-            rows: &mut rows,
-            columns: &mut columns,
-            needed,
-        };
-        let status = spasm_pivots(alloc, &a, &mut pivots);
-        needed = pivots.needed;
-        status
-    } else {
-        let mut room = Room {
-            rows: &mut rows,
-            columns: &mut columns,
-            values: &mut values[..places.min(2)],
-            needed,
-            height,
-        };
-        let status = match call {
-            1 => spasm_rref(alloc, &a, &mut room),
-            2 => spasm_kernel(alloc, &a, &mut room),
-            3 => spasm_left_kernel(alloc, &a, &mut room),
-            4 => spasm_solve(alloc, &a, &b, &mut room),
-            _ => spasm_inverse(alloc, &a, &mut room),
-        };
-        needed = room.needed;
-        height = room.height;
-        status
+    match call {
+        0 => told_of_rank(alloc, &a),
+        6 => told_of_pivots(alloc, &a),
+        _ => told_of_room(alloc, call, &a, &b, places),
+    }
+}
+
+// The rank stands for the height.
+fn told_of_rank(alloc: Global, a: &Given<'_>) -> (u32, usize, u32, [u64; 2]) {
+    let mut rank = 0;
+    let status = spasm_rank(alloc, a, &mut rank);
+    (status, 0, rank, [0; 2])
+}
+
+fn told_of_pivots(alloc: Global, a: &Given<'_>) -> (u32, usize, u32, [u64; 2]) {
+    let (mut rows, mut columns) = ([0; 2], [0; 2]);
+    let mut pivots = Places {
+        rows: &mut rows,
+        columns: &mut columns,
+        needed: 0,
     };
+    let status = spasm_pivots(alloc, a, &mut pivots);
+    (status, pivots.needed, 0, [0; 2])
+}
+
+fn told_of_room(
+    alloc: Global,
+    call: u32,
+    a: &Given<'_>,
+    b: &Given<'_>,
+    places: usize,
+) -> (u32, usize, u32, [u64; 2]) {
+    let (mut rows, mut columns, mut values) = ([0; 2], [0; 2], [0; 2]);
+    let mut room = Room {
+        rows: &mut rows,
+        columns: &mut columns,
+        values: &mut values[..places.min(2)],
+        needed: 0,
+        height: 0,
+    };
+    let status = filled(alloc, call, a, b, &mut room);
+    let (needed, height) = (room.needed, room.height);
     (status, needed, height, values)
+}
+
+// The status of a call that answers with a matrix.
+fn filled(alloc: Global, call: u32, a: &Given<'_>, b: &Given<'_>, room: &mut Room<'_>) -> u32 {
+    match call {
+        1 => spasm_rref(alloc, a, room),
+        2 => spasm_kernel(alloc, a, room),
+        3 => spasm_left_kernel(alloc, a, room),
+        4 => spasm_solve(alloc, a, b, room),
+        _ => spasm_inverse(alloc, a, room),
+    }
 }
