@@ -1,10 +1,11 @@
 //! How a program calls the library: it builds a matrix modulo a prime, prints its rank and the basis of its kernel, and solves a system.
 #![tactic(auto)]
 
-ghost use Rattle.std.specs.Prelude.{◌≡◌, IfOk};
+ghost use Rattle.std.specs.Prelude.{◌≡◌, ◌<◌, IfOk};
 ghost use Rattle.residue_words.specs.Residues.{IsPrime};
 ghost use Rattle.row_space.specs.Echelon.{HasRank};
 ghost use Rattle.row_space.specs.Kernel.{IsKernel};
+ghost use Rattle.sparse_rows.specs.declared.rows.TheConstants.{LARGEST_SIZE};
 
 use spasm_lib::{Modulus, Rows, Solution, Team, kernel, rank, solve};
 use std::alloc::{AllocError, Global};
@@ -28,7 +29,7 @@ fn main(rt: HostRuntime) -> io::Result<()> {
         println!(rt; "kernel row {i} in columns {cols:?}: {vals:?}")?;
     }
     let b = differences(rt.alloc())?;
-    match solve(Team::of(&rt, rt.alloc()), &a, &b)? {
+    match solution_of(&rt, rt.alloc(), &a, &b)? {
         Solution::Found(x) => println!(rt; "solution {:?}", x.triples(rt.alloc())?)?,
         Solution::Refuted(y) => println!(rt; "no solution, by {:?}", y.triples(rt.alloc())?)?,
     }
@@ -79,4 +80,21 @@ fn summary_of<R: Threads + Sync>(rt: &R, alloc: Global, rows: &Rows) -> Result<S
         rank: rank(team, rows)?,
         kernel: kernel(team, rows)?,
     })
+}
+
+// What there is to say of A x = b.
+fn solution_of<R: Threads + Sync>(
+    rt: &R,
+    alloc: Global,
+    a: &Rows,
+    b: &Rows,
+) -> Result<Solution, AllocError>
+    requires moduli { a.now.modulus ≡ b.now.modulus }
+    requires heights { a.now.matrix.height ≡ b.now.matrix.height }
+    requires column { b.now.matrix.width ≡ 1 }
+    requires height { a.now.matrix.height < LARGEST_SIZE }
+    requires width { a.now.matrix.width < LARGEST_SIZE }
+{
+    let solution = solve(Team::of(rt, alloc), a, b)?;
+    Ok(solution)
 }
