@@ -317,7 +317,9 @@ class Faults(unittest.TestCase):
         for call in ("spasm.rank(m)", "spasm.betti([m], [2, 3, 5], jobs=2)"):
             with self.subTest(call):
                 self.with_program(f"echo $$ >> {self.folder}/running\nexec sleep 60\n")
-                code = f"import sys; sys.path.insert(0, {str(ROOT / 'python')!r}); import spasm; m = spasm.Matrix(1, 1); {call}"
+                # A shell that runs the tests in the background has interrupts ignored.
+                code = ("import signal, sys; signal.signal(signal.SIGINT, signal.default_int_handler); "
+                        f"sys.path.insert(0, {str(ROOT / 'python')!r}); import spasm; m = spasm.Matrix(1, 1); {call}")
                 begun = time.monotonic()
                 running = subprocess.Popen([sys.executable, "-c", code], stderr=subprocess.PIPE)
                 wanted = 1 if "rank" in call else 2
