@@ -8,7 +8,7 @@ use Rattle.atomic_table.proofs.Lists.{at_set, set_here, set_else, at_longer, at_
 use Rattle.residue_words.specs.Matrix.{Matrix}
 use Rattle.residue_words.specs.declared.plain.Pair.{Pair}
 use Rattle.pivot_table.specs.History.{pair, HasRow, Alive, Dead, StartsWith}
-use Rattle.pivot_table.specs.Core.{Mark, free, held, done, Noted, noted, Chair, Core, core, HasSeat, HasMark, StandsAt, Carries, claiming, meeting, seeing, publishing, finishing, splitting, joining, longer, longer_by}
+use Rattle.pivot_table.specs.Core.{Mark, free, held, done, Noted, noted, Chair, Core, core, HasSeat, HasMark, StandsAt, Carries, claiming, meeting, seeing, publishing, finishing, parting, splitting, joining, longer, longer_by}
 use Rattle.pivot_table.specs.Lawful.{Sound, Apart, Lawful}
 use Rattle.residue_words.proofs.Lists.{not_in_nil}
 use Rattle.pivot_table.proofs.Listed.{within, same_at, at_push, set_swap}
@@ -191,8 +191,9 @@ module _ (A : Matrix) (c : Core) (law : Lawful A c) (i : ℕ) (s : Chair) (at : 
         });
       }
 
-  pub splits : Lawful A (core c.history c.rows (c.seats ++ Some (splitting s) ∷ []))
-  splits = let w : Chair = splitting s in
+  -- a new seat, which has seen what this one has
+  adds : Lawful A (core c.history c.rows (c.seats ++ Some (splitting s) ∷ []))
+  adds = let w : Chair = splitting s in
       let sound : Sound c.history c.rows w = record {
         seen_first = it.seen_first;
         hand_held = λ r e. absurd (cc);
@@ -220,6 +221,21 @@ module _ (A : Matrix) (c : Core) (law : Lawful A c) (i : ℕ) (s : Chair) (at : 
             (which j t aj);
       }
 
+  -- the seat was split once more
+  parts : Lawful A (core c.history c.rows (set c.seats i (Some (parting s))))
+  parts = replaces (parting s) refl (record {
+    seen_first = it.seen_first;
+    hand_held = it.hand_held;
+    hand_start = it.hand_start;
+    hand_in = it.hand_in;
+    hand_out = it.hand_out;
+    met_not_free = it.met_not_free;
+    finished_done = it.finished_done;
+    places_below = it.places_below;
+    places_distinct = it.places_distinct;
+    places_start = it.places_start;
+  }) (λ j t au ne. let x = law.apart i j s t at au (λ f. ne (sym f)) in record { hands = x.hands; places = x.places })
+
   -- a seat that holds no row is spent
   pub leaves : s.hand ≡ None → Lawful A (core c.history c.rows (set c.seats i None))
   leaves idle = record {
@@ -231,6 +247,10 @@ module _ (A : Matrix) (c : Core) (law : Lawful A c) (i : ℕ) (s : Chair) (at : 
     each = λ j t au. law.each j t (seat_gone c.seats i j t au).1;
     apart = λ j k t u aj ak ne. law.apart j k t u (seat_gone c.seats i j t aj).1 (seat_gone c.seats i k u ak).1 ne;
   }
+
+pub splits : (A : Matrix) (c : Core) → Lawful A c → (i : ℕ) (s : Chair) → HasSeat c.seats i s
+    → Lawful A (core c.history c.rows (set c.seats i (Some (parting s)) ++ Some (splitting s) ∷ []))
+splits A c law i s at = adds A (core c.history c.rows (set c.seats i (Some (parting s)))) (parts A c law i s at) i (parting s) (here_seat A c law i s at (parting s))
 
 longer_either : (n : ℕ) (xs ys : List Pair) → n ≡ length ys - length xs → (P : List Pair → Type 0) → P xs → P ys → P (longer_by n xs ys) × (length xs ≤ length (longer_by n xs ys)) × (length ys ≤ length (longer_by n xs ys))
 longer_either zero xs ys e P p q = (p, omega arith, omega arith)

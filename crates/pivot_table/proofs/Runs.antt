@@ -10,7 +10,7 @@ use Rattle.atomic_table.proofs.Lists.{at_set, at_snoc}
 use Rattle.residue_words.specs.Matrix.{Matrix}
 use Rattle.residue_words.specs.declared.plain.Pair.{Pair}
 use Rattle.pivot_table.specs.History.{pair, HasRow, Grown, StartsWith}
-use Rattle.pivot_table.specs.Core.{Mark, free, held, done, Noted, noted, Chair, Core, HasSeat, HasMark, Turn, claim, see, publish, finish, meet, split, join, Goes, IsRun, Reached, opening, opened, rows_of, with_done, opening_marks, claiming, seeing, publishing, finishing, meeting, splitting, joining}
+use Rattle.pivot_table.specs.Core.{Mark, free, held, done, Noted, noted, Chair, Core, HasSeat, HasMark, Turn, claim, see, publish, finish, meet, split, join, Goes, IsRun, Reached, opening, opened, rows_of, with_done, opening_marks, claiming, seeing, publishing, finishing, meeting, parting, splitting, joining}
 use Rattle.pivot_table.specs.Lawful.{Sound, Lawful, After, IsSameOrOneMore}
 use Rattle.residue_words.proofs.Lists.{not_in_nil, in_head, in_tail, in_cases, cut_at}
 use Rattle.pivot_table.proofs.Listed.{at_within}
@@ -158,9 +158,9 @@ goes_after A h c d (meet i r) a g = subst (λ (x : Core). After h x) (sym g.3) (
 goes_after A h c d (split i) a g = subst (λ (x : Core). After h x) (sym g.2) (record {
   begins = a.begins;
   behind = λ j t x au m. ⊎_elim
-      (λ e. a.behind j t x e m)
+      (λ e. behind_set h c.seats i g.0 (parting g.0) g.1 a.behind (λ y n. inl n) j t x e m)
       (λ e. let f : Some (splitting g.0) ≡ Some t = e in let k : splitting g.0 ≡ t = cc in absurd (not_in_nil x (subst (λ (u : Chair). Contains u.places x) (sym k) m)))
-      (at_snoc c.seats (Some (splitting g.0)) (Some t) j au);
+      (at_snoc (set c.seats i (Some (parting g.0))) (Some (splitting g.0)) (Some t) j au);
 })
 goes_after A h c d (join i j) a g =
     let s : Chair = g.0 in let t : Chair = g.1 in

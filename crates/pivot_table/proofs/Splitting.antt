@@ -6,31 +6,37 @@ use mathlib.Core.Option.{some}
 use lib.ListN.{get_elem?}
 use lib.Seq.{map-set}
 use Rattle.atomic_table.specs.Table.{Splits, Joins}
-use Rattle.atomic_table.proofs.Lists.{set_else, set_again, at_snoc}
+use Rattle.atomic_table.proofs.Lists.{set_else, at_snoc}
 use Rattle.residue_words.specs.Matrix.{Matrix}
 use Rattle.residue_words.specs.declared.plain.Pair.{Pair}
-use Rattle.pivot_table.specs.Core.{Chair, core, split, join, Reached, splitting, joining}
-use Rattle.pivot_table.specs.Rule.{Kept, seat_of, seat_by, joined, parted, spent_view}
+use Rattle.pivot_table.specs.Core.{Chair, core, split, join, Reached, parting, splitting, joining}
+use Rattle.pivot_table.specs.Rule.{Kept, seat_of, seat_by, joined, old_part, new_part, spent_view}
 use Rattle.pivot_table.specs.declared.view.View.{View}
 use Rattle.pivot_table.proofs.Seats.{Seats}
 use Rattle.pivot_table.proofs.Runs.{reached_next}
 use Rattle.pivot_table.proofs.Allowed.{seats_of, seat_there, seats_set, each_view}
 
 module _ (A : Matrix) (h0 : List Pair) (id : ℕ) (v : View) (live : v.live ≡ true) where
-  pub split_allowed : Splits (Kept A h0) id v v (parted v)
+  pub split_allowed : Splits (Kept A h0) id v (old_part v) (new_part v)
   split_allowed s k at =
       let seats : Seats = seats_of s in
-      let goes = reached_next A h0 (core k.history k.rows seats) (core k.history k.rows (seats ++ Some (splitting v.chair) ∷ [])) (split id) k.reached (v.chair, seat_there s.views id v live at, refl) in
-      let grown : map seat_of (s.views ++ parted v ∷ []) ≡ seats ++ Some (splitting v.chair) ∷ [] = map-append seat_of s.views (parted v ∷ []) ∙ ap (λ (b : Bool). seats ++ seat_by b (splitting v.chair) ∷ []) live in
-      let same : set s.views id v ≡ s.views = set_again s.views id v at in
-      subst (λ (l : List View). Kept A h0 (record { words = s.words; homes = s.homes; views = l ++ parted v ∷ [] })) (sym same) (record {
+      let after : Seats = set seats id (Some (parting v.chair)) ++ Some (splitting v.chair) ∷ [] in
+      let goes = reached_next A h0 (core k.history k.rows seats) (core k.history k.rows after) (split id) k.reached (v.chair, seat_there s.views id v live at, refl) in
+      let views : List View = set s.views id (old_part v) in
+      let written : map seat_of (views ++ new_part v ∷ []) ≡ after = map-append seat_of views (new_part v ∷ [])
+      ∙ ap (λ (b : Bool). map seat_of views ++ seat_by b (splitting v.chair) ∷ []) live
+      ∙ ap (λ (l : Seats). l ++ Some (splitting v.chair) ∷ []) (seats_set s.views id (old_part v) live) in
+      record {
         history = k.history;
         rows = k.rows;
-        reached = subst (λ (l : Seats). Reached A h0 (core k.history k.rows l)) (sym grown) goes;
+        reached = subst (λ (l : Seats). Reached A h0 (core k.history k.rows l)) (sym written) goes;
         spells = k.spells;
-        of_board = λ j u au lives. ⊎_elim (λ e. k.of_board j u e lives) (λ e. (let f : parted v ≡ u = e in sym (ap (λ (x : View). x.matrix) f) ∙ k.of_board id v at live)) (at_snoc s.views (parted v) u j au);
+        of_board = λ j u au lives. ⊎_elim
+            (λ e. each_view (λ x. x.live ≡ true → x.matrix ≡ A) s.views id (old_part v) (λ l. k.of_board id v at live) (λ i x ai. k.of_board i x ai) j u e lives)
+            (λ e. (let f : new_part v ≡ u = e in sym (ap (λ (x : View). x.matrix) f) ∙ k.of_board id v at live))
+            (at_snoc views (new_part v) u j au);
         narrow = k.narrow;
-      })
+      }
 
   pub join_allowed : (other : ℕ) (w : View) → w.live ≡ true → w.chair.hand ≡ None → Joins (Kept A h0) id v other w (joined v w) spent_view
   join_allowed other w there idle s k at ne au =

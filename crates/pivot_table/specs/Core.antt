@@ -1,5 +1,5 @@
 -- The core of a board: a history, the state of each row, and the seats; the events and moves of a seat, and runs of them.
-use Rattle.std.specs.Prelude.{◌≡◌, ◌≢◌, ◌-◌, ◌⊎◌, ℕ, zero, suc, Bool, true, false, Option, None, Some, List, [], ◌∷◌, ◌++◌, length, map, replicate, slice_set}
+use Rattle.std.specs.Prelude.{◌≡◌, ◌≢◌, ◌+◌, ◌-◌, ◌⊎◌, ℕ, zero, suc, Bool, true, false, Option, None, Some, List, [], ◌∷◌, ◌++◌, length, map, replicate, slice_set}
 use mathlib.Core.Option.{some}
 use lib.ListN.{get_elem?}
 use Rattle.residue_words.specs.Matrix.{Matrix}
@@ -18,7 +18,7 @@ pub record Noted : Type 0 where
   pub start : ℕ
 
 -- what a seat knows: the pairs that it has seen, the row in hand with its start (0 where there is none) and a note whether it
--- is published, the row that it last met, the rows that it finished, and the places that it published
+-- is published, the row that it last met, the rows that it finished, the places that it published, and how often it was split
 pub record Chair : Type 0 where
   pub seen : List Pair
   pub hand : Option ℕ
@@ -27,6 +27,7 @@ pub record Chair : Type 0 where
   pub met : Option ℕ
   pub finished : List ℕ
   pub places : List Noted
+  pub parted : ℕ
 
 -- the seats by their numbers; None stands for one that is spent
 pub record Core : Type 0 where
@@ -74,8 +75,20 @@ finishing s r = record s { hand = None; start = 0; published = false; finished =
 abbrev pub meeting : Chair → ℕ → Chair
 meeting s r = record s { met = Some r }
 
+-- a seat that is split: what becomes of it, and the new one
+abbrev pub parting : Chair → Chair
+parting s = record s { parted = s.parted + 1 }
+
 abbrev pub splitting : Chair → Chair
-splitting s = record s { hand = None; start = 0; published = false; met = None; finished = []; places = [] }
+splitting s = record s {
+  hand = None;
+  start = 0;
+  published = false;
+  met = None;
+  finished = [];
+  places = [];
+  parted = 0;
+}
 
 -- the longer of two lists, the first where they are as long
 abbrev pub longer_by : ℕ → List Pair → List Pair → List Pair
@@ -105,6 +118,7 @@ opened h = record {
   met = None;
   finished = rows_of h;
   places = [];
+  parted = 0;
 }
 
 abbrev pub with_done : List Pair → List Mark → List Mark
@@ -150,7 +164,7 @@ Goes A c (meet i r) d = (s : Chair)
     × (d ≡ core c.history c.rows (seated c i (meeting s r)))
 Goes A c (split i) d = (s : Chair)
     × HasSeat c.seats i s
-    × (d ≡ core c.history c.rows (c.seats ++ Some (splitting s) ∷ []))
+    × (d ≡ core c.history c.rows (seated c i (parting s) ++ Some (splitting s) ∷ []))
 Goes A c (join i j) d = (s : Chair) × (t : Chair)
     × HasSeat c.seats i s × HasSeat c.seats j t × (j ≢ i) × (t.hand ≡ None)
     × (d ≡ core c.history c.rows (slice_set (seated c i (joining s t)) j None))

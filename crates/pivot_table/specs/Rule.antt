@@ -6,7 +6,7 @@ use Rattle.atomic_table.specs.Table.{State, Me, Step}
 use Rattle.residue_words.specs.Matrix.{Matrix}
 use Rattle.residue_words.specs.declared.plain.Pair.{Pair}
 use Rattle.pivot_table.specs.History.{pair, HasRow, Alive}
-use Rattle.pivot_table.specs.Core.{Mark, free, held, done, Chair, core, Reached, claiming, meeting, seeing, publishing, finishing, splitting, joining, opened, opening_marks}
+use Rattle.pivot_table.specs.Core.{Mark, free, held, done, Chair, core, Reached, claiming, meeting, seeing, publishing, finishing, parting, splitting, joining, opened, opening_marks}
 use Rattle.pivot_table.specs.declared.view.View.{View}
 
 abbrev pub view : Matrix → Bool → Chair → View
@@ -93,5 +93,9 @@ spent_view = view (record { height = 0; width = 0; rows = [] }) false (opened []
 abbrev pub joined : View → View → View
 joined v w = view v.matrix v.live (joining v.chair w.chair)
 
-abbrev pub parted : View → View
-parted v = view v.matrix v.live (splitting v.chair)
+-- the view of a seat that is split, and that of the new one
+abbrev pub old_part : View → View
+old_part v = view v.matrix v.live (parting v.chair)
+
+abbrev pub new_part : View → View
+new_part v = view v.matrix v.live (splitting v.chair)

@@ -6,7 +6,7 @@ ghost use Rattle.pivot_table.specs.Book.{HasRoom};
 ghost use Rattle.pivot_table.specs.Calls.{Claims, Finishes, IsOutcome, MayFinish, MayPublish};
 ghost use Rattle.pivot_table.specs.Closing.{AreNoted, AreStartsFrom, IsDone};
 ghost use Rattle.pivot_table.specs.Last.{IsLast};
-ghost use Rattle.pivot_table.specs.Core.{meeting, opened, splitting, joining};
+ghost use Rattle.pivot_table.specs.Core.{meeting, opened, parting, splitting, joining};
 ghost use Rattle.pivot_table.specs.History.{StandsOrIsDead, StartsWith};
 ghost use Rattle.pivot_table.specs.Rule.{rows_at};
 
@@ -191,7 +191,8 @@ impl<'a> Board<'a> {
     /// A second seat, which has seen the same.
     pub fn split(&self, seat: &mut Seat) -> Seat
         requires { IsSeatOf self.now seat.old }
-        ensures same { seat.new ≡ seat.old }
+        ensures old_seat { IsSeatOf self.now seat.new }
+        ensures old_chair { seat.new.chair ≡ parting seat.old.chair }
         ensures seat { IsSeatOf self.now result }
         ensures chair { result.chair ≡ splitting seat.old.chair }
     {

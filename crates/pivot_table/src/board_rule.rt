@@ -1,7 +1,7 @@
 // The rule of a board's table, and what its steps tell.
 ghost use Rattle.std.specs.Prelude.{true};
 ghost use Rattle.pivot_table.specs.Core.{opened};
-ghost use Rattle.pivot_table.specs.Rule.{Kept, claimed, finished, published, view, parted, joined, spent_view};
+ghost use Rattle.pivot_table.specs.Rule.{Kept, claimed, finished, published, view, old_part, new_part, joined, spent_view};
 
 use crate::book::Book;
 use crate::view::View;
@@ -37,9 +37,9 @@ impl Play<(), View> for Publish {
 pub(crate) struct Part;
 
 impl Split<View> for Part {
-    ghost left = { λ v. v };
+    ghost left = { old_part };
 
-    ghost right = { parted };
+    ghost right = { new_part };
 }
 
 pub(crate) struct Both;
