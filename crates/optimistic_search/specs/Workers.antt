@@ -3,6 +3,7 @@ use Rattle.std.specs.Prelude.{◌≤◌, ℕ, Bool, List}
 use Rattle.residue_words.specs.Matrix.{Matrix}
 use Rattle.residue_words.specs.declared.plain.Pair.{Pair}
 use Rattle.pivot_table.specs.Board.{BoardState}
+use Rattle.pivot_table.specs.Core.{Chair}
 use Rattle.pivot_table.specs.History.{StandsOrIsDead}
 use Rattle.pivot_table.specs.Closing.{IsDone}
 use Rattle.optimistic_search.specs.Taking.{IsIdle}
@@ -11,6 +12,10 @@ use Rattle.optimistic_search.specs.declared.worker.Worker.{Worker}
 -- a worker that stands before a row, or has gone through all rows
 abbrev pub IsWorkerOf : BoardState → Worker → Type 0
 IsWorkerOf b w = IsIdle b w.seat w.walk × (w.from ≤ b.rows.matrix.height)
+
+-- the seat was split so often
+abbrev pub with_parted : Chair → ℕ → Chair
+with_parted s n = record s { parted = n }
 
 -- the rows that are done stand in the history or are dead in it
 abbrev pub DoneAreSettled : Matrix → List Pair → List Bool → Type 0

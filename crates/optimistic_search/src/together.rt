@@ -5,7 +5,7 @@ ghost use Rattle.pivot_table.specs.Book.{HasRoom};
 ghost use Rattle.pivot_table.specs.Closing.{IsDone};
 ghost use Rattle.pivot_table.specs.History.{Maximal, StandsOrIsDead, StartsWith};
 ghost use Rattle.optimistic_search.specs.Versions.{AreStartsOf};
-ghost use Rattle.optimistic_search.specs.Workers.{DoneAreSettled, IsWorkerOf};
+ghost use Rattle.optimistic_search.specs.Workers.{DoneAreSettled, IsWorkerOf, with_parted};
 
 use crate::by_walk::{follow, try_row};
 use crate::gate::Gate;
@@ -43,7 +43,8 @@ fn prepared<'a, L: Ledger>(
     requires seat { IsSeatOf board.now seat.old }
     requires rows { board.now.rows ≡ book.now.rows }
     requires seen { seat.old.chair.seen ≡ book.now.pairs }
-    ensures same { seat.new ≡ seat.old }
+    ensures seat { IsSeatOf board.now seat.new }
+    ensures chair { seat.new.chair ≡ with_parted seat.old.chair seat.new.chair.parted }
     ensures workers { IfOk result (λ v. All (IsWorkerOf board.now) v.items) }
 {
     let height = board.rows().height();

@@ -2,7 +2,7 @@
 ghost use Rattle.std.specs.Prelude.{◌≡◌, ◌≤◌, [], ◌∷◌, length, IfOk, IsTrue};
 ghost use Rattle.pivot_table.specs.Board.{IsSeatOf};
 ghost use Rattle.pivot_table.specs.Calls.{MayFinish};
-ghost use Rattle.pivot_table.specs.Core.{claiming, opened, splitting};
+ghost use Rattle.pivot_table.specs.Core.{claiming, opened, parting, splitting};
 ghost use Rattle.pivot_table.specs.Example.{pivot_example};
 ghost use Rattle.pivot_table.specs.History.{pair};
 
@@ -69,9 +69,9 @@ fn a_book_keeps_its_pairs_in_order(rt: HostRuntime) -> Result<(), Fail> {
 fn claim_first(board: &Board<'_>, first: &mut Seat) -> bool
     requires seat { IsSeatOf board.now first.old }
     requires matrix { board.now.rows.matrix ≡ pivot_example }
-    requires opened { first.old.chair ≡ opened (pair 0 0 ∷ []) }
+    requires opened { first.old.chair ≡ parting (opened (pair 0 0 ∷ [])) }
     ensures seat { IsSeatOf board.now first.new }
-    ensures chair { IsTrue result → first.new.chair ≡ claiming (opened (pair 0 0 ∷ [])) 1 }
+    ensures chair { IsTrue result → first.new.chair ≡ claiming (parting (opened (pair 0 0 ∷ []))) 1 }
 {
     board.claim(first, 1)
 }
@@ -99,7 +99,7 @@ fn overtake(board: &Board<'_>, second: &mut Seat) -> bool
 fn be_late(board: &Board<'_>, first: &mut Seat) -> bool
     requires seat { IsSeatOf board.now first.old }
     requires matrix { board.now.rows.matrix ≡ pivot_example }
-    requires claimed { first.old.chair ≡ claiming (opened (pair 0 0 ∷ [])) 1 }
+    requires claimed { first.old.chair ≡ claiming (parting (opened (pair 0 0 ∷ []))) 1 }
     ensures seat { IsSeatOf board.now first.new }
     ensures settled { IsTrue result → MayFinish pivot_example first.new.chair }
 {
@@ -124,7 +124,7 @@ fn comes_to(counter: &AtomicU64, n: u64) -> bool {
 // One thread goes by turns.
 fn by_turns(board: &Board<'_>, first: &mut Seat, second: &mut Seat) -> bool
     requires matrix { board.now.rows.matrix ≡ pivot_example }
-    requires first { IsSeatOf board.now first.old × (first.old.chair ≡ opened (pair 0 0 ∷ [])) }
+    requires first { IsSeatOf board.now first.old × (first.old.chair ≡ parting (opened (pair 0 0 ∷ []))) }
     requires second { IsSeatOf board.now second.old
         × (second.old.chair ≡ splitting (opened (pair 0 0 ∷ []))) }
     ensures first { IsSeatOf board.now first.new × (IsTrue result → MayFinish pivot_example first.new.chair) }
@@ -144,7 +144,7 @@ fn by_turns(board: &Board<'_>, first: &mut Seat, second: &mut Seat) -> bool
 fn be_late_in_turn(board: &Board<'_>, first: &mut Seat, turn: &AtomicU64) -> bool
     requires matrix { board.now.rows.matrix ≡ pivot_example }
     requires seat { IsSeatOf board.now first.old }
-    requires opened { first.old.chair ≡ opened (pair 0 0 ∷ []) }
+    requires opened { first.old.chair ≡ parting (opened (pair 0 0 ∷ [])) }
     ensures seat { IsSeatOf board.now first.new }
     ensures settled { IsTrue result → MayFinish pivot_example first.new.chair }
 {
@@ -184,7 +184,7 @@ fn in_threads<R: Threads + Sync>(
     second: &mut Seat,
 ) -> bool
     requires matrix { board.now.rows.matrix ≡ pivot_example }
-    requires first { IsSeatOf board.now first.old × (first.old.chair ≡ opened (pair 0 0 ∷ [])) }
+    requires first { IsSeatOf board.now first.old × (first.old.chair ≡ parting (opened (pair 0 0 ∷ []))) }
     requires second { IsSeatOf board.now second.old
         × (second.old.chair ≡ splitting (opened (pair 0 0 ∷ []))) }
     ensures first { IsSeatOf board.now first.new × (IsTrue result → MayFinish pivot_example first.new.chair) }
@@ -196,7 +196,7 @@ fn in_threads<R: Threads + Sync>(
         rt,
         &mut || -> bool
             requires { (board.now.rows.matrix ≡ pivot_example) × IsSeatOf board.now first.now
-                × (first.now.chair ≡ opened (pair 0 0 ∷ [])) }
+                × (first.now.chair ≡ parting (opened (pair 0 0 ∷ []))) }
             ensures { IsSeatOf board.entry.now first.exit.now
                 × (IsTrue result → MayFinish pivot_example first.exit.now.chair) }
         { be_late_in_turn(board, first, &turn) },
@@ -222,7 +222,7 @@ fn both_go<R: Threads + Sync>(
     threads: bool,
 ) -> bool
     requires matrix { board.now.rows.matrix ≡ pivot_example }
-    requires first { IsSeatOf board.now first.old × (first.old.chair ≡ opened (pair 0 0 ∷ [])) }
+    requires first { IsSeatOf board.now first.old × (first.old.chair ≡ parting (opened (pair 0 0 ∷ []))) }
     requires second { IsSeatOf board.now second.old
         × (second.old.chair ≡ splitting (opened (pair 0 0 ∷ []))) }
     ensures first { IsSeatOf board.now first.new × (IsTrue result → MayFinish pivot_example first.new.chair) }
@@ -288,7 +288,7 @@ fn leave_what_they_should<R: Threads + Sync>(
     threads: bool,
 ) -> bool
     requires matrix { board.rows.matrix ≡ pivot_example }
-    requires first { IsSeatOf board first × (first.chair ≡ opened (pair 0 0 ∷ [])) }
+    requires first { IsSeatOf board first × (first.chair ≡ parting (opened (pair 0 0 ∷ []))) }
     requires second { IsSeatOf board second × (second.chair ≡ splitting (opened (pair 0 0 ∷ []))) }
 {
     let mut first = first;

@@ -1,13 +1,17 @@
-use Rattle.std.proofs.Common.{◌≡◌, ◌∙◌, List, ap, arith, subst, sym}
+use Rattle.std.proofs.Common.{◌≡◌, ◌∙◌, ◌+◌, ℕ, List, ap, arith, subst, sym}
 use Rattle.std.specs.Prelude.{All}
 use Rattle.std.proofs.lemmas.List.Elements.{All-push}
 use Rattle.sparse_rows.specs.Rows.{ResidueMatrix}
-use Rattle.pivot_table.specs.Board.{SeatState}
-use Rattle.pivot_table.specs.Core.{Chair}
+use Rattle.pivot_table.specs.Core.{Chair, parting}
 use Rattle.optimistic_search.specs.Walked.{Walked}
-use Rattle.optimistic_search.specs.Workers.{IsWorkerOf}
+use Rattle.optimistic_search.specs.Workers.{IsWorkerOf, with_parted}
 use Rattle.optimistic_search.specs.declared.worker.Worker.{Worker}
 use Rattle.optimistic_search.proofs.together.prepared.Goals as goal
+
+parted_more : (s first t : Chair) → s ≡ with_parted first s.parted → t ≡ parting s → t ≡ with_parted first t.parted
+parted_more s first t is e =
+    let all : t ≡ with_parted first (s.parted + 1) = e ∙ ap parting is in
+    subst (λ (n : ℕ). t ≡ with_parted first n) (sym (ap (λ (x : Chair). x.parted) all)) all
 
 pub loop-number-preserved : goal.loop-number-preserved
 loop-number-preserved g c =
@@ -21,13 +25,14 @@ loop-number-preserved g c =
       record {
         seat = c.split.ensures.seat;
         rows = ap (λ (w : Walked). w.rows) walk ∙ sym c.requires.rows;
-        pairs = ap (λ (w : Walked). w.pairs) walk ∙ sym c.requires.seen ∙ ap (λ (s : SeatState). s.chair.seen) (sym inv.seat) ∙ sym (ap (λ (x : Chair). x.seen) c.split.ensures.chair);
+        pairs = ap (λ (w : Walked). w.pairs) walk ∙ sym c.requires.seen ∙ ap (λ (x : Chair). x.seen) (sym inv.chair) ∙ sym (ap (λ (x : Chair). x.seen) c.split.ensures.chair);
         hand = ap (λ (x : Chair). x.hand) c.split.ensures.chair;
         current = ap (λ (w : Walked). w.current) walk;
       },
       omega arith,
     ) in record {
-      seat = c.split.ensures.same ∙ inv.seat;
+      seat = c.split.ensures.old_seat;
+      chair = parted_more c.loop-number.seat.chair c.args.seat.now.chair c.split.new.seat.chair inv.chair c.split.ensures.old_chair;
       workers = subst (λ (l : List Worker). All (IsWorkerOf c.args.board.now) l) (sym more.items) (All-push (IsWorkerOf c.args.board.now) c.loop-number.workers.items one inv.workers own);
       count = let n = inv.count in let m = more.len in omega arith;
       room = let r = inv.room in let m = more.capacity in omega arith;

@@ -4,7 +4,7 @@ use Rattle.residue_words.specs.Matrix.{Matrix}
 use Rattle.residue_words.specs.declared.plain.Pair.{Pair}
 use Rattle.pivot_table.specs.History.{pair}
 use Rattle.pivot_table.specs.Calls.{MayFinish, MayPublish}
-use Rattle.pivot_table.specs.Core.{Chair, claiming, opened, seeing}
+use Rattle.pivot_table.specs.Core.{Chair, claiming, opened, parting, seeing}
 use Rattle.pivot_table.specs.Example.{pivot_example}
 use Rattle.search_tests.proofs.tests.histories.be_late.Goals as goal
 
@@ -25,7 +25,7 @@ pair_is q r k e = let t = both (eqb q.row r) (eqb q.col k) e in
 pub returns-in-Newer-clause-settled : goal.returns-in-Newer-clause-settled
 returns-in-Newer-clause-settled c = λ t.
     let q : c.in-Newer.pair ≡ pair 2 1 = pair_is c.in-Newer.pair 2 1 (sym c.eq.ensures ∙ t) in
-    let is : c.publish.new.seat.chair ≡ seeing (claiming (opened (pair 0 0 ∷ [])) 1) (pair 2 1) =
+    let is : c.publish.new.seat.chair ≡ seeing (claiming (parting (opened (pair 0 0 ∷ []))) 1) (pair 2 1) =
     c.in-Newer.ensures.chair.2 ∙ ap (λ (s : Chair). seeing s c.in-Newer.pair) c.requires.claimed
-    ∙ ap (λ (p : Pair). seeing (claiming (opened (pair 0 0 ∷ [])) 1) p) q in
+    ∙ ap (λ (p : Pair). seeing (claiming (parting (opened (pair 0 0 ∷ []))) 1) p) q in
     subst (λ (s : Chair). MayFinish pivot_example s) (sym is) (1, refl, inr c.histories_are_worked.ensures.overtaken)
