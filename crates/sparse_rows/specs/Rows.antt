@@ -1,5 +1,5 @@
 -- What compressed rows stand for: a plain matrix with its modulus, a plain row, a list.
-use Rattle.std.specs.Prelude.{◌≡◌, ◌≢◌, ◌<◌, ◌≤◌, ◌+◌, ◌*◌, ◌%◌, ◌==◌, ◌&&◌, if◌then◌else◌, ℕ, List, [], ◌∷◌, ◌++◌, length, map, replicate, slice_index, slice_set, All, Contains}
+use Rattle.std.specs.Prelude.{◌≡◌, ◌≢◌, ◌<◌, ◌≤◌, ◌+◌, ◌*◌, ◌%◌, ◌==◌, ◌&&◌, if◌then◌else◌, ℕ, List, [], ◌∷◌, ◌++◌, length, map, replicate, slice_index, slice_set, take, All, Contains}
 use Rattle.std.specs.List.{flat_map, range_with_len}
 use Rattle.residue_words.specs.Matrix.{IsVector, Matrix, entry, list_of, row, zeros}
 use Rattle.residue_words.specs.Residues.{sum_below}
@@ -144,6 +144,14 @@ beside A B = record {
 -- the rows of B below those of A
 abbrev pub above : Matrix → Matrix → Matrix
 above A B = record { height = A.height + B.height; width = A.width; rows = A.rows ++ B.rows }
+
+-- the first k rows of A
+abbrev pub first_rows : ℕ → Matrix → Matrix
+first_rows k A = record { height = k; width = A.width; rows = take k A.rows }
+
+-- some first rows of a matrix were appended
+abbrev pub AppendsFirst : Matrix → Matrix → Matrix → Type 0
+AppendsFirst from old new = (k : ℕ) × (k ≤ from.height) × (new ≡ above old (first_rows k from))
 
 -- the rows of A that are named, in that order
 abbrev pub selected : Matrix → List ℕ → Matrix

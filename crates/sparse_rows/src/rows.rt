@@ -8,7 +8,7 @@ ghost use Rattle.residue_words.specs.Residues.{sum_below};
 ghost use Rattle.sparse_rows.specs.Columns.{GoTo};
 ghost use Rattle.sparse_rows.specs.Placed.{AgreeBelow, IsZeroBetween, HasRowAt};
 ghost use Rattle.sparse_rows.specs.Cells.{AreEntries, IsWithin, matrix_of_cells, place_of, weight};
-ghost use Rattle.sparse_rows.specs.Rows.{above, AllFit, AreBelow, AreEnough, AreFilled, AreOccupied, AreRising, AreZeroFrom, FitsMatrix, IsNextFilled, beside, built, entry_count, identity, matrix_by, narrowed, nonzeros, row_triples, selected, support, transposed, triple, triples_of, widened, with_zeros};
+ghost use Rattle.sparse_rows.specs.Rows.{above, AllFit, AppendsFirst, AreBelow, AreEnough, AreFilled, AreOccupied, AreRising, AreZeroFrom, FitsMatrix, IsNextFilled, beside, built, entry_count, identity, matrix_by, narrowed, nonzeros, row_triples, selected, support, transposed, triple, triples_of, widened, with_zeros};
 ghost use Rattle.sparse_rows.specs.Stored.{IsSparse, spread, with_row, with_sparse_row};
 
 use crate::builder::RowsBuilder;
@@ -145,13 +145,14 @@ impl Rows {
     }
 
     /// Appends the rows of another matrix, in the time of its entries and, where each of its rows is stored, its height: where each
-    /// row of both is stored, the blocks are copied. Where memory is wanted some of the rows may have been appended already.
+    /// row of both is stored, the blocks are copied. Out of memory, some first rows may have been appended.
     pub fn append_all(&mut self, from: &Rows) -> Result<(), AllocError>
         requires modulus { self.old.modulus ≡ from.now.modulus }
         requires width { self.old.matrix.width ≡ from.now.matrix.width }
         requires height_small { self.old.matrix.height + from.now.matrix.height ≤ LARGEST_SIZE }
         ensures modulus { self.new.modulus ≡ self.old.modulus }
         ensures matrix { OnOk result (self.new.matrix ≡ above self.old.matrix from.now.matrix) }
+        ensures err { OnErr result (AppendsFirst from.now.matrix self.old.matrix self.new.matrix) }
     {
         if self.every_row && from.every_row {
             self.stored.append_all(&from.stored)?;
@@ -168,6 +169,7 @@ impl Rows {
         requires height_small { self.old.matrix.height + from.now.matrix.height ≤ LARGEST_SIZE }
         ensures modulus { self.new.modulus ≡ self.old.modulus }
         ensures matrix { OnOk result (self.new.matrix ≡ above self.old.matrix from.now.matrix) }
+        ensures err { OnErr result (AppendsFirst from.now.matrix self.old.matrix self.new.matrix) }
     {
         // The call tells that `from` is a matrix of residues.
         let height = from.height();

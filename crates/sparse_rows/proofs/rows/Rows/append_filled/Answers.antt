@@ -2,7 +2,7 @@ use Rattle.std.proofs.Common.{◌≡◌, ◌∙◌, ap, arith, refl}
 use Rattle.residue_words.specs.Matrix.{row}
 use Rattle.sparse_rows.specs.Rows.{ResidueMatrix}
 use Rattle.sparse_rows.specs.Stored.{spread}
-use Rattle.sparse_rows.proofs.Below.{appended_all, appended_more, front_none}
+use Rattle.sparse_rows.proofs.Below.{any_err, appended_all, appended_more, appended_zeros, front_none}
 use Rattle.sparse_rows.proofs.Spread.{spread_support}
 use Rattle.sparse_rows.proofs.rows.Rows.append_filled.Goals as goal
 
@@ -30,3 +30,9 @@ loop-i-preserved c =
 pub returns-clause-matrix : goal.returns-clause-matrix
 returns-clause-matrix c =
     appended_all c.args.self.now.matrix c.height-height.ensures.sound c.requires.width c.loop-i.invariant.stacked c.loop-i.invariant.low c.in_default.ensures c.height-height.ensures.value c.in_ok-append_zeros-2.ensures.matrix
+
+pub returns-in_err-append_entries-clause-err : goal.returns-in_err-append_entries-clause-err
+returns-in_err-append_entries-clause-err c =
+    let zeros =
+    appended_zeros c.args.self.now.matrix c.height-height.ensures.sound c.requires.width c.loop-i.invariant.stacked c.in_ok-append_zeros.ensures.matrix c.in-Some.ensures in
+    any_err c.from_residual-in_err-append_entries.result (c.in-Some.i, omega (arith, c.in-Some.ensures.below), c.in_err-append_entries.ensures.err ∙ zeros)
