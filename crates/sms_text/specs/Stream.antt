@@ -1,6 +1,6 @@
 -- What a call does to a source and to a sink. What is left of a source, and what a sink holds, is told or not told,
 -- which never changes: None is not told. Each has a count of its faults, which never falls.
-use Rattle.std.specs.Prelude.{◌≡◌, ◌<◌, ◌≤◌, ◌⊎◌, ◌++◌, ℕ, List, [], Option, None, Some, length, take}
+use Rattle.std.specs.Prelude.{◌≡◌, ◌<◌, ◌≤◌, ◌+◌, ◌++◌, ℕ, List, [], Option, None, Some, length, min, take}
 use Rattle.sms_text.specs.declared.stream.Pulled.{Pulled}
 use Rattle.sms_text.specs.declared.stream.Pulled.TheVariants as pulled
 use Rattle.sms_text.specs.declared.stream.Put.{Put}
@@ -40,28 +40,26 @@ IsNothing (Some rest) = rest ≡ []
 abbrev pub IsSpent : SourceState → Type 0
 IsSpent source = IsNothing source.left
 
--- a count of faults rose; one that stands at its last value is taken as risen
+-- a count of faults rose by one; at its last value it stays
 abbrev pub Rose : ℕ → ℕ → Type 0
-Rose old new = (old < new) ⊎ (18446744073709551615 ≤ new)
+Rose old new = new ≡ min (old + 1) 18446744073709551615
 
 -- a source gave these bytes and did not fail
 abbrev pub Gave : List ℕ → SourceState → SourceState → Type 0
 Gave bytes old new = old ≡ before bytes new
 
--- it gave these bytes, and then it failed
+-- it gave these bytes, and then it failed once
 pub record GaveAndFailed (bytes : List ℕ) (old new : SourceState) : Type 0 where
   pub left : old.left ≡ in_front bytes new.left
-  pub counts : old.faults ≤ new.faults
   pub rose : Rose old.faults new.faults
 
 -- a sink took these bytes and did not fail
 abbrev pub Gained : List ℕ → SinkState → SinkState → Type 0
 Gained bytes old new = new ≡ behind old bytes
 
--- it took these bytes, and then it failed
+-- it took these bytes, and then it failed once
 pub record GainedAndFailed (bytes : List ℕ) (old new : SinkState) : Type 0 where
   pub held : new.held ≡ at_back old.held bytes
-  pub counts : old.faults ≤ new.faults
   pub rose : Rose old.faults new.faults
 
 -- a pull gave the first bytes of what was left, at least one; or found the end; or failed and took nothing

@@ -1,5 +1,5 @@
 -- One piece written after another.
-use Rattle.std.proofs.Common.{ℕ, false, true, ◌≡◌, List, [], ◌∷◌, ◌++◌, Option, None, Some, Result, Ok, Err, refl, sym, ap, subst, ◌∙◌, arith, append_assoc}
+use Rattle.std.proofs.Common.{ℕ, false, true, ◌≡◌, List, [], ◌∷◌, ◌++◌, Option, None, Some, Result, Ok, Err, refl, sym, ap, subst, ◌∙◌, append_assoc}
 use Rattle.std.specs.Prelude.{codes}
 use Rattle.std.specs.Fmt.{decimal}
 use Rattle.std.specs.Result.{IsErr}
@@ -26,7 +26,6 @@ failed_then a b s s' s'' first then =
     let same : s'.faults ≡ s.faults = ap (λ t. t.faults) first in
     record {
       held = then.held ∙ ap (λ t. at_back t.held b) first ∙ at_back_twice s.held a b;
-      counts = omega (arith, same, then.counts);
       rose = subst (λ f. Rose f s''.faults) same then.rose;
     }
 
