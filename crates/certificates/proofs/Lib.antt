@@ -1,4 +1,5 @@
 pub mod CertificateLines
 pub mod CertificateRead
 pub mod CertificateWritten
+pub mod Formed
 pub mod WrittenCertificates

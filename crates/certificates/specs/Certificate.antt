@@ -1,5 +1,5 @@
 -- What a certificate in memory stands for.
-use Rattle.std.specs.Prelude.{◌≡◌, ℕ, Option, None, Some, length}
+use Rattle.std.specs.Prelude.{◌≡◌, ℕ, Option, None, Some, IfSome, length}
 use Rattle.row_space.specs.Factors as plain
 use Rattle.sparse_rows.specs.Rows.{ResidueMatrix}
 use Rattle.certificates.specs.declared.certificate.CertKind.{CertKind}
@@ -28,6 +28,12 @@ HasExtra p Rank None = Unit {0}
 HasExtra p Rref (Some E) = E.modulus ≡ p
 HasExtra p Kernel (Some K) = K.modulus ≡ p
 HasExtra _ _ _ = ⊥
+
+-- all its matrices are of residues modulo p
+pub record AreModulo (p : ℕ) (c : Certificate) : Type 0 where
+  pub left : c.l.modulus ≡ p
+  pub right : c.u.modulus ≡ p
+  pub extra : IfSome c.extra (λ E. E.modulus ≡ p)
 
 -- the rank is the number of pivots, the matrices are of residues modulo p, and they are those that the kind wants
 pub record IsFormed (p : ℕ) (c : Certificate) : Type 0 where

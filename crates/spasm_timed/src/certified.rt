@@ -1,6 +1,6 @@
 // A certificate of the rank, made and checked.
 ghost use Rattle.std.specs.Prelude.{◌≤◌, IfOk};
-ghost use Rattle.certificates.specs.Certificate.{IsFormed};
+ghost use Rattle.certificates.specs.Certificate.{AreModulo};
 ghost use Rattle.pluq_factor.specs.Rounds.{AreFactorsOf};
 
 use crate::texts::{PRIME, matrix};
@@ -80,7 +80,7 @@ fn made<R: Threads + Sync + Clock>(
     plan: Plan,
 ) -> io::Result<(Certificate, u128)>
     requires some { 1 ≤ plan.workers }
-    ensures { IfOk result (λ t. IsFormed rows.now.modulus t.0) }
+    ensures { IfOk result (λ t. AreModulo rows.now.modulus t.0) }
 {
     let start = Instant::now(rt)?;
     let factors = factor(rt, alloc, rows, plan, &Open)?;
@@ -91,7 +91,7 @@ fn made<R: Threads + Sync + Clock>(
 // The certificate of the rank by these factors.
 fn of_rank(rows: &Rows, factors: Factors) -> Certificate
     requires { AreFactorsOf rows.now.modulus rows.now.matrix factors }
-    ensures { IsFormed rows.now.modulus result }
+    ensures { AreModulo rows.now.modulus result }
 {
     // The call's contract tells that the height fits a word.
     let _ = rows.height();
@@ -114,7 +114,7 @@ fn checked<R: Clock>(
     rows: &Rows,
     certificate: &Certificate,
 ) -> io::Result<(bool, u128)>
-    requires { IsFormed rows.now.modulus certificate.now }
+    requires { AreModulo rows.now.modulus certificate.now }
 {
     let start = Instant::now(rt)?;
     let valid = check(alloc, rows, certificate)?;

@@ -1,6 +1,6 @@
 // Certificates of small matrices modulo 7, and of huge ones that are almost empty.
 ghost use Rattle.std.specs.Prelude.{◌≡◌, IfOk};
-ghost use Rattle.certificates.specs.Certificate.{IsFormed};
+ghost use Rattle.certificates.specs.Certificate.{AreModulo};
 
 use cert_checker::check;
 use certificates::{CertKind, Certificate};
@@ -275,7 +275,7 @@ fn built(alloc: Global, table: &Table) -> Result<Rows, Fail>
 
 // The certificate, with as many pivots as its rank is.
 fn certificate(alloc: Global, case: &Case) -> Result<Certificate, Fail>
-    ensures { IfOk result (IsFormed 7) }
+    ensures { IfOk result (AreModulo 7) }
 {
     let mut pivots = List::new(alloc);
     let mut rank = 0;
@@ -302,11 +302,20 @@ fn certificate(alloc: Global, case: &Case) -> Result<Certificate, Fail>
     })
 }
 
-// Whether the certificate of a case is judged as is known.
+// Whether the certificate of a case is judged as is known, and refused with another rank, and with a kind that its parts don't fit.
 fn is_judged(alloc: Global, case: &Case) -> Result<bool, Fail> {
     let a = built(alloc, &case.a)?;
-    let certificate = certificate(alloc, case)?;
-    Ok(check(alloc, &a, &certificate)? == case.valid)
+    let mut certificate = certificate(alloc, case)?;
+    let is_right = check(alloc, &a, &certificate)? == case.valid;
+    certificate.rank ^= 1;
+    let has_any_rank = check(alloc, &a, &certificate)?;
+    certificate.rank ^= 1;
+    certificate.kind = match certificate.kind {
+        CertKind::Rank => CertKind::Rref,
+        CertKind::Rref | CertKind::Kernel => CertKind::Rank,
+    };
+    let has_any_kind = check(alloc, &a, &certificate)?;
+    Ok(is_right && !has_any_rank && !has_any_kind)
 }
 
 #[test]
