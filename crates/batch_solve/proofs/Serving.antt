@@ -314,8 +314,13 @@ parts i v items views k at =
 
 -- what the rule says of the takers together
 
-pub shares_none : (count : ℕ) (items : List Slip) (views : List Hand) → IsServed count items views → (i j n : ℕ) → Took views i n → Took views j n → i ≡ j
-shares_none count items views s i j n a b = let one = s.once n (s.below i n a) in one.alone i a ∙ sym (one.alone j b)
+pub shares_none : (items : List Slip) (views : List Hand) → KeepsDesk items views → (i j n : ℕ) → Took views i n → Took views j n → i ≡ j
+shares_none items views kept i j n a b =
+    let s = kept.served in
+    let one = s.once n (s.below i n a) in one.alone i a ∙ sym (one.alone j b)
 
-pub leaves_none : (count : ℕ) (items : List Slip) (views : List Hand) → IsServed count items views → (i : ℕ) (v : Hand) → get_elem? views i ≡ some v → v.drained ≡ true → (n : ℕ) → n < count → StandsOnce views n
-leaves_none count items views s i v at d n l = s.once n (let z = s.drained i v at d in let a = s.suffix in omega arith)
+pub leaves_none : (items : List Slip) (views : List Hand) → KeepsDesk items views → (i : ℕ) (v : Hand) → get_elem? views i ≡ some v → v.drained ≡ true → (n : ℕ) → n < v.count →
+    StandsOnce views n
+leaves_none items views kept i v at d n l =
+    let s = kept.served in
+    s.once n (let z = s.drained i v at d in let a = s.suffix in let c = kept.counts i v at in omega arith)
