@@ -89,8 +89,9 @@ impl<'a> Triangle<'a> {
         }
     }
 
-    /// Reduces the row that stands in these columns and values by the pivots to these rows, whose memory serves again: it is the
-    /// coefficients times the pivot rows and a rest, which is 0 in all pivotal columns. For a prime modulus the rest is the Schur row.
+    /// Reduces the row that stands in these columns and values by the pivots to these rows, whose memory serves again. For a prime
+    /// modulus it is the coefficients times the pivot rows and a rest, the Schur row, which is 0 in all pivotal columns. For
+    /// others both rows are residues of the right sizes.
     ///
     /// The time is that of the entries of the pivot rows that are used, and a step for each 4096 columns in which some pivot
     /// row has an entry.
