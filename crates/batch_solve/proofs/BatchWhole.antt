@@ -16,7 +16,7 @@ use Rattle.sms_text.proofs.Moving.{draws_none, draws_with}
 use Rattle.kernel_solve.specs.declared.prepared.Reply.{Reply}
 use Rattle.spasm_run.specs.Contents.{Contents, matrices_alone}
 use Rattle.spasm_run.specs.Input.{HasContents, Input, WasRead, supply_behind}
-use Rattle.spasm_run.specs.Ran.{Run, whole_input}
+use Rattle.spasm_run.specs.Ran.{IsEither, Run, whole_input}
 use Rattle.spasm_run.proofs.Input.{from_start, untaken}
 use Rattle.spasm_run.proofs.Outcomes.{Answered, Endings, Faulty, Outcome, Refused, Wanting, answers_whole, contents_of_all, fault_of_all, names_fault, refuses_shape, run_between}
 use Rattle.batch_solve.specs.declared.batch_status.BatchStatus.{BatchStatus}
@@ -24,7 +24,7 @@ use Rattle.batch_solve.specs.declared.batch_status.BatchStatus.TheVariants as st
 use Rattle.batch_solve.specs.declared.batch_words.BatchCommand.{BatchCommand}
 use Rattle.batch_solve.specs.BatchAnswers.{batch_misfit}
 use Rattle.batch_solve.specs.BatchFound.{AreFoundIn, ComesOfBatch, WereFound, is_batch_unread, replies_text}
-use Rattle.batch_solve.specs.BatchRan.{AreTooFewForBatch, BatchRan, ExplainsBatch, HasBatchAnswer, HasNoBatchAnswer, IsBatchAnswered, IsBatchMisfit, IsBatchOffered, IsThisOrMemory, batch_request}
+use Rattle.batch_solve.specs.BatchRan.{AreTooFewForBatch, BatchRan, ExplainsBatch, HasBatchAnswer, HasNoBatchAnswer, IsBatchAnswered, IsBatchMisfit, IsBatchOffered, batch_request}
 use Rattle.batch_solve.specs.BatchStatus.{batch_status_of, is_read_fault}
 use Rattle.batch_solve.specs.BatchWords.{AcceptedBatch, AskForNoBatch}
 use Rattle.batch_solve.proofs.BatchOptions.{one_batch}
@@ -167,7 +167,7 @@ module _ (r : Run) (input : Input) where
     outcome (status.Wide h w) takes cause = misfit_outcome (status.Wide h w) cause.0.0 takes cause.0.1 cause.0.2
 
   -- words that ask for no batch
-  refuses_words : (s : BatchStatus) → ExplainsBatch r input s → AskForNoBatch r.words → IsThisOrMemory status.Usage s
+  refuses_words : (s : BatchStatus) → ExplainsBatch r input s → AskForNoBatch r.words → IsEither status.Usage status.Memory s
   refuses_words status.Done cause refused = absurd (refused cause.1.0 cause.1.1)
   refuses_words status.Usage cause refused = inl refl
   refuses_words (status.BadText line k) cause refused = absurd (refused cause.0.0 cause.0.1)

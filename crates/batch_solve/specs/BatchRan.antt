@@ -7,7 +7,7 @@ use Rattle.sms_text.specs.Stream.{Gained, GainedAndFailed, Rose}
 use Rattle.sms_text.specs.Text.{FirstFault, Header, Request, Short, reading}
 use Rattle.spasm_run.specs.Contents.{Contents}
 use Rattle.spasm_run.specs.Input.{HasContents, Input, supply_behind}
-use Rattle.spasm_run.specs.Ran.{Run, whole_input}
+use Rattle.spasm_run.specs.Ran.{IsEither, Run, whole_input}
 use Rattle.batch_solve.specs.declared.batch_status.BatchStatus.{BatchStatus}
 use Rattle.batch_solve.specs.declared.batch_status.BatchStatus.TheVariants as status
 use Rattle.batch_solve.specs.declared.batch_words.BatchCommand.{BatchCommand}
@@ -77,10 +77,6 @@ abbrev pub AreTooFewForBatch : List (List ℕ) → ℕ → List ℕ → Type 0
 AreTooFewForBatch words limit bytes =
     (c : BatchCommand) × AcceptedBatch words c × IsShort (batch_request c limit) bytes
 
--- this is the status, or memory was wanted
-abbrev pub IsThisOrMemory : BatchStatus → BatchStatus → Type 0
-IsThisOrMemory wanted s = (s ≡ wanted) ⊎ (s ≡ status.Memory)
-
 -- the words ask for this batch, and the source, which did not fail, told that these bytes are left in it
 pub record IsBatchOffered (r : Run) (c : BatchCommand) (bytes : List ℕ) : Type 0 where
   pub accepted : AcceptedBatch r.words c
@@ -90,14 +86,14 @@ pub record IsBatchOffered (r : Run) (c : BatchCommand) (bytes : List ℕ) : Type
 -- What a batch comes to if memory isn't wanted: words that aren't accepted are refused; of a whole input the first fault is named, what
 -- doesn't fit is refused, and what fits is answered, unless the output fails.
 pub record CompletesBatch (r : Run) (s : BatchStatus) : Type 0 where
-  pub usage : AskForNoBatch r.words → IsThisOrMemory status.Usage s
+  pub usage : AskForNoBatch r.words → IsEither status.Usage status.Memory s
   pub fault : (c : BatchCommand) (bytes : List ℕ) (line : ℕ) (k : Kind) → IsBatchOffered r c bytes →
-      FirstFault (batch_request c r.limit) bytes true line k → IsThisOrMemory (status.BadText line k) s
+      FirstFault (batch_request c r.limit) bytes true line k → IsEither (status.BadText line k) status.Memory s
   pub shape : (c : BatchCommand) (bytes : List ℕ) (t : BatchStatus) → IsBatchOffered r c bytes →
-      IsBatchMisfit c r.limit (whole_input bytes) t → IsThisOrMemory t s
+      IsBatchMisfit c r.limit (whole_input bytes) t → IsEither t status.Memory s
   pub done : (c : BatchCommand) (bytes : List ℕ) (said : Contents) → IsBatchOffered r c bytes →
       HasContents (batch_request c r.limit) (whole_input bytes) said → batch_misfit said.matrices ≡ None →
-      ¬ Rose r.out.faults r.out_after.faults → IsThisOrMemory status.Done s
+      ¬ Rose r.out.faults r.out_after.faults → IsEither status.Done status.Memory s
 
 -- What a batch did: it took this input from the source, which failed only where the status says so, and needed the last pull of it;
 -- its status has a cause; and it came to what it had to.

@@ -49,7 +49,7 @@ selected A workers first all qs leftmost begins maximal order greedy = record {
       let same : found.0 ≡ pair r c = ap₂ pair row found.2 in
       let member : Contains all found.0 = subst (λ (x : List Pair). Contains x found.0) (sym begins.1) (Contains-append_left first begins.0 found.0 found.1) in
       subst (Contains qs) same ((order.members found.0).1 member);
-  alone = λ one. (first, all, leftmost, greedy one, order);
+  one_worker = λ one. (first, all, leftmost, greedy one, order);
 }
 
 -- ---- rows that are tried in order leave one list

@@ -18,4 +18,4 @@ pub record Selected (A : Matrix) (workers : ℕ) (qs : List Pair) : Type 0 where
   pub triangular : Triangular A qs
   pub maximal : Maximal A qs
   pub leftmost : (r c : ℕ) → IsSparsest A r c → Contains qs (pair r c)
-  pub alone : workers ≡ 1 → IsGreedySelection A qs
+  pub one_worker : workers ≡ 1 → IsGreedySelection A qs

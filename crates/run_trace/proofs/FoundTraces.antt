@@ -39,7 +39,7 @@ traced p A workers t first all versions modulus history given grown maximal left
       leftmost = leftmost;
       begins = subst (λ (h : List Pair). StartsWith h first) (sym history) begins;
       versions = each;
-      alone = λ one. (
+      one_worker = λ one. (
         subst (IsGreedy A first) (sym history) (greedy one),
         subst (λ n. AreOwnPlaces n (versions_of list)) long (subst (AreOwnPlaces (length all)) (sym given) (places one)),
       );

@@ -44,4 +44,4 @@ pub record IsTraceOf (p : ℕ) (A : Matrix) (workers : ℕ) (t : Trace) : Type 0
   pub leftmost : IsLeftmost A first
   pub begins : StartsWith (history_of t.publications) first
   pub versions : TellsStarts A first (history_of t.publications) (versions_of t.publications)
-  pub alone : workers ≡ 1 → IsGreedyTrace A first t.publications
+  pub one_worker : workers ≡ 1 → IsGreedyTrace A first t.publications

@@ -14,7 +14,8 @@ use Rattle.spasm_run.specs.declared.words.Command.{Command}
 use Rattle.spasm_run.specs.declared.words.Task.{Task}
 use Rattle.spasm_run.specs.Contents.{HasLawfulTrace, IsCertified}
 use Rattle.spasm_run.specs.Generator.{generated, summary_of}
-use Rattle.spasm_run.specs.Answers.{AnswerTo, AnswersScript, InvertsTo, IsOneAnswer, MatricesAnswer, VerdictOn, as_row, pivots_text, rank_text}
+use Rattle.grow_form.specs.Scripts.{rank_line}
+use Rattle.spasm_run.specs.Answers.{AnswerTo, AnswersScript, InvertsTo, IsOneAnswer, MatricesAnswer, VerdictOn, as_row, pivots_text}
 use Rattle.spasm_run.proofs.OneSelection.{selection_one}
 use Rattle.spasm_run.proofs.Solving.{one_solution}
 use Rattle.spasm_laws.proofs.OneTrace.{trace_one}
@@ -40,7 +41,7 @@ one_verdict Claim x y (inr s) (inr t) = s.1 ∙ sym t.1
 
 answers_one : (t : Task) (c : Command) (values : List Matrix) (x y : List ℕ) → 2 ≤ c.modulus → ((t ≡ task.Pivots) ⊎ (t ≡ task.Trace) → c.workers ≡ 1) → ((k : CertKind) → t ≢ task.Certify k) →
     MatricesAnswer t c values x → MatricesAnswer t c values y → x ≡ y
-answers_one task.Rank c (A ∷ []) x y two alone other (r, s, a) (q, t, b) = a ∙ ap rank_text (rank_unique c.modulus A r q two s t) ∙ sym b
+answers_one task.Rank c (A ∷ []) x y two alone other (r, s, a) (q, t, b) = a ∙ ap rank_line (rank_unique c.modulus A r q two s t) ∙ sym b
 answers_one task.Rref c (A ∷ []) x y two alone other (E, s, a) (F, t, b) = one_kernel c.modulus A E F x y (rref_unique c.modulus A E F two s t) a b
 answers_one task.Kernel c (A ∷ []) x y two alone other (K, s, a) (L, t, b) = one_kernel c.modulus A K L x y (kernel_unique c.modulus A K L two s t) a b
 answers_one task.Solve c (A ∷ B ∷ []) x y two alone other s t = one_solution c.modulus A (column B) x y two s t
@@ -49,7 +50,7 @@ answers_one task.LeftKernel c (A ∷ []) x y two alone other (K, s, a) (L, t, b)
 answers_one task.Inverse c (A ∷ []) x y two alone other s t = one_inverse c.modulus A x y two s t
 answers_one task.Pivots c (A ∷ []) x y two alone other (qs, s, a) (rs, t, b) =
     let one : c.workers ≡ 1 = alone (inl refl) in
-    a ∙ ap pivots_text (selection_one A qs rs (s.alone one) (t.alone one)) ∙ sym b
+    a ∙ ap pivots_text (selection_one A qs rs (s.one_worker one) (t.one_worker one)) ∙ sym b
 answers_one task.Trace c (A ∷ []) x y two alone other (s, is, a) (t, are, b) = a ∙ trace_one c.modulus A c.workers s t (alone (inr refl)) is are ∙ sym b
 answers_one (task.Drill g) c [] x y two alone other (E, s, a) (F, t, b) =
     a ∙ ap (summary_of c.modulus) (rref_unique c.modulus (generated c.modulus g) E F two s t) ∙ sym b

@@ -37,8 +37,8 @@ published_one (x ∷ l) (y ∷ m) h v =
 pub trace_one : (p : ℕ) (A : Matrix) (workers : ℕ) (s t : Trace) → workers ≡ 1 → IsTraceOf p A workers s → IsTraceOf p A workers t →
     trace_text s.p s.publications ≡ trace_text t.p t.publications
 trace_one p A workers s t one a b =
-    let g = a.alone one in
-    let h = b.alone one in
+    let g = a.one_worker one in
+    let h = b.one_worker one in
     let start : b.first ≡ a.first = leftmost_one A b.first a.first b.leftmost a.leftmost in
     let greedy : IsGreedy A a.first (history_of t.publications) = subst (λ f. IsGreedy A f (history_of t.publications)) start h.0 in
     let pairs : history_of s.publications ≡ history_of t.publications = greedy_one A a.first (history_of s.publications) (history_of t.publications) g.0 greedy in

@@ -24,7 +24,7 @@ use Rattle.spasm_run.specs.Answers.{EndsWith, misfit, wanted}
 use Rattle.spasm_run.specs.Contents.{Contents, matrices_alone}
 use Rattle.spasm_run.specs.Computed.{ComesOf, ComesOfContents, IsFoundIn, WasFound, answer_text, asking, is_unread_in, status_behind}
 use Rattle.spasm_run.specs.Input.{HasContents, Input, WasRead, supply_behind}
-use Rattle.spasm_run.specs.Ran.{AreTooFew, HasAnswer, Explains, HasNoAnswer, HasWritten, IsAnswered, IsMisfit, IsOffered, IsOrMemory, Ran, Run, request, whole_input}
+use Rattle.spasm_run.specs.Ran.{AreTooFew, HasAnswer, Explains, HasNoAnswer, HasWritten, IsAnswered, IsEither, IsMisfit, IsOffered, Ran, Run, request, whole_input}
 use Rattle.spasm_run.specs.Status.{is_unread, is_written, status_of}
 use Rattle.spasm_run.specs.Words.{Accepted, AreRefused}
 use Rattle.spasm_run.proofs.Exact.{one_command}
@@ -214,7 +214,7 @@ module _ (r : Run) (input : Input) where
     outcome (status.Wide h w) takes cause = misfit_outcome (status.Wide h w) cause.0.0 takes cause.0.1 cause.0.2
 
   -- words that no command accepts
-  refuses_words : (s : Status) → Explains r input s → AreRefused r.words → IsOrMemory status.Usage s
+  refuses_words : (s : Status) → Explains r input s → AreRefused r.words → IsEither status.Usage status.Memory s
   refuses_words status.Done cause refused = absurd (refused cause.1.0 cause.1.1)
   refuses_words status.No cause refused = absurd (refused cause.1.0 cause.1.1)
   refuses_words status.Usage cause refused = inl refl

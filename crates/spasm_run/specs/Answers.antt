@@ -19,7 +19,7 @@ use Rattle.sparse_rows.specs.Rows.{transposed}
 use Rattle.pluq_factor.specs.Staged.{Staged}
 use Rattle.certificates.specs.declared.certificate.CertKind.{CertKind}
 use Rattle.certificates.specs.CertificateText.{certificate_text, claim_word, kind_word}
-use Rattle.grow_form.specs.Scripts.{AnswersLines}
+use Rattle.grow_form.specs.Scripts.{AnswersLines, rank_line}
 use Rattle.spasm_run.specs.declared.commands.TheConstants.{LARGEST_INVERTED}
 use Rattle.spasm_run.specs.declared.status.Status.{Status}
 use Rattle.spasm_run.specs.declared.status.Status.TheVariants.{Done, No, Shape, Wide}
@@ -51,9 +51,6 @@ misfit Inverse (A ∷ []) =
     if not (A.height == A.width) then Some (Shape A.height A.width) else
     if nat_lt LARGEST_INVERTED A.height then Some (Wide A.height A.width) else None
 misfit task values = None
-
-abbrev pub rank_text : ℕ → List ℕ
-rank_text r = codes "rank " ++ decimal r ++ 10 ∷ []
 
 -- the matrix of one row with these entries
 abbrev pub as_row : List ℕ → Matrix
@@ -89,7 +86,7 @@ TracesTo c A text = (t : run.Trace) × IsTraceOf c.modulus A c.workers t
 
 -- the text is the answer to the task of this command, which reads matrices alone, for these matrices
 abbrev pub MatricesAnswer : Task → Command → List Matrix → List ℕ → Type 0
-MatricesAnswer Rank c (A ∷ []) text = (r : ℕ) × HasRank c.modulus A r × (text ≡ rank_text r)
+MatricesAnswer Rank c (A ∷ []) text = (r : ℕ) × HasRank c.modulus A r × (text ≡ rank_line r)
 MatricesAnswer Rref c (A ∷ []) text = (E : Matrix) × IsRref c.modulus A E × (text ≡ text_of E)
 MatricesAnswer Kernel c (A ∷ []) text = (K : Matrix) × IsKernel c.modulus A K × (text ≡ text_of K)
 MatricesAnswer Solve c (A ∷ B ∷ []) text = SolvesTo c.modulus A (column B) text

@@ -8,14 +8,14 @@ use Rattle.sparse_rows.specs.declared.rows.TheConstants.{LARGEST_SIZE}
 use Rattle.sms_text.specs.Reading.{Draws, untouched}
 use Rattle.sms_text.specs.Stream.{SourceState}
 use Rattle.sms_text.specs.Written.{IsSmallPlace, text_of}
-use Rattle.grow_form.specs.Scripts.{AnswerFitsText, answers_text}
+use Rattle.grow_form.specs.Scripts.{AnswerFitsText, answers_text, rank_line}
 use Rattle.spasm_run.specs.declared.answer.Answer.{Answer}
 use Rattle.spasm_run.specs.declared.answer.Answer.TheVariants as answer
 use Rattle.spasm_run.specs.declared.status.Status.{Status}
 use Rattle.spasm_run.specs.declared.status.Status.TheVariants as status
 use Rattle.spasm_run.specs.declared.words.Command.{Command}
 use Rattle.spasm_run.specs.declared.words.Task.{Task}
-use Rattle.spasm_run.specs.Answers.{AnswerOf, EndsWith, RestsOn, misfit, pivots_text, rank_text}
+use Rattle.spasm_run.specs.Answers.{AnswerOf, EndsWith, RestsOn, misfit, pivots_text}
 use Rattle.spasm_run.specs.Contents.{Contents, matrices_alone}
 use Rattle.spasm_run.specs.declared.words.Task.TheVariants as task
 use Rattle.spasm_run.specs.Generator.{HasSizesInRange, summary_text}
@@ -26,7 +26,7 @@ use Rattle.spasm_run.specs.Status.{is_unread}
 
 -- the text of an answer
 abbrev pub answer_text : Answer → List ℕ
-answer_text (answer.Rank r) = rank_text r
+answer_text (answer.Rank r) = rank_line r
 answer_text (answer.Matrix A) = text_of A.matrix
 answer_text (answer.Solution x) = codes "solution\n" ++ text_of x.matrix
 answer_text (answer.Refutation y) = codes "no solution\n" ++ text_of y.matrix

@@ -84,9 +84,9 @@ Explains r input s = HasNoAnswer r.words r.limit input s × (r.out_after ≡ r.o
 abbrev pub AreTooFew : List (List ℕ) → ℕ → List ℕ → Type 0
 AreTooFew words limit bytes = (c : Command) × Accepted words c × IsShort (request c limit) bytes
 
--- this is the status, or memory was wanted
-abbrev pub IsOrMemory : Status → Status → Type 0
-IsOrMemory wanted s = (s ≡ wanted) ⊎ (s ≡ status.Memory)
+-- the status is one of these
+abbrev pub IsEither : {S : Type 0} → S → S → S → Type 0
+IsEither one other s = (s ≡ one) ⊎ (s ≡ other)
 
 -- this is the status of a run that wrote its answer, or memory was wanted
 abbrev pub EndsOrMemory : Command → Contents → Status → Type 0
@@ -106,11 +106,11 @@ whole_input bytes = record { bytes = bytes; ended = true }
 -- of wrong shapes are refused, and what fits is answered, unless the output fails: with Done, or with No for a certificate that isn't valid
 -- or a trace that isn't lawful.
 pub record Completes (r : Run) (s : Status) : Type 0 where
-  pub usage : AreRefused r.words → IsOrMemory status.Usage s
+  pub usage : AreRefused r.words → IsEither status.Usage status.Memory s
   pub fault : (c : Command) (bytes : List ℕ) (line : ℕ) (k : Kind) → IsOffered r c bytes →
-      FirstFault (request c r.limit) bytes true line k → IsOrMemory (status.BadText line k) s
+      FirstFault (request c r.limit) bytes true line k → IsEither (status.BadText line k) status.Memory s
   pub shape : (c : Command) (bytes : List ℕ) (t : Status) → IsOffered r c bytes →
-      IsMisfit c r.limit (whole_input bytes) t → IsOrMemory t s
+      IsMisfit c r.limit (whole_input bytes) t → IsEither t status.Memory s
   pub done : (c : Command) (bytes : List ℕ) (said : Contents) → IsOffered r c bytes →
       HasContents (request c r.limit) (whole_input bytes) said → misfit c.task said.matrices ≡ None →
       ¬ Rose r.out.faults r.out_after.faults → EndsOrMemory c said s

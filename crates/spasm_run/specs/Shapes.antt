@@ -6,10 +6,9 @@ use Rattle.certificates.specs.declared.certificate.Certificate.{Certificate}
 use Rattle.certificates.specs.Certificate.{IsFormed, certificate_of}
 use Rattle.certificates.specs.CertificateText.{HasText, certificate_text}
 use Rattle.grow_form.specs.declared.answering.Answer as grow
-use Rattle.grow_form.specs.Scripts.{AnswerFitsText, answers_text}
+use Rattle.grow_form.specs.Scripts.{AnswerFitsText, answers_text, rank_line}
 use Rattle.spasm_run.specs.declared.words.Task.{Task}
 use Rattle.spasm_run.specs.declared.words.Task.TheVariants.{Rank, Rref, Kernel, Solve, LeftKernel, Inverse, Pivots, Check, Trace, Replay, Grow, Drill, Certify}
-use Rattle.spasm_run.specs.Answers.{rank_text}
 use Rattle.spasm_run.specs.Generator.{summary_of}
 
 -- residues modulo p in n columns and at most n rows: echelon forms and kernel bases have no more
@@ -28,7 +27,7 @@ IsTitledText p title h w text =
 -- The text has the shape of an answer to this task modulo p for these matrices, whatever it tells of them. Nothing more is said of the
 -- pivots, traces and verdicts, which are right for every modulus.
 abbrev pub HasAnswerShape : Task → ℕ → List Matrix → List ℕ → Type 0
-HasAnswerShape Rank p (A ∷ []) text = (r : ℕ) × (r ≤ A.height) × (r ≤ A.width) × (text ≡ rank_text r)
+HasAnswerShape Rank p (A ∷ []) text = (r : ℕ) × (r ≤ A.height) × (r ≤ A.width) × (text ≡ rank_line r)
 HasAnswerShape Rref p (A ∷ []) text = IsTextOfColumns p A.width text
 HasAnswerShape Kernel p (A ∷ []) text = IsTextOfColumns p A.width text
 HasAnswerShape LeftKernel p (A ∷ []) text = IsTextOfColumns p A.height text

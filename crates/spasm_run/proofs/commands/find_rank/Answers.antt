@@ -1,6 +1,6 @@
 -- The rank is the answer.
 use Rattle.std.proofs.Common.{ap, arith, refl}
-use Rattle.spasm_run.specs.Answers.{rank_text}
+use Rattle.grow_form.specs.Scripts.{rank_line}
 use Rattle.spasm_run.proofs.commands.find_rank.Goals as goal
 
 pub returns : goal.returns
@@ -11,5 +11,5 @@ returns g c =
       fits = refl;
       ends = refl;
       shape = (c.from.result, omega (arith, same, rank.ensures.at_most_height), omega (arith, same, rank.ensures.at_most_width), refl);
-      answers = λ prime. (rank.rank, rank.ensures.rank prime, ap rank_text same);
+      answers = λ prime. (rank.rank, rank.ensures.rank prime, ap rank_line same);
     }
