@@ -1,5 +1,5 @@
 -- What a batch did: each status with its cause, and what it comes to on a whole input.
-use Rattle.std.specs.Prelude.{◌≡◌, ◌+◌, ◌⊎◌, true, ℕ, List, ◌++◌, Some, None, replicate}
+use Rattle.std.specs.Prelude.{◌≡◌, ◌+◌, true, ℕ, List, ◌++◌, Some, None, replicate}
 use Rattle.residue_words.specs.Residues.{IsPrime}
 use Rattle.sms_text.specs.declared.kind.Kind.{Kind}
 use Rattle.sms_text.specs.Reading.{Draws, IsShort, untouched}

@@ -13,7 +13,7 @@ use Rattle.dense_finish.specs.Factors.{IsRightFactored}
 use Rattle.dense_finish.specs.declared.right_factor.RightFactor.{RightFactor}
 use Rattle.echelon_form.specs.Form.{Form, IsFormOf}
 use Rattle.schur_rows.specs.Round.{FitsComplement, pivot_rows}
-use Rattle.schur_rows.specs.Streamed.{IsBasisLeft}
+use Rattle.schur_rows.specs.Streamed.{IsRestBasis}
 use Rattle.schur_rows.proofs.FactorRows.{factor_rows_independent, factor_rows_span}
 use Rattle.schur_rows.proofs.Spanning.{round_spanned}
 use Rattle.pluq_factor.specs.Basis.{IsBasis}
@@ -98,7 +98,7 @@ rest_complement {r} {t} {B} same fits left = subst (λ t. IsRestOf t (record { r
   span = λ prime. (B.matrix, left prime, λ v. ((λ y. y), (λ y. y)));
 })
 
-pub rest_basis : {r t : TriangleState} {U : ResidueMatrix} → r ≡ t → IsBasisLeft r U → IsRestOf t (record { rows = U; is_basis = true })
+pub rest_basis : {r t : TriangleState} {U : ResidueMatrix} → r ≡ t → IsRestBasis r U → IsRestOf t (record { rows = U; is_basis = true })
 rest_basis {r} {t} {U} same h = subst (λ t. IsRestOf t (record { rows = U; is_basis = true })) same (record { modulus = h.fits.modulus; width = h.fits.width; independent = λ e. h.independent; span = h.span })
 
 -- what is left has the modulus and the width of the pivots' rows

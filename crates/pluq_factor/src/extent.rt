@@ -1,6 +1,6 @@
 // How large a dense block a matrix would make, and what decides between a round, a stored rest, a block and a basis.
 use crate::plan::has_few_entries;
-use schur_rows::{RowReducer, mean_left};
+use schur_rows::{RowReducer, mean_rest};
 use sparse_rows::Rows;
 use std::alloc::{AllocError, Global};
 
@@ -54,7 +54,7 @@ impl Extent {
         let pivots = reducer.pairs().len();
         let height = rows.filled(alloc)?.len().saturating_sub(pivots) as u64;
         let width = rows.occupied(alloc)?.len().saturating_sub(pivots) as u64;
-        let mean = mean_left(alloc, reducer, SAMPLES)?;
+        let mean = mean_rest(alloc, reducer, SAMPLES)?;
         let stored = mean.saturating_mul(height);
         let basis = width.saturating_mul(width);
         let is_smaller = basis.saturating_mul(BASIS_BYTES) <= stored.saturating_mul(ENTRY_BYTES);

@@ -11,7 +11,7 @@ use crate::extent::Extent;
 use crate::plan::{FewPivots, all_pivots, few_pivots, rows_of, select_pivots};
 use optimistic_search::Gate;
 use pivot_table::Pair;
-use schur_rows::{RowReducer, SchurRows, complement, left_basis, schur};
+use schur_rows::{RowReducer, SchurRows, complement, rest_basis, schur};
 use sparse_rows::{List, Rows};
 use std::alloc::{AllocError, Global};
 use std::thread::Threads;
@@ -174,7 +174,7 @@ fn basis_rest<C: Eliminating>(
     requires some { 1 ≤ workers }
     ensures { IfOk result (IsRestOf reducer.now) }
 {
-    let rows = left_basis(crew, alloc, reducer, workers)?;
+    let rows = rest_basis(crew, alloc, reducer, workers)?;
     Ok(Rest {
         rows,
         is_basis: true,
@@ -280,7 +280,7 @@ fn count_left<C: Eliminating>(
     let width = rows.width();
     let most = height.min(width);
     let count = reducer.pairs().len() as u32;
-    let left = left_basis(crew, alloc, reducer, workers)?.height();
+    let left = rest_basis(crew, alloc, reducer, workers)?.height();
     let mut rest = Rows::with_room(alloc, rows.modulus(), width, 0, 0)?;
     rest.append_zeros(height)?;
     // Less only if the modulus isn't prime.

@@ -17,7 +17,7 @@ use Rattle.dense_finish.specs.Factors.{IsFactored, IsRightFactored}
 use Rattle.dense_finish.specs.declared.factors.Factors.{Factors}
 use Rattle.dense_finish.specs.declared.right_factor.RightFactor.{RightFactor}
 use Rattle.schur_rows.specs.Parts.{IsPartTo}
-use Rattle.schur_rows.specs.Streamed.{IsBasisLeft, IsBasisUpTo}
+use Rattle.schur_rows.specs.Streamed.{IsRestBasis, IsBasisUpTo}
 use Rattle.schur_rows.specs.declared.round.SchurRows.{SchurRows}
 use Rattle.schur_rows.proofs.Above.{above_first, above_matrix, above_second, each_of}
 use Rattle.schur_rows.proofs.FactorRows.{factor_rows_independent, factor_rows_span, fit_few}
@@ -131,7 +131,7 @@ basis_more {t} {from} {to} {old} {stacked} {left} {f} h g modulus is factored =
     }
 
 -- of all rows
-pub basis_all : {t : TriangleState} {from : ℕ} {b : ResidueMatrix} → Triangular t.rows.matrix t.pairs → IsBasisUpTo t from b → from ≡ t.rows.matrix.height → IsBasisLeft t b
+pub basis_all : {t : TriangleState} {from : ℕ} {b : ResidueMatrix} → Triangular t.rows.matrix t.pairs → IsBasisUpTo t from b → from ≡ t.rows.matrix.height → IsRestBasis t b
 basis_all {t} {from} {b} tri h all = record {
   fits = record { modulus = h.modulus; matrix = h.matrix; width = h.width; height = omega (arith, h.height) };
   independent = h.independent;
@@ -139,7 +139,7 @@ basis_all {t} {from} {b} tri h all = record {
 }
 
 -- it has as many rows as the rank of what is left
-pub basis_rank : {t : TriangleState} {b : ResidueMatrix} → IsMatrix t.rows.modulus t.rows.matrix → Triangular t.rows.matrix t.pairs → IsBasisLeft t b →
+pub basis_rank : {t : TriangleState} {b : ResidueMatrix} → IsMatrix t.rows.modulus t.rows.matrix → Triangular t.rows.matrix t.pairs → IsRestBasis t b →
     IsPrime t.rows.modulus → HasRank t.rows.modulus t.rows.matrix (length t.pairs + b.matrix.height)
 basis_rank {t} {b} m tri h prime =
     let p : ℕ = t.rows.modulus in

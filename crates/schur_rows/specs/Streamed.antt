@@ -17,7 +17,7 @@ pub record FitsBasis (t : TriangleState) (U : ResidueMatrix) : Type 0 where
   pub height : U.matrix.height ≤ t.rows.matrix.height
 
 -- for a prime modulus they are independent and have the row space of the complement
-pub record IsBasisLeft (t : TriangleState) (U : ResidueMatrix) : Type 0 where
+pub record IsRestBasis (t : TriangleState) (U : ResidueMatrix) : Type 0 where
   pub fits : FitsBasis t U
   pub independent : IsPrime t.rows.modulus → IsIndependent t.rows.modulus U.matrix
   pub span : IsPrime t.rows.modulus → (B : Matrix) × IsComplement t.rows.modulus t.rows.matrix t.pairs B

@@ -23,8 +23,8 @@ ghost use Rattle.schur_rows.specs.Laws.{ComplementIsOne, RoundJoins, RoundRank, 
 pub use dealing::Dealing;
 pub use round::{SchurRows, complement, schur};
 pub use row_reducer::RowReducer;
-pub use sampling::mean_left;
-pub use streamed::{ChunkSize, left_basis, left_basis_by};
+pub use sampling::mean_rest;
+pub use streamed::{ChunkSize, rest_basis, rest_basis_by};
 
 /// A matrix has at most one complement, for a prime modulus.
 pub fn complement_is_one()

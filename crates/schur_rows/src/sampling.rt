@@ -19,7 +19,7 @@ const MOST: u64 = 1 << 24;
 
 /// How many entries the pivots leave of a row, on average of so many rows: these are spread over the matrix, have an entry and are
 /// no pivot's. No clause covers the number.
-pub fn mean_left(alloc: Global, reducer: &RowReducer, samples: u32) -> Result<u64, AllocError>
+pub fn mean_rest(alloc: Global, reducer: &RowReducer, samples: u32) -> Result<u64, AllocError>
     requires { 1 ≤ samples }
 {
     let pivot_rows = PivotNumbers::of(alloc, reducer)?;

@@ -3,7 +3,7 @@ ghost use Rattle.std.specs.Prelude.{◌≡◌, ◌<◌, ◌≤◌, ◌+◌, IfOk
 ghost use Rattle.sparse_rows.specs.declared.rows.TheConstants.{LARGEST_SIZE};
 ghost use Rattle.sparse_rows.specs.Rows.{above};
 ghost use Rattle.schur_rows.specs.PivotNumbers.{HasNumbers};
-ghost use Rattle.schur_rows.specs.Streamed.{IsBasisLeft, IsBasisUpTo};
+ghost use Rattle.schur_rows.specs.Streamed.{IsRestBasis, IsBasisUpTo};
 
 use crate::dealing::Dealing;
 use crate::pass::Pass;
@@ -59,7 +59,7 @@ impl ChunkSize {
 /// and both are eliminated densely (`dense_finish::finish_right`): the right factor is the next basis. The memory is that of a chunk,
 /// of some 2^21 to 2^24 places in the columns that are left. Where these are few a chunk has four times the rows of the basis, so that
 /// eliminating the basis again takes an eighth of the time.
-pub fn left_basis<C: Dealing + Finishing>(
+pub fn rest_basis<C: Dealing + Finishing>(
     crew: &C,
     alloc: Global,
     reducer: &RowReducer,
@@ -67,14 +67,14 @@ pub fn left_basis<C: Dealing + Finishing>(
 ) -> Result<Rows, AllocError>
     requires able { C.can_work }
     requires some { 1 ≤ workers }
-    ensures { IfOk result (IsBasisLeft reducer.now) }
+    ensures { IfOk result (IsRestBasis reducer.now) }
 {
-    left_basis_by(crew, alloc, reducer, workers, CHUNK)
+    rest_basis_by(crew, alloc, reducer, workers, CHUNK)
 }
 
 /// The same, by at least one worker too, in chunks of this size. Larger ones take more memory, 4 bytes a place where the modulus is
 /// below 2^31 and else 8, and eliminate the basis again less often.
-pub fn left_basis_by<C: Dealing + Finishing>(
+pub fn rest_basis_by<C: Dealing + Finishing>(
     crew: &C,
     alloc: Global,
     reducer: &RowReducer,
@@ -83,7 +83,7 @@ pub fn left_basis_by<C: Dealing + Finishing>(
 ) -> Result<Rows, AllocError>
     requires able { C.can_work }
     requires some { 1 ≤ workers }
-    ensures { IfOk result (IsBasisLeft reducer.now) }
+    ensures { IfOk result (IsRestBasis reducer.now) }
 {
     let pivot_rows = PivotNumbers::of(alloc, reducer)?;
     let pass = Pass {
@@ -106,7 +106,7 @@ fn basis_of<C: Dealing + Finishing>(
     requires able { C.can_work }
     requires some { 1 ≤ workers }
     requires numbers { HasNumbers pass.reducer.now.pairs pass.pivot_rows.now }
-    ensures { IfOk result (IsBasisLeft pass.entry.reducer.now) }
+    ensures { IfOk result (IsRestBasis pass.entry.reducer.now) }
 {
     let rows = pass.reducer.rows();
     let height = rows.height();

@@ -11,7 +11,7 @@ use Rattle.sparse_rows.specs.Stored.{spread}
 use Rattle.sparse_rows.proofs.Loops.{length_zeros}
 use Rattle.sparse_rows.proofs.Spread.{length_spread}
 use Rattle.triangular_solve.specs.PivotRows.{ArePivotRows, ArePlaced, ArePivotsReduced, AscendWhereNonzero, IsAlike, IsEliminated, IsEliminating, IsRoom, IsSplitRow, PlacedRows}
-use Rattle.triangular_solve.specs.FlatRows.{IsLeft}
+use Rattle.triangular_solve.specs.FlatRows.{IsFlatRest}
 use Rattle.triangular_solve.specs.Reduced.{FitsRest, IsReduced, IsSchurRow, Workspace}
 use Rattle.triangular_solve.specs.Triangle.{TriangleState}
 use Rattle.triangular_solve.proofs.Accumulating.{as_row}
@@ -104,7 +104,7 @@ triangle_reduces {t} {placed} {n} cs vs {w} {c} P e m r = (
 )
 
 -- and of one of which this is left
-pub triangle_leaves : {t : TriangleState} {placed : PlacedRows} {n : ℕ} (cs vs : List ℕ) {w : ResidueRow} → ArePivotRows t.rows t.pairs placed → n ≡ t.rows.matrix.width → w.modulus ≡ t.rows.modulus → IsLeft placed (spread n cs vs) w.row →
+pub triangle_leaves : {t : TriangleState} {placed : PlacedRows} {n : ℕ} (cs vs : List ℕ) {w : ResidueRow} → ArePivotRows t.rows t.pairs placed → n ≡ t.rows.matrix.width → w.modulus ≡ t.rows.modulus → IsFlatRest placed (spread n cs vs) w.row →
     FitsRest t w × (IsPrime t.rows.modulus → IsSchurRow t.rows.modulus t.rows.matrix t.pairs (spread t.rows.matrix.width cs vs) w.row)
 triangle_leaves {t} {placed} {n} cs vs {w} P e m l = (
   fits,

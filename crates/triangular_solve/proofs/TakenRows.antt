@@ -10,7 +10,7 @@ use Rattle.sparse_rows.specs.Rows.{AreBelow, ResidueRow}
 use Rattle.sparse_rows.specs.Stored.{IsSparse, spread}
 use Rattle.sparse_rows.proofs.Spread.{length_spread}
 use Rattle.triangular_solve.specs.AscendingColumns.{IsPlaceOf}
-use Rattle.triangular_solve.specs.FlatRows.{AreAllFlat, IsFlattened, IsLeft, IsTakenRow, TakesIn}
+use Rattle.triangular_solve.specs.FlatRows.{AreAllFlat, IsFlattened, IsFlatRest, IsTakenRow, TakesIn}
 use Rattle.triangular_solve.specs.PivotRows.{ArePlaced, IsSplitRow, PlacedRows}
 use Rattle.triangular_solve.specs.declared.flat_rows.FlatRows.{FlatRows}
 use Rattle.triangular_solve.proofs.Flattening.{flattened_more, flattened_none}
@@ -61,7 +61,7 @@ taking_all {placed} {cs} {vs} {outer} {s} {k} {n} sparse d le = record {
 }
 
 -- what was taken in, joined with the other entries, is what the pivots leave
-pub left_parts : {placed : PlacedRows} {v s outer rest : List ℕ} → ArePlaced placed → IsTakenRow placed v s outer → IsSplitRow placed.columns rest s outer → IsVector placed.rows.modulus (length v) rest → IsLeft placed v rest
+pub left_parts : {placed : PlacedRows} {v s outer rest : List ℕ} → ArePlaced placed → IsTakenRow placed v s outer → IsSplitRow placed.columns rest s outer → IsVector placed.rows.modulus (length v) rest → IsFlatRest placed v rest
 left_parts {placed} {v} {s} {outer} {rest} P t last vector = record {
   vector = vector;
   zero = λ k l. sym (last.inside k (omega (arith, P.upper.short, P.width))) ∙ t.flattened.zero k l;

@@ -46,7 +46,7 @@ pub record IsFlatTail (placed : PlacedRows) (place : ℕ) (tail : List ℕ) : Ty
       IsCombination placed.rows.modulus placed.rows.matrix (slice_set tail place 1)
 
 -- what is left of v by the pivot rows: 0 in the columns of pivots, and for a prime modulus v less a combination of them
-pub record IsLeft (placed : PlacedRows) (v rest : List ℕ) : Type 0 where
+pub record IsFlatRest (placed : PlacedRows) (v rest : List ℕ) : Type 0 where
   pub vector : IsVector placed.rows.modulus (length v) rest
   pub zero : (k : ℕ) → k < placed.rows.matrix.height → slice_index rest (slice_index placed.columns k) ≡ 0
   pub reduced : IsPrime placed.rows.modulus → (coefficients : List ℕ)

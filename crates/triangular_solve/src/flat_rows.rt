@@ -4,7 +4,7 @@ ghost use Rattle.residue_words.specs.Matrix.{row, zeros};
 ghost use Rattle.sparse_rows.specs.Rows.{AreBelow};
 ghost use Rattle.sparse_rows.specs.Stored.{IsSparse, spread};
 ghost use Rattle.triangular_solve.specs.Accumulator.{IsClear};
-ghost use Rattle.triangular_solve.specs.FlatRows.{AreAllFlat, AreFlat, IsFlatTail, IsLeft, IsTakenRow, TakesIn};
+ghost use Rattle.triangular_solve.specs.FlatRows.{AreAllFlat, AreFlat, IsFlatTail, IsFlatRest, IsTakenRow, TakesIn};
 ghost use Rattle.triangular_solve.specs.PivotRows.{IsAlike, IsRoomFor};
 ghost use Rattle.triangular_solve.specs.Scattered.{IsScattered};
 
@@ -204,7 +204,7 @@ impl FlatRows {
         ensures sums { IsAlike sums.old sums.new }
         ensures passed { IsAlike passed.old passed.new }
         ensures rest { IsAlike rest.old rest.new }
-        ensures left { OnOk result (IsLeft pivots.now (spread (length passed.old.row) cols.now vals.now)
+        ensures left { OnOk result (IsFlatRest pivots.now (spread (length passed.old.row) cols.now vals.now)
             rest.new.row) }
     {
         self.take_row(pivots, cols, vals, sums, passed)?;

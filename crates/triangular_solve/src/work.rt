@@ -5,7 +5,7 @@ ghost use Rattle.sparse_rows.specs.Rows.{AreBelow};
 ghost use Rattle.sparse_rows.specs.Stored.{IsSparse, spread};
 ghost use Rattle.sparse_rows.specs.declared.rows.TheConstants.{LARGEST_SIZE};
 ghost use Rattle.triangular_solve.specs.Accumulator.{IsClear};
-ghost use Rattle.triangular_solve.specs.FlatRows.{AreAllFlat, IsLeft};
+ghost use Rattle.triangular_solve.specs.FlatRows.{AreAllFlat, IsFlatRest};
 ghost use Rattle.triangular_solve.specs.PivotRows.{ArePivotsReduced, IsAlike, IsRoomFor};
 ghost use Rattle.triangular_solve.specs.Reduced.{workspace_of};
 
@@ -145,7 +145,7 @@ impl Work {
         ensures work { self.new ≡ self.old }
         ensures rest { IsAlike rest.old rest.new }
         ensures left { OnOk result
-            (IsLeft pivots.now (spread self.old.width cols.now vals.now) rest.new.row) }
+            (IsFlatRest pivots.now (spread self.old.width cols.now vals.now) rest.new.row) }
     {
         fit(alloc, pivots, &mut self.sums)?;
         let done = flat.rest_by(pivots, cols, vals, &mut self.sums, &mut self.passed, rest);

@@ -5,7 +5,7 @@ use crate::tests::matrices::{have_same_entries, scattered};
 use crew::Threaded;
 use dense_finish::finish;
 use fl_pivots::leftmost;
-use schur_rows::{ChunkSize, RowReducer, complement, left_basis_by};
+use schur_rows::{ChunkSize, RowReducer, complement, rest_basis_by};
 use sparse_rows::Rows;
 use std::alloc::{AllocError, Global};
 use std::test::Fail;
@@ -38,7 +38,7 @@ fn has_basis<R: Threads + Sync>(
     requires some { 1 ≤ workers }
 {
     let size = ChunkSize { rows, places: 1 };
-    let basis = left_basis_by(&Threaded::of(rt), alloc, reducer, workers, size)?;
+    let basis = rest_basis_by(&Threaded::of(rt), alloc, reducer, workers, size)?;
     Ok(basis.height() as usize == rank)
 }
 

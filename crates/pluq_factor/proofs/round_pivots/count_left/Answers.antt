@@ -30,7 +30,7 @@ returns g c =
     let same = c.rows-rows.ensures in
     let sound : IsMatrix t.rows.modulus t.rows.matrix = subst (λ (R : ResidueMatrix). IsMatrix R.modulus R.matrix) same c.height-height.ensures.sound in
     counted_left {t = t} c.height-left.result sound refl c.pairs.ensures.triangular (ap length c.pairs.ensures.pairs)
-    (λ prime. subst (λ n. HasRank t.rows.modulus t.rows.matrix (length t.pairs + n)) (sym c.height-left.ensures.value) (basis_rank sound c.pairs.ensures.triangular c.in_ok-left_basis.ensures prime))
+    (λ prime. subst (λ n. HasRank t.rows.modulus t.rows.matrix (length t.pairs + n)) (sym c.height-left.ensures.value) (basis_rank sound c.pairs.ensures.triangular c.in_ok-rest_basis.ensures prime))
     c.min-most.ensures c.min-more.ensures refl
     (c.append_zeros.ensures.modulus ∙ c.in_ok-rest.ensures.modulus ∙ c.modulus.ensures.value ∙ ap (λ (R : ResidueMatrix). R.modulus) same) (c.in_ok-append_zeros.ensures.matrix ∙ ap (λ (M : Matrix). with_zeros M c.height-height.result) c.in_ok-rest.ensures.matrix)
     (c.height-height.ensures.value ∙ ap (λ (R : ResidueMatrix). R.matrix.height) same) (c.width-width.ensures.value ∙ ap (λ (R : ResidueMatrix). R.matrix.width) same)
