@@ -1,17 +1,23 @@
 -- Workers that share a board, and what their search leaves.
-use Rattle.std.specs.Prelude.{◌≤◌, ℕ, Bool, List}
+use Rattle.std.specs.Prelude.{◌≤◌, ℕ, Bool, List, Option, None, Some}
 use Rattle.residue_words.specs.Matrix.{Matrix}
 use Rattle.residue_words.specs.declared.plain.Pair.{Pair}
-use Rattle.pivot_table.specs.Board.{BoardState}
+use Rattle.pivot_table.specs.Board.{BoardState, SeatState}
 use Rattle.pivot_table.specs.Core.{Chair}
 use Rattle.pivot_table.specs.History.{StandsOrIsDead}
 use Rattle.pivot_table.specs.Closing.{IsDone}
 use Rattle.optimistic_search.specs.Taking.{IsIdle}
+use Rattle.optimistic_search.specs.Walked.{Walked}
 use Rattle.optimistic_search.specs.declared.worker.Worker.{Worker}
 
--- a worker that stands before a row, or has gone through all rows
+-- seat and walk are idle
+abbrev pub AreIdle : BoardState → SeatState → Option Walked → Type 0
+AreIdle b s None = ⊥
+AreIdle b s (Some w) = IsIdle b s w
+
+-- a worker that stands before its first row, or has gone through all rows
 abbrev pub IsWorkerOf : BoardState → Worker → Type 0
-IsWorkerOf b w = IsIdle b w.seat w.walk × (w.from ≤ b.rows.matrix.height)
+IsWorkerOf b w = AreIdle b w.seat w.walk × (w.from ≤ b.rows.matrix.height)
 
 -- the seat was split so often
 abbrev pub with_parted : Chair → ℕ → Chair

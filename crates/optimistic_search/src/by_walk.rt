@@ -6,6 +6,7 @@ ghost use Rattle.optimistic_search.specs.Candidate.{IsCovered};
 ghost use Rattle.optimistic_search.specs.Cost.{TakesCostOfRows, TakesItsCost};
 ghost use Rattle.pivot_table.specs.Book.{HasRoom};
 
+use crate::resting_walk::RestingWalk;
 use crate::steps::Steps;
 use crate::walk::Walk;
 use pivot_table::Book;
@@ -15,7 +16,12 @@ use std::sync::ledger::Ledger;
 
 // Tries a row: where it has an alive column, the row is appended with the least. A row that is in a pair, or all of whose entries
 // are in columns of pairs, takes no step.
-pub(crate) fn try_row<L: Ledger>(book: &mut Book, walk: &mut Walk, row: u32, steps: &mut Steps<L>)
+pub(crate) fn try_row<L: Ledger>(
+    book: &mut Book,
+    walk: &mut Walk<'_, L>,
+    row: u32,
+    steps: &mut Steps<L>,
+)
     requires rows { walk.old.rows ≡ book.old.rows }
     requires pairs { walk.old.pairs ≡ book.old.pairs }
     requires closed { walk.old.current ≡ None }
@@ -48,7 +54,7 @@ pub(crate) fn try_row<L: Ledger>(book: &mut Book, walk: &mut Walk, row: u32, ste
 }
 
 // Appends these pairs to a walk with the first of them.
-pub(crate) fn follow<L: Ledger>(walk: &mut Walk, pairs: &[Pair], first: usize, steps: &mut Steps<L>)
+pub(crate) fn follow(walk: &mut RestingWalk, pairs: &[Pair], first: usize)
     requires first { first ≤ length pairs.now }
     requires pairs { walk.old.pairs ≡ take first pairs.now }
     requires closed { walk.old.current ≡ None }
@@ -56,15 +62,14 @@ pub(crate) fn follow<L: Ledger>(walk: &mut Walk, pairs: &[Pair], first: usize, s
     ensures rows { walk.new.rows ≡ walk.old.rows }
     ensures pairs { walk.new.pairs ≡ pairs.now }
     ensures closed { walk.new.current ≡ None }
-    ensures steps { steps.new ≡ steps.old }
 {
     for k in first..pairs.len() {
-        walk.extend(pairs[k], steps);
+        walk.push(pairs[k]);
     }
 }
 
 // Tries each row in ascending order.
-fn try_all<L: Ledger>(book: &mut Book, walk: &mut Walk, steps: &mut Steps<L>)
+fn try_all<L: Ledger>(book: &mut Book, walk: &mut Walk<'_, L>, steps: &mut Steps<L>)
     requires rows { walk.old.rows ≡ book.old.rows }
     requires pairs { walk.old.pairs ≡ book.old.pairs }
     requires closed { walk.old.current ≡ None }
@@ -94,8 +99,9 @@ fn search_with<'a, L: Ledger>(
     let rows = book.rows();
     let many = rows.height().min(rows.width()) as usize;
     book.reserve(many.saturating_sub(book.pairs().len()))?;
-    let mut walk = Walk::new(alloc, rows)?;
-    follow(&mut walk, book.pairs(), 0, steps);
+    let mut rest = RestingWalk::new(alloc, rows)?;
+    follow(&mut rest, book.pairs(), 0);
+    let mut walk = Walk::<L>::of(rest);
     try_all(&mut book, &mut walk, steps);
     Ok(book)
 }

@@ -4,10 +4,8 @@ ghost use Rattle.std.specs.List.{Contains};
 ghost use Rattle.sparse_rows.specs.Rows.{AreBelow};
 ghost use Rattle.optimistic_search.specs.MarkedColumns.{AllBetween, AreDistinct, AreNone, Grows, LosesLast};
 
-use crate::steps::Steps;
 use std::alloc::{AllocError, Global};
 use std::marker::Model;
-use std::sync::ledger::Ledger;
 
 // Columns that are marked, in the order in which they were. Contracts see the number of columns and the list of the marked ones.
 // It takes 5 bytes a column.
@@ -87,20 +85,6 @@ impl MarkedColumns {
     {
         if !self.has(j) {
             self.mark(j);
-        }
-    }
-
-    // Takes up each of these columns: marks it, if it isn't yet.
-    pub(crate) fn add_all<L: Ledger>(&mut self, cols: &[u32], steps: &mut Steps<L>)
-        requires { AreBelow self.old.width cols.now }
-        ensures width { self.new.width ≡ self.old.width }
-        ensures grows { Grows (Contains cols.now) self.old.list self.new.list }
-        ensures all { (j : ℕ) → Contains cols.now j → Contains self.new.list j }
-        ensures steps { steps.new ≡ steps.old + length cols.now }
-    {
-        for k in 0..cols.len() {
-            steps.tick();
-            self.add(cols[k]);
         }
     }
 

@@ -28,7 +28,7 @@ pub enum Taken {
 fn try_once<G: Gate, L: Ledger>(
     board: &Board<'_>,
     seat: &mut Seat,
-    walk: &mut Walk<'_>,
+    walk: &mut Walk<'_, L>,
     row: u32,
     worker: u32,
     gate: &G,
@@ -85,7 +85,7 @@ fn try_once<G: Gate, L: Ledger>(
 pub fn take_row<G: Gate, L: Ledger>(
     board: &Board<'_>,
     seat: &mut Seat,
-    walk: &mut Walk<'_>,
+    walk: &mut Walk<'_, L>,
     row: u32,
     worker: u32,
     gate: &G,

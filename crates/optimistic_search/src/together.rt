@@ -9,6 +9,7 @@ ghost use Rattle.optimistic_search.specs.Workers.{DoneAreSettled, IsWorkerOf, wi
 
 use crate::by_walk::{follow, try_row};
 use crate::gate::Gate;
+use crate::resting_walk::RestingWalk;
 use crate::steps::Steps;
 use crate::walk::Walk;
 use crate::worker::{Worker, first_row};
@@ -18,27 +19,22 @@ use std::marker::Brand;
 use std::sync::ledger::{Blank, Ledger};
 use std::thread::{Threads, for_each_mut};
 
-// A walk over a book's pairs.
-fn walk_over<'a, L: Ledger>(
-    alloc: Global,
-    book: &Book<'a>,
-    steps: &mut Steps<L>,
-) -> Result<Walk<'a>, AllocError>
+// A walk over a book's pairs, which no ledger counts yet.
+fn resting_over<'a>(alloc: Global, book: &Book<'a>) -> Result<RestingWalk<'a>, AllocError>
     ensures { IfOk result (λ w. w ≡ record { rows = book.now.rows; pairs = book.now.pairs; current = None }) }
 {
-    let mut walk = Walk::new(alloc, book.rows())?;
-    follow(&mut walk, book.pairs(), 0, steps);
-    Ok(walk)
+    let mut rest = RestingWalk::new(alloc, book.rows())?;
+    follow(&mut rest, book.pairs(), 0);
+    Ok(rest)
 }
 
 // The workers, each with a seat and a walk of its own.
-fn prepared<'a, L: Ledger>(
+fn prepared<'a>(
     alloc: Global,
     book: &Book<'a>,
     board: &Board<'a>,
     seat: &mut Seat,
     count: u32,
-    steps: &mut Steps<L>,
 ) -> Result<Vec<Worker<'a>>, AllocError>
     requires seat { IsSeatOf board.now seat.old }
     requires rows { board.now.rows ≡ book.now.rows }
@@ -50,10 +46,10 @@ fn prepared<'a, L: Ledger>(
     let height = board.rows().height();
     let mut workers = Vec::with_capacity(alloc, count as usize)?;
     for number in 0..count {
-        let walk = walk_over(alloc, book, steps)?;
+        let rest = resting_over(alloc, book)?;
         workers.push_reserved(Worker {
             seat: board.split(seat),
-            walk,
+            walk: Some(rest),
             number,
             from: first_row(number, count, height),
             steps: 0,
@@ -112,7 +108,7 @@ fn join_all(board: &Board<'_>, seat: &mut Seat, workers: Vec<Worker<'_>>) -> u64
 // Tries a row, unless it is done.
 fn try_unless_done<L: Ledger>(
     book: &mut Book,
-    walk: &mut Walk,
+    walk: &mut Walk<'_, L>,
     row: u32,
     done: &Marks,
     steps: &mut Steps<L>,
@@ -139,7 +135,7 @@ fn try_unless_done<L: Ledger>(
 }
 
 // Tries each row that isn't done, in ascending order.
-fn sweep<L: Ledger>(book: &mut Book, walk: &mut Walk, done: &Marks, steps: &mut Steps<L>)
+fn sweep<L: Ledger>(book: &mut Book, walk: &mut Walk<'_, L>, done: &Marks, steps: &mut Steps<L>)
     requires rows { walk.old.rows ≡ book.old.rows }
     requires pairs { walk.old.pairs ≡ book.old.pairs }
     requires closed { walk.old.current ≡ None }
@@ -174,11 +170,10 @@ fn search_with<'a, R: Threads + Sync, G: Gate, L: Ledger>(
     ensures starts { IfOk result (λ t.
         AreStartsOf book.entry.rows.matrix book.entry.pairs t.0.pairs t.1) }
 {
-    let mut steps = Steps::<L>::new(blank);
     let first = book.pairs().len();
     let (board, mut seat) = Board::new(alloc, &book)?;
-    let mut walk = walk_over(alloc, &book, &mut steps)?;
-    let mut team = prepared(alloc, &book, &board, &mut seat, workers, &mut steps)?;
+    let mut rest = resting_over(alloc, &book)?;
+    let mut team = prepared(alloc, &book, &board, &mut seat, workers)?;
     run_all(rt, &board, gate, team.as_mut_slice());
     let taken = join_all(&board, &mut seat, team);
     let Closed {
@@ -187,7 +182,9 @@ fn search_with<'a, R: Threads + Sync, G: Gate, L: Ledger>(
         starts,
     } = board.close(seat);
     let mut closed = closed;
-    follow(&mut walk, closed.pairs(), first, &mut steps);
+    follow(&mut rest, closed.pairs(), first);
+    let mut walk = Walk::<L>::of(rest);
+    let mut steps = Steps::<L>::new(blank);
     sweep(&mut closed, &mut walk, &done, &mut steps);
     Ok((closed, starts, taken.wrapping_add(steps.count())))
 }

@@ -50,7 +50,7 @@ fn replay_with<L: Ledger>(
     let narrow = rows.narrowed(alloc, &columns)?;
     // The call's contract bounds the columns.
     let _ = narrow.width();
-    let mut walk = Walk::new(alloc, &narrow)?;
+    let mut walk = Walk::<L>::new(alloc, &narrow)?;
     let mut steps = Steps::<L>::new(blank);
     let lawful = are_lawful(rows, &columns, &mut walk, publications, &mut steps);
     Ok(lawful)
@@ -60,7 +60,7 @@ fn replay_with<L: Ledger>(
 fn are_lawful<L: Ledger>(
     rows: &Rows,
     columns: &[u32],
-    walk: &mut Walk,
+    walk: &mut Walk<'_, L>,
     publications: &[Publication],
     steps: &mut Steps<L>,
 ) -> bool
@@ -87,7 +87,7 @@ fn are_lawful<L: Ledger>(
 fn append_named<L: Ledger>(
     rows: &Rows,
     columns: &[u32],
-    walk: &mut Walk,
+    walk: &mut Walk<'_, L>,
     pair: Pair,
     steps: &mut Steps<L>,
 ) -> bool
@@ -121,7 +121,7 @@ fn append_named<L: Ledger>(
 }
 
 // Appends a pair, if it is alive, with a walk from its row. Answers whether it is.
-fn append<L: Ledger>(walk: &mut Walk, pair: Pair, steps: &mut Steps<L>) -> bool
+fn append<L: Ledger>(walk: &mut Walk<'_, L>, pair: Pair, steps: &mut Steps<L>) -> bool
     requires row { pair.row < walk.old.rows.matrix.height }
     requires col { pair.col < walk.old.rows.matrix.width }
     requires closed { walk.old.current ≡ None }

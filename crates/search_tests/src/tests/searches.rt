@@ -39,7 +39,7 @@ fn example_rows(alloc: Global) -> Result<Rows, AllocError>
 }
 
 // The pair (0, 0) takes no step. Answers how many it took.
-fn extend_first<L: Ledger>(walk: &mut Walk, steps: &mut Steps<L>) -> u64
+fn extend_first<L: Ledger>(walk: &mut Walk<'_, L>, steps: &mut Steps<L>) -> u64
     requires matrix { walk.old.rows.matrix ≡ pivot_example }
     requires pairs { walk.old.pairs ≡ [] }
     requires closed { walk.old.current ≡ None }
@@ -54,7 +54,7 @@ fn extend_first<L: Ledger>(walk: &mut Walk, steps: &mut Steps<L>) -> u64
 }
 
 // The walk from row 1 takes at most 4 steps. Answers how many it took.
-fn begin_second<L: Ledger>(walk: &mut Walk, steps: &mut Steps<L>) -> u64
+fn begin_second<L: Ledger>(walk: &mut Walk<'_, L>, steps: &mut Steps<L>) -> u64
     requires matrix { walk.old.rows.matrix ≡ pivot_example }
     requires pairs { walk.old.pairs ≡ pair 0 0 ∷ [] }
     requires closed { walk.old.current ≡ None }
@@ -69,7 +69,7 @@ fn begin_second<L: Ledger>(walk: &mut Walk, steps: &mut Steps<L>) -> u64
 }
 
 // The pair (2, 1) takes at most 3 steps more. Answers how many it took.
-fn extend_late<L: Ledger>(walk: &mut Walk, steps: &mut Steps<L>) -> u64
+fn extend_late<L: Ledger>(walk: &mut Walk<'_, L>, steps: &mut Steps<L>) -> u64
     requires matrix { walk.old.rows.matrix ≡ pivot_example }
     requires pairs { walk.old.pairs ≡ pair 0 0 ∷ [] }
     requires open { walk.old.current ≡ Some 1 }
@@ -82,7 +82,7 @@ fn extend_late<L: Ledger>(walk: &mut Walk, steps: &mut Steps<L>) -> u64
 }
 
 // What is alive least for row 1 with the pair (0, 0), and then once row 2 has the column 1; and how many steps each call took.
-fn overtaken<L: Ledger>(walk: &mut Walk, steps: &mut Steps<L>) -> ([Option<u32>; 2], [u64; 3])
+fn overtaken<L: Ledger>(walk: &mut Walk<'_, L>, steps: &mut Steps<L>) -> ([Option<u32>; 2], [u64; 3])
     requires matrix { walk.old.rows.matrix ≡ pivot_example }
     requires pairs { walk.old.pairs ≡ [] }
     requires closed { walk.old.current ≡ None }
@@ -104,7 +104,7 @@ fn answers<L: Ledger>(
     requires some { 0 < blank.parts }
 {
     let rows = example_rows(alloc)?;
-    let mut walk = Walk::new(alloc, &rows)?;
+    let mut walk = Walk::<L>::new(alloc, &rows)?;
     let mut steps = Steps::<L>::new(blank);
     Ok(overtaken(&mut walk, &mut steps))
 }
@@ -137,11 +137,11 @@ fn first_walk<'a, L: Ledger>(
     alloc: Global,
     rows: &'a Rows,
     steps: &mut Steps<L>,
-) -> Result<Walk<'a>, AllocError>
+) -> Result<Walk<'a, L>, AllocError>
     requires { rows.now.matrix ≡ pivot_example }
     ensures { IfOk result (λ w. w ≡ record { rows = rows.now; pairs = pair 0 0 ∷ []; current = None }) }
 {
-    let mut walk = Walk::new(alloc, rows)?;
+    let mut walk = Walk::<L>::new(alloc, rows)?;
     walk.extend(Pair { row: 0, col: 0 }, steps);
     Ok(walk)
 }
@@ -150,7 +150,7 @@ fn first_walk<'a, L: Ledger>(
 fn take_three<L: Ledger>(
     board: &Board<'_>,
     seat: &mut Seat,
-    walk: &mut Walk<'_>,
+    walk: &mut Walk<'_, L>,
     steps: &mut Steps<L>,
 ) -> [Taken; 3]
     requires idle { IsIdle board.now seat.old walk.old }

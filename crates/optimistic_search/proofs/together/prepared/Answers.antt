@@ -1,5 +1,5 @@
 use Rattle.std.proofs.Common.{◌≡◌, ◌∙◌, ◌+◌, ℕ, List, ap, arith, subst, sym}
-use Rattle.std.specs.Prelude.{All}
+use Rattle.std.specs.Prelude.{All, Some}
 use Rattle.std.proofs.lemmas.List.Elements.{All-push}
 use Rattle.sparse_rows.specs.Rows.{ResidueMatrix}
 use Rattle.pivot_table.specs.Core.{Chair, parting}
@@ -14,11 +14,11 @@ parted_more s first t is e =
     subst (λ (n : ℕ). t ≡ with_parted first n) (sym (ap (λ (x : Chair). x.parted) all)) all
 
 pub loop-number-preserved : goal.loop-number-preserved
-loop-number-preserved g c =
+loop-number-preserved c =
     let inv = c.loop-number.invariant in
     let more = c.push_reserved.ensures in
-    let one : Worker = record { seat = c.split.result; walk = c.in_ok-walk.walk; number = c.loop-number.number; from = c.first_row.result; steps = 0 } in
-    let walk = c.in_ok-walk.ensures in
+    let one : Worker = record { seat = c.split.result; walk = Some c.in_ok-rest.rest; number = c.loop-number.number; from = c.first_row.result; steps = 0 } in
+    let walk = c.in_ok-rest.ensures in
     let low = c.first_row.ensures in
     let height : c.height-height.result ≡ c.args.board.now.rows.matrix.height = c.height-height.ensures.value ∙ ap (λ (m : ResidueMatrix). m.matrix.height) c.rows.ensures in
     let own : IsWorkerOf c.args.board.now one = (

@@ -5,7 +5,7 @@ use Rattle.optimistic_search.specs.Workers.{IsWorkerOf, with_parted}
 use Rattle.optimistic_search.proofs.together.prepared.Given as goal
 
 abbrev pub invariant-loop-number : goal.invariant-loop-number
-invariant-loop-number g l = record {
+invariant-loop-number l = record {
   seat : IsSeatOf l.board l.seat;
   chair : l.seat.chair ≡ with_parted l.fn.seat.chair l.seat.chair.parted;
   workers : All (IsWorkerOf l.board) l.workers.items;

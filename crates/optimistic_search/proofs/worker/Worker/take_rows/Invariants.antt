@@ -1,5 +1,9 @@
-use Rattle.optimistic_search.specs.Workers.{IsWorkerOf}
+use Rattle.std.proofs.Common.{◌≡◌}
+use Rattle.optimistic_search.specs.Taking.{IsIdle}
 use Rattle.optimistic_search.proofs.worker.Worker.take_rows.Given as goal
 
 abbrev pub invariant-loop-row : goal.invariant-loop-row
-invariant-loop-row g l = IsWorkerOf l.board l.self
+invariant-loop-row g l = IsIdle l.board l.self.seat l.walk × (l.self.from ≡ l.fn.self.from)
+
+abbrev pub invariant-loop-row-2 : goal.invariant-loop-row-2
+invariant-loop-row-2 g l = IsIdle l.board l.self.seat l.walk × (l.self.from ≡ l.fn.self.from)

@@ -3,7 +3,7 @@ use Rattle.std.specs.List.{Contains}
 use Rattle.optimistic_search.proofs.Growing.{grows_trans, kept}
 use Rattle.residue_words.proofs.Lists.{contains_at, place_in}
 use Rattle.optimistic_search.proofs.Walking.{below_next}
-use Rattle.optimistic_search.proofs.marked_columns.MarkedColumns.add_all.Goals as goal
+use Rattle.optimistic_search.proofs.counted_marks.CountedMarks.add_all.Goals as goal
 
 pub loop-k-preserved : goal.loop-k-preserved
 loop-k-preserved g c =
@@ -11,7 +11,7 @@ loop-k-preserved g c =
     let cols = c.args.cols.now in (
       c.add.ensures.width ∙ inv.0,
       grows_trans inv.1 c.add.ensures.grows (λ j e. subst (Contains cols) (sym e) (contains_at cols c.loop-k.k _ c.loop-k-test.true refl)),
-      (let e = c.tick.ensures in omega (arith, e, inv.2)),
+      (let e = c.add.ensures.steps in omega (arith, e, inv.2)),
       below_next (λ t. Contains c.add.new.self.list (slice_index cols t)) c.loop-k.k (λ t l. kept _ c.add.ensures.grows (inv.3 t l)) c.add.ensures.has,
     )
 
