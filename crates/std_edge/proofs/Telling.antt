@@ -2,7 +2,7 @@
 use Rattle.std.proofs.Common.{ℕ, ◌≡◌, ◌<◌, ◌++◌, List, [], Option, None, Some, refl, sym, ap, ◌∙◌, arith, append_assoc, append-nil}
 use Rattle.std.specs.Io.KnownBytes.{Keeps, Appends, Consumes, IsAtEnd}
 use Rattle.sms_text.specs.Stream.{Gained, SinkState, in_front, at_back, IsNothing}
-use Rattle.std_edge.specs.Edge.{Holds, StaysTold, fresh_sink, still_known}
+use Rattle.std_edge.specs.Edge.{CountedReader, CountedWriter, Holds, StaysTold, fresh_sink, fresh_source, sink_of, source_of, still_known}
 
 abbrev sink_with : Option (List ℕ) → ℕ → SinkState
 sink_with held faults = record { held = held; faults = faults }
@@ -14,6 +14,22 @@ told_at_first (Some x) = tt
 pub known_at_first : (now : Option (List ℕ)) → still_known now now ≡ now
 known_at_first None = refl
 known_at_first (Some x) = refl
+
+-- streams are a source and a sink
+
+pub source_at_first : {R : Type 0} (remaining : R → Option (List ℕ)) (reader : R) (s : CountedReader R) →
+    s ≡ record { first = reader; stream = reader; faults = 0 } → source_of remaining s ≡ fresh_source (remaining reader)
+source_at_first remaining reader s is = ap (source_of remaining) is ∙ ap fresh_source (known_at_first (remaining reader))
+
+pub sink_at_first : {W : Type 0} (contents : W → Option (List ℕ)) (writer : W) (s : CountedWriter W) →
+    s ≡ record { first = writer; good = writer; stream = writer; faults = 0 } → sink_of contents s ≡ fresh_sink (contents writer)
+sink_at_first contents writer s is = ap (sink_of contents) is ∙ ap fresh_sink (known_at_first (contents writer))
+
+-- a reader has what its source tells
+pub keeps_known : (first now : Option (List ℕ)) → Keeps (still_known first now) now
+keeps_known None now = tt
+keeps_known (Some x) None = tt
+keeps_known (Some x) (Some y) = refl
 
 -- a reader gave bytes
 
@@ -53,9 +69,13 @@ ended_spent (Some x) (Some y) (Some z) told gave ends = gave ∙ ends
 
 -- a writer is what its sink tells
 
+pub holds_all : (now : Option (List ℕ)) (faults : ℕ) → Holds now (record { held = now; faults = faults })
+holds_all None faults = ([], tt, λ none. refl)
+holds_all (Some x) faults = ([], sym (append-nil x), λ none. refl)
+
 pub holds_at_first : (now : Option (List ℕ)) (faults : ℕ) → Holds now (record { held = still_known now now; faults = faults })
-holds_at_first None faults = ([], tt, λ none. refl)
-holds_at_first (Some x) faults = ([], sym (append-nil x), λ none. refl)
+holds_at_first None faults = holds_all None faults
+holds_at_first (Some x) faults = holds_all (Some x) faults
 
 -- a put went well: the writer gained these bytes
 
@@ -79,7 +99,7 @@ took_told (Some x) (Some y) (Some z) (Some w) bytes told holds took = tt
 pub took_holds : (first new : Option (List ℕ)) (faults : ℕ) → StaysTold first new → Holds new (record { held = still_known first new; faults = faults })
 took_holds None new faults told = ([], tt, λ none. refl)
 took_holds (Some x) None faults told = absurd told
-took_holds (Some x) (Some y) faults told = holds_at_first (Some y) faults
+took_holds (Some x) (Some y) faults told = holds_all (Some y) faults
 
 pub took_gained : (held held' : Option (List ℕ)) (faults : ℕ) (bytes : List ℕ) → held' ≡ at_back held bytes →
     Gained bytes (record { held = held; faults = faults }) (record { held = held'; faults = faults })
