@@ -76,10 +76,14 @@ fn a_writer_gains_what_it_takes(rt: HostRuntime) -> Result<(), Fail> {
 }
 
 #[test]
-fn a_writer_fails_where_it_fails(rt: HostRuntime) -> Result<(), Fail> {
+fn a_writer_that_failed_is_left_alone(rt: HostRuntime) -> Result<(), Fail> {
     let mut sink = ToWrite::new(Sticky { flushes: 0 });
     let puts = [sink.put(b"314"), sink.put(b"314"), sink.put(b"3")];
-    assert_eq!(rt; puts, [Put::Took(2), Put::Failed, Put::Took(1)]);
+    let flushes = sink.into_writer().flushes;
+    assert_eq!(rt;
+        (puts, flushes),
+        ([Put::Took(2), Put::Failed, Put::Failed], 2)
+    );
     Ok(())
 }
 
