@@ -1,9 +1,10 @@
 //! The program for many right-hand sides: the words behind its name, the standard streams and an exit status round the top call.
 #![tactic(auto)]
 
-ghost use Rattle.std.specs.Prelude.{◌≡◌, ◌⊎◌, Err, IfOk, OnErr};
+ghost use Rattle.std.specs.Prelude.{◌≡◌, ◌⊎◌, IfErr, IfOk, OnErr};
+ghost use Rattle.spasm_run.specs.Options.{bytes_of};
 ghost use Rattle.batch_solve.specs.BatchWords.{AskForNoBatch};
-ghost use Rattle.std_edge.specs.Edge.{texts_of};
+ghost use Rattle.std_edge.specs.Edge.{EndsWithout, texts_of, told};
 ghost use Rattle.spasm_batch.specs.Ends.{BatchEndsFor};
 
 use batch_solve::{Unwatched, run_batch};
@@ -12,57 +13,87 @@ use std::io::{Read, Write};
 use std::process::ExitCode;
 use std::sync::Wait;
 use std::thread::Threads;
-use std_edge::{FromRead, NoWords, ToWrite, borrowed, words_of};
+use std_edge::{Ended, FromRead, NoWords, Streams, ToWrite, borrowed, end_without, words_of};
 
 fn main(rt: HostRuntime) -> ExitCode {
-    let code = match words_of(&rt) {
-        Ok(words) => answer(
-            &rt,
-            rt.alloc(),
-            &words,
-            rt.stdin(),
-            rt.stdout(),
-            rt.stderr(),
-        ),
-        Err(none) => Err(none),
+    let streams = Streams {
+        input: rt.stdin(),
+        output: rt.stdout(),
+        errors: rt.stderr(),
     };
-    match code {
-        Ok(code) => ExitCode::from(code),
-        Err(none) => {
-            let _ = eprintln!(rt; "{none}");
-            ExitCode::from(none.code())
-        }
+    ExitCode::from(run_on(&rt, rt.alloc(), words_of(&rt), streams).code)
+}
+
+// Runs the batch that the words ask for on these streams. Without words the error stream says why.
+fn run_on<R: Threads + Wait + Sync, I: Read, O: Write, E: Write>(
+    rt: &R,
+    alloc: Global,
+    words: Result<Vec<String>, NoWords>,
+    streams: Streams<I, O, E>,
+) -> Ended<I, O, E>
+    ensures ran { IfOk words (λ w. BatchEndsFor (texts_of w.items)
+        (told I.remaining O.contents E.contents streams)
+        (told I.remaining O.contents E.contents result.streams) result.code) }
+    ensures without { IfErr words (λ reason. EndsWithout reason
+        (E.contents streams.errors) (E.contents result.streams.errors) result.code) }
+    ensures input { OnErr words (result.streams.input ≡ streams.input) }
+    ensures output { OnErr words (result.streams.output ≡ streams.output) }
+    ensures refused { IfOk words (λ w. AskForNoBatch (texts_of w.items)
+        → (result.code ≡ 2) ⊎ (result.code ≡ 8)) }
+    ensures usage { IfOk words (λ w. result.code ≡ 2 → AskForNoBatch (texts_of w.items)) }
+{
+    match words {
+        Ok(owned) => run_words(rt, alloc, &owned, streams),
+        Err(reason) => end_without(reason, streams),
     }
 }
 
-// Runs the batch that the words ask for, and gives its exit status. The error is that memory for the words was refused.
-fn answer<R: Threads + Wait + Sync, I: Read + Drop, O: Write + Drop, E: Write + Drop>(
+// The same for words that there are. Without memory to lend them the error stream says so.
+fn run_words<R: Threads + Wait + Sync, I: Read, O: Write, E: Write>(
     rt: &R,
     alloc: Global,
     owned: &[String],
-    input: I,
-    output: O,
-    errors: E,
-) -> Result<u8, NoWords>
-    ensures ran { IfOk result (BatchEndsFor (texts_of owned.now)) }
-    ensures refused { AskForNoBatch (texts_of owned.now) → IfOk result (λ code. (code ≡ 2) ⊎ (code ≡ 8)) }
-    ensures usage { IfOk result (λ code. code ≡ 2 → AskForNoBatch (texts_of owned.now)) }
-    ensures memory { OnErr result (result ≡ Err NoWords.Memory) }
+    streams: Streams<I, O, E>,
+) -> Ended<I, O, E>
+    ensures { BatchEndsFor (texts_of owned.now)
+        (told I.remaining O.contents E.contents streams)
+        (told I.remaining O.contents E.contents result.streams) result.code }
 {
-    let Ok(words) = borrowed(alloc, owned) else {
-        return Err(NoWords::Memory);
-    };
-    let mut source = FromRead::new(input);
-    let mut out = ToWrite::new(output);
-    let mut err = ToWrite::new(errors);
+    match borrowed(alloc, owned) {
+        Ok(words) => run_lent(rt, alloc, &words, streams),
+        Err(_) => end_without(NoWords::Memory, streams),
+    }
+}
+
+// The same for words that are lent as the top call takes them.
+fn run_lent<'a, R: Threads + Wait + Sync, I: Read, O: Write, E: Write>(
+    rt: &R,
+    alloc: Global,
+    words: &'a [&'a str],
+    streams: Streams<I, O, E>,
+) -> Ended<I, O, E>
+    ensures { BatchEndsFor (bytes_of words.now)
+        (told I.remaining O.contents E.contents streams)
+        (told I.remaining O.contents E.contents result.streams) result.code }
+{
+    let mut source = FromRead::new(streams.input);
+    let mut out = ToWrite::new(streams.output);
+    let mut err = ToWrite::new(streams.errors);
     let status = run_batch(
         rt,
         alloc,
-        &words,
+        words,
         &mut source,
         &mut out,
         &mut err,
         &Unwatched,
     );
-    Ok(status.code())
+    Ended {
+        code: status.code(),
+        streams: Streams {
+            input: source.into_reader(),
+            output: out.into_writer(),
+            errors: err.into_writer(),
+        },
+    }
 }
