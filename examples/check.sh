@@ -45,6 +45,7 @@ expect 0 'rank 1\nyes\n' '' '0 2 M\n0 0 0\nrow 1 3\nrank\nin 1 5\nend\n' grow --
 
 expect_batch 0 'solution\n1 1 M\n1 1 4\n0 0 0\nsolution\n1 1 M\n0 0 0\n' '' '1 1 M\n1 1 2\n0 0 0\n1 1 M\n1 1 1\n0 0 0\n1 1 M\n0 0 0\n' --count 2 --modulus 7
 expect_batch 2 '' 'error 2 usage\n' '' --modulus 7
+expect_batch 2 '' 'error 2 usage\n' '' --count "$(printf '\377')"
 expect_batch 3 '' 'error 3 line 3 kind 6\n' '1 1 M\n0 0 0\n' --count 1
 expect_batch 4 '' 'error 4 shape 2 1 question 2\n' '1 1 M\n0 0 0\n1 1 M\n0 0 0\n2 1 M\n0 0 0\n' --count=2
 expect_batch 9 '' 'error 9 wide 2147483647 2\n' '2147483647 2 M\n0 0 0\n1 1 M\n0 0 0\n' --count=1
@@ -58,6 +59,11 @@ if test -w /dev/full; then
     ./spasm rang <examples/x.sms 2>/dev/full
     test $? -eq 2 || { echo "spasm rang 2>/dev/full: another status"; failures=$((failures + 1)); }
 fi
+
+# A long answer is whole when the program ends, though its output is a pipe.
+awk 'BEGIN { n = 10000; print n, n, "M"; for (i = 1; i <= n; i++) print i, i, 1; print 0, 0, 0 }' >"$results/long"
+./spasm rref --modulus 7 <"$results/long" 2>"$results/err" | cat >"$results/out"
+cmp -s "$results/out" "$results/long" && test ! -s "$results/err" || { echo "spasm rref | cat: the answer isn't whole"; failures=$((failures + 1)); }
 
 rm -r "$results"
 test "$failures" -eq 0 && echo "all runs are as they should be"
