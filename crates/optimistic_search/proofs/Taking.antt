@@ -1,11 +1,12 @@
 -- What became of a row.
-use Rattle.std.proofs.Common.{◌≡◌, ◌≤◌, ◌+◌, ℕ, List, [], ◌∷◌, ◌++◌, take, ap, ◌∙◌, append_assoc, arith}
-use Rattle.std.specs.Prelude.{None}
+use Rattle.std.proofs.Common.{◌≡◌, ◌≤◌, ◌+◌, ℕ, List, [], ◌∷◌, ◌++◌, take, ap, sym, ◌∙◌, append_assoc, arith}
+use Rattle.std.specs.Prelude.{None, Some}
 use Rattle.std.proofs.Math.Seq.{take-append_seam}
 use Rattle.residue_words.specs.Matrix.{Matrix}
 use Rattle.residue_words.specs.declared.plain.Pair.{Pair}
-use Rattle.pivot_table.specs.History.{pair}
-use Rattle.pivot_table.specs.Core.{Chair, claiming, seeing}
+use Rattle.pivot_table.specs.History.{pair, LeastAlive}
+use Rattle.pivot_table.specs.Calls.{Finishes, Publishes}
+use Rattle.pivot_table.specs.Core.{Chair, claiming, finishing, publishing, seeing}
 use Rattle.optimistic_search.specs.Cost.{IsCost, TakesItsCost}
 use Rattle.optimistic_search.specs.Taking.{with_seen, LetsGo, TakesRow, NoneIfBusy, others_seen}
 use Rattle.optimistic_search.specs.declared.taken.Taken.{Taken}
@@ -24,14 +25,23 @@ not_busy A r s taken.Dropped t before after e = tt
 
 pub hand_empty : (A : Matrix) (r : ℕ) (s : Chair) (o : Taken) (t : Chair) → LetsGo A r s o t → t.hand ≡ None
 hand_empty A r s taken.Busy t e = absurd e
-hand_empty A r s (taken.Published k) t e = ap (λ (x : Chair). x.hand) e.2
+hand_empty A r s (taken.Published k) t e = ap (λ (x : Chair). x.hand) e.3
 hand_empty A r s taken.Dropped t e = ap (λ (x : Chair). x.hand) e.1
+
+pub published_goes : (A : Matrix) (r j k : ℕ) (s t u : Chair) → LeastAlive A s.seen r j → s.hand ≡ Some r → Publishes s j k t → Finishes t u → LetsGo A r s (taken.Published k) u
+published_goes A r j k s t u least mine p f =
+    let own : Some p.1.0 ≡ Some r = sym p.1.1 ∙ mine in
+    let one : p.1.0 ≡ r = cc in
+    let is : t ≡ publishing s (pair r j) = p.1.2 ∙ ap (λ (n : ℕ). publishing s (pair n j)) one in
+    let held : Some f.0 ≡ Some r = sym f.1 ∙ ap (λ (x : Chair). x.hand) is ∙ mine in
+    let two : f.0 ≡ r = cc in
+    (j, least, p.0, f.2 ∙ ap (λ (x : Chair). finishing x f.0) is ∙ ap (λ (n : ℕ). finishing (publishing s (pair r j)) n) two)
 
 -- without the row's own pair it was seen before
 pub seen_before : (A : Matrix) (r : ℕ) (s : Chair) (o : Taken) (t : Chair) → LetsGo A r s o t → others_seen o t ≡ s.seen
 seen_before A r s taken.Busy t e = absurd e
 seen_before A r s (taken.Published k) t e =
-    ap (λ (x : Chair). take k x.seen) e.2 ∙ ap (λ (n : ℕ). take n (s.seen ++ pair r e.0 ∷ [])) e.1 ∙ take-append_seam s.seen (pair r e.0 ∷ [])
+    ap (λ (x : Chair). take k x.seen) e.3 ∙ ap (λ (n : ℕ). take n (s.seen ++ pair r e.0 ∷ [])) e.2 ∙ take-append_seam s.seen (pair r e.0 ∷ [])
 seen_before A r s taken.Dropped t e = ap (λ (x : Chair). x.seen) e.1
 
 -- one pair more was seen

@@ -2,7 +2,7 @@
 use Rattle.std.specs.Prelude.{◌≡◌, ℕ, None, List, ◌++◌, length, take}
 use Rattle.residue_words.specs.Matrix.{Matrix}
 use Rattle.residue_words.specs.declared.plain.Pair.{Pair}
-use Rattle.pivot_table.specs.History.{pair, Dead}
+use Rattle.pivot_table.specs.History.{pair, Dead, LeastAlive}
 use Rattle.pivot_table.specs.Core.{Chair, claiming, publishing, finishing, meeting}
 use Rattle.pivot_table.specs.Board.{BoardState, SeatState, IsSeatOf}
 use Rattle.optimistic_search.specs.Walked.{Walked}
@@ -20,11 +20,11 @@ pub record IsIdle (b : BoardState) (s : SeatState) (w : Walked) : Type 0 where
 abbrev pub with_seen : Chair → List Pair → Chair
 with_seen s seen = record s { seen = seen }
 
--- the row in hand was let go at once: published at the end of what was seen, or dead in it
+-- the row in hand was let go at once: published at the end of what was seen, at its least alive column, or dead in it
 abbrev pub LetsGo : Matrix → ℕ → Chair → Taken → Chair → Type 0
 LetsGo A r s taken.Busy t = ⊥
 LetsGo A r s (taken.Published k) t =
-    (j : ℕ) × (k ≡ length s.seen) × (t ≡ finishing (publishing s (pair r j)) r)
+    (j : ℕ) × LeastAlive A s.seen r j × (k ≡ length s.seen) × (t ≡ finishing (publishing s (pair r j)) r)
 LetsGo A r s taken.Dropped t = Dead A s.seen r × (t ≡ finishing s r)
 
 -- the row was claimed, more pairs were seen, and then it was let go
