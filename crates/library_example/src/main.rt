@@ -9,7 +9,7 @@ ghost use Rattle.sparse_rows.specs.declared.rows.TheConstants.{LARGEST_SIZE};
 
 use spasm_lib::{Modulus, Rows, Solution, Team, kernel, rank, solve};
 use std::alloc::{AllocError, Global};
-use std::io;
+use std::io::{self, Print};
 use std::thread::Threads;
 
 // What is printed of a matrix.
@@ -22,18 +22,28 @@ struct Summary {
 fn main(rt: HostRuntime) -> io::Result<()> {
     let a = boundary(rt.alloc())?;
     let summary = summary_of(&rt, rt.alloc(), &a)?;
+    print_summary(&rt, &summary)?;
+    let b = differences(rt.alloc())?;
+    let solution = solution_of(&rt, rt.alloc(), &a, &b)?;
+    print_solution(&rt, rt.alloc(), &solution)
+}
+
+// What prints stands apart, so that each function is proved in seconds: it costs by the points where it may end, times what lives there.
+fn print_summary<R: Print>(rt: &R, summary: &Summary) -> io::Result<()> {
     println!(rt; "rank {}", summary.rank)?;
     for i in 0..summary.kernel.height() {
         let cols = summary.kernel.cols(i);
         let vals = summary.kernel.vals(i);
         println!(rt; "kernel row {i} in columns {cols:?}: {vals:?}")?;
     }
-    let b = differences(rt.alloc())?;
-    match solution_of(&rt, rt.alloc(), &a, &b)? {
-        Solution::Found(x) => println!(rt; "solution {:?}", x.triples(rt.alloc())?)?,
-        Solution::Refuted(y) => println!(rt; "no solution, by {:?}", y.triples(rt.alloc())?)?,
-    }
     Ok(())
+}
+
+fn print_solution<R: Print>(rt: &R, alloc: Global, solution: &Solution) -> io::Result<()> {
+    match solution {
+        Solution::Found(x) => println!(rt; "solution {:?}", x.triples(alloc)?),
+        Solution::Refuted(y) => println!(rt; "no solution, by {:?}", y.triples(alloc)?),
+    }
 }
 
 // The boundary map of a triangle modulo 7: a row for each edge, from one corner to the other, and a column for each corner.
