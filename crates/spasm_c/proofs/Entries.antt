@@ -1,11 +1,25 @@
 -- Arrays place by place.
-use Rattle.std.proofs.Common.{◌≡◌, ◌<◌, ◌≤◌, ◌∙◌, ℕ, suc, List, [], ◌∷◌, length, take, get_or, slice_index, ap, arith, refl, sym}
+use Rattle.std.proofs.Common.{◌≡◌, ◌<◌, ◌≤◌, ◌∙◌, ℕ, zero, suc, List, [], ◌∷◌, length, take, get_or, slice_index, ap, arith, refl, sym}
 use Rattle.std.proofs.lemmas.List.{get_or-take, length-take-le}
 use Rattle.spasm_c.specs.Given.{entries}
 
 -- what three arrays have at one place
 abbrev pub at : List ℕ → List ℕ → List ℕ → ℕ → ℕ × ℕ × ℕ
 at rows columns values k = (slice_index rows k, slice_index columns k, slice_index values k)
+
+pub length_entries : (rows columns values : List ℕ) → length columns ≡ length rows → length values ≡ length rows → length (entries rows columns values) ≡ length rows
+length_entries [] columns values c v = refl
+length_entries (i ∷ rows) [] values c v = absurd (omega (arith, c))
+length_entries (i ∷ rows) (j ∷ columns) [] c v = absurd (omega (arith, v))
+length_entries (i ∷ rows) (j ∷ columns) (w ∷ values) c v = omega (arith, length_entries rows columns values (omega (arith, c)) (omega (arith, v)))
+
+pub at_entries : (rows columns values : List ℕ) → length columns ≡ length rows → length values ≡ length rows → (k : ℕ) (d : ℕ × ℕ × ℕ) → k < length rows →
+    get_or (entries rows columns values) k d ≡ at rows columns values k
+at_entries [] columns values c v k d l = absurd (omega (arith, l))
+at_entries (i ∷ rows) [] values c v k d l = absurd (omega (arith, c))
+at_entries (i ∷ rows) (j ∷ columns) [] c v k d l = absurd (omega (arith, v))
+at_entries (i ∷ rows) (j ∷ columns) (w ∷ values) c v zero d l = refl
+at_entries (i ∷ rows) (j ∷ columns) (w ∷ values) c v (suc k) d l = at_entries rows columns values (omega (arith, c)) (omega (arith, v)) k d (omega (arith, l))
 
 pub entries_by : (rows columns values : List ℕ) (ts : List (ℕ × ℕ × ℕ)) → length columns ≡ length rows → length values ≡ length rows → length ts ≡ length rows →
     ((k : ℕ) (d : ℕ × ℕ × ℕ) → k < length rows → get_or ts k d ≡ at rows columns values k) → ts ≡ entries rows columns values

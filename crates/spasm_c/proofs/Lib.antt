@@ -1,1 +1,3 @@
+pub mod Asking
 pub mod Entries
+pub mod InOrder

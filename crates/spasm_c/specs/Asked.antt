@@ -15,7 +15,7 @@ use Rattle.spasm_lib.specs.declared.outcome.Inverse.{Inverse}
 use Rattle.spasm_lib.specs.declared.outcome.Inverse.TheVariants as inverse
 use Rattle.spasm_lib.specs.declared.outcome.Solution.{Solution}
 use Rattle.spasm_lib.specs.declared.outcome.Solution.TheVariants as solution
-use Rattle.spasm_c.specs.Given.{IsSound, matrix_of}
+use Rattle.spasm_c.specs.Given.{IsSoundInput, given_matrix}
 use Rattle.spasm_c.specs.declared.given.Given.{Given}
 
 -- E has residues, the width that is named, and no more rows than that
@@ -26,33 +26,33 @@ pub record HasSizes (p n : ℕ) (E : ResidueMatrix) : Type 0 where
 
 -- r is no more than height and width, and for a prime modulus the rank
 pub record IsRankOf (a : Given) (r : ℕ) : Type 0 where
-  pub sound : IsSound a
+  pub sound : IsSoundInput a
   pub at_most_height : r ≤ a.height
   pub at_most_width : r ≤ a.width
-  pub rank : IsPrime a.modulus → HasRank a.modulus (matrix_of a) r
+  pub rank : IsPrime a.modulus → HasRank a.modulus (given_matrix a) r
 
 -- E is the reduced row echelon form for a prime modulus
 pub record IsRrefOf (a : Given) (E : ResidueMatrix) : Type 0 where
-  pub sound : IsSound a
+  pub sound : IsSoundInput a
   pub sizes : HasSizes a.modulus a.width E
-  pub rref : IsPrime a.modulus → IsRref a.modulus (matrix_of a) E.matrix
+  pub rref : IsPrime a.modulus → IsRref a.modulus (given_matrix a) E.matrix
 
 -- K is the kernel basis for a prime modulus
 pub record IsKernelOf (a : Given) (K : ResidueMatrix) : Type 0 where
-  pub sound : IsSound a
+  pub sound : IsSoundInput a
   pub sizes : HasSizes a.modulus a.width K
-  pub kernel : IsPrime a.modulus → IsKernel a.modulus (matrix_of a) K.matrix
+  pub kernel : IsPrime a.modulus → IsKernel a.modulus (given_matrix a) K.matrix
 
 -- K is the basis of the left kernel for a prime modulus
 pub record IsLeftKernelOf (a : Given) (K : ResidueMatrix) : Type 0 where
-  pub sound : IsSound a
+  pub sound : IsSoundInput a
   pub sizes : HasSizes a.modulus a.height K
-  pub kernel : IsPrime a.modulus → IsKernel a.modulus (transposed (matrix_of a)) K.matrix
+  pub kernel : IsPrime a.modulus → IsKernel a.modulus (transposed (given_matrix a)) K.matrix
 
 -- b is a column for the rows of a
 pub record IsSystem (a b : Given) : Type 0 where
-  pub matrix : IsSound a
-  pub side : IsSound b
+  pub matrix : IsSoundInput a
+  pub side : IsSoundInput b
   pub moduli : a.modulus ≡ b.modulus
   pub heights : a.height ≡ b.height
   pub column : b.width ≡ 1
@@ -62,8 +62,8 @@ pub record IsSystem (a b : Given) : Type 0 where
 -- what is answered of A x = b: for a prime modulus the reduced solution, or the row that refutes it
 pub record IsSolvedBy (a b : Given) (found : Solution) : Type 0 where
   pub sound : IsSystem a b
-  pub shape : HasSolutionShape a.modulus (matrix_of a) found
-  pub solved : IsPrime a.modulus → IsSolved a.modulus (matrix_of a) (column (matrix_of b)) found
+  pub shape : HasSolutionShape a.modulus (given_matrix a) found
+  pub solved : IsPrime a.modulus → IsSolved a.modulus (given_matrix a) (column (given_matrix b)) found
 
 -- x is the solution that is answered, as a column
 abbrev pub IsSolutionOf : Given → Given → ResidueMatrix → Type 0
@@ -74,12 +74,12 @@ abbrev pub IsRefutationOf : Given → Given → ResidueMatrix → Type 0
 IsRefutationOf a b y = IsSolvedBy a b (solution.Refuted y)
 
 -- the one or the other
-abbrev pub AnswersSystem : Given → Given → ResidueMatrix → Type 0
-AnswersSystem a b E = IsSolutionOf a b E ⊎ IsRefutationOf a b E
+abbrev pub IsSystemAnswerOf : Given → Given → ResidueMatrix → Type 0
+IsSystemAnswerOf a b E = IsSolutionOf a b E ⊎ IsRefutationOf a b E
 
 -- a is square and not too large
 pub record IsSquare (a : Given) : Type 0 where
-  pub matrix : IsSound a
+  pub matrix : IsSoundInput a
   pub square : a.height ≡ a.width
   pub small : 2 * a.width ≤ LARGEST_SIZE
 
@@ -87,7 +87,7 @@ pub record IsSquare (a : Given) : Type 0 where
 pub record IsInvertedBy (a : Given) (found : Inverse) : Type 0 where
   pub sound : IsSquare a
   pub shape : HasInversionShape a.modulus a.width found
-  pub inversion : IsPrime a.modulus → IsInversion a.modulus (matrix_of a) found
+  pub inversion : IsPrime a.modulus → IsInversion a.modulus (given_matrix a) found
 
 -- B is the inverse that is answered
 abbrev pub IsInverseOf : Given → ResidueMatrix → Type 0
@@ -98,10 +98,10 @@ abbrev pub IsNullVectorOf : Given → ResidueMatrix → Type 0
 IsNullVectorOf a v = IsInvertedBy a (inverse.Singular v)
 
 -- the one or the other
-abbrev pub AnswersInversion : Given → ResidueMatrix → Type 0
-AnswersInversion a E = IsInverseOf a E ⊎ IsNullVectorOf a E
+abbrev pub IsInversionAnswerOf : Given → ResidueMatrix → Type 0
+IsInversionAnswerOf a E = IsInverseOf a E ⊎ IsNullVectorOf a E
 
 -- the pairs are what one worker selects as structural pivots
 pub record ArePivotsOf (a : Given) (pairs : List Pair) : Type 0 where
-  pub sound : IsSound a
-  pub selected : Selected (matrix_of a) 1 pairs
+  pub sound : IsSoundInput a
+  pub selected : Selected (given_matrix a) 1 pairs

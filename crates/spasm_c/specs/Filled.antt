@@ -6,7 +6,7 @@ use Rattle.spasm_c.specs.Given.{entries}
 use Rattle.spasm_c.specs.declared.room.Room.{Room}
 
 -- the arrays and what is told are as they were
-pub record IsKept (old new : Room) : Type 0 where
+pub record IsRoomKept (old new : Room) : Type 0 where
   pub rows : new.rows.now ≡ old.rows.now
   pub columns : new.columns.now ≡ old.columns.now
   pub values : new.values.now ≡ old.values.now
@@ -15,7 +15,7 @@ pub record IsKept (old new : Room) : Type 0 where
 
 -- E was written: the first places have its entries other than 0, row by row and by ascending columns, and it is told
 -- how many there are, and the height
-pub record IsWritten (E : Matrix) (new : Room) : Type 0 where
+pub record IsMatrixWritten (E : Matrix) (new : Room) : Type 0 where
   pub needed : new.needed ≡ length (triples_of E)
   pub height : new.height ≡ E.height
   pub entries : entries (take new.needed new.rows.now) (take new.needed new.columns.now)
@@ -33,7 +33,7 @@ pub record IsTold (E : Matrix) (old new : Room) : Type 0 where
 
 -- a matrix of which P holds was written
 abbrev pub Holds : (ResidueMatrix → Type 0) → Room → Type 0
-Holds P new = (E : ResidueMatrix) × P E × IsWritten E.matrix new
+Holds P new = (E : ResidueMatrix) × P E × IsMatrixWritten E.matrix new
 
 -- there is no room for a matrix of which P holds
 abbrev pub Lacks : (ResidueMatrix → Type 0) → Room → Room → Type 0

@@ -3,7 +3,7 @@ ghost use Rattle.std.specs.Prelude.{◌≡◌, IfNone, IfOk, IfSome};
 ghost use Rattle.pivot_table.specs.Selected.{Selected};
 ghost use Rattle.spasm_c.specs.Asked.{ArePivotsOf, IsInvertedBy, IsKernelOf, IsLeftKernelOf, IsRankOf, IsRrefOf};
 ghost use Rattle.spasm_c.specs.Asked.{IsSolvedBy, IsSquare, IsSystem};
-ghost use Rattle.spasm_c.specs.Given.{IsSound};
+ghost use Rattle.spasm_c.specs.Given.{IsSoundInput};
 
 use crate::given::Given;
 use fl_pivots::leftmost;
@@ -16,7 +16,7 @@ use triangular_solve::Triangle;
 
 // The rank.
 pub(crate) fn rank_of(alloc: Global, a: &Given<'_>) -> Result<Option<u32>, AllocError>
-    ensures none { IfOk result (λ found. IfNone found (¬ IsSound a.now)) }
+    ensures none { IfOk result (λ found. IfNone found (¬ IsSoundInput a.now)) }
     ensures some { IfOk result (λ found. IfSome found (IsRankOf a.now)) }
 {
     let Some(matrix) = a.matrix(alloc)? else {
@@ -28,7 +28,7 @@ pub(crate) fn rank_of(alloc: Global, a: &Given<'_>) -> Result<Option<u32>, Alloc
 
 // The reduced row echelon form.
 pub(crate) fn rref_of(alloc: Global, a: &Given<'_>) -> Result<Option<Rows>, AllocError>
-    ensures none { IfOk result (λ found. IfNone found (¬ IsSound a.now)) }
+    ensures none { IfOk result (λ found. IfNone found (¬ IsSoundInput a.now)) }
     ensures some { IfOk result (λ found. IfSome found (IsRrefOf a.now)) }
 {
     let Some(matrix) = a.matrix(alloc)? else {
@@ -40,7 +40,7 @@ pub(crate) fn rref_of(alloc: Global, a: &Given<'_>) -> Result<Option<Rows>, Allo
 
 // The kernel basis.
 pub(crate) fn kernel_of(alloc: Global, a: &Given<'_>) -> Result<Option<Rows>, AllocError>
-    ensures none { IfOk result (λ found. IfNone found (¬ IsSound a.now)) }
+    ensures none { IfOk result (λ found. IfNone found (¬ IsSoundInput a.now)) }
     ensures some { IfOk result (λ found. IfSome found (IsKernelOf a.now)) }
 {
     let Some(matrix) = a.matrix(alloc)? else {
@@ -52,7 +52,7 @@ pub(crate) fn kernel_of(alloc: Global, a: &Given<'_>) -> Result<Option<Rows>, Al
 
 // The basis of the left kernel.
 pub(crate) fn left_kernel_of(alloc: Global, a: &Given<'_>) -> Result<Option<Rows>, AllocError>
-    ensures none { IfOk result (λ found. IfNone found (¬ IsSound a.now)) }
+    ensures none { IfOk result (λ found. IfNone found (¬ IsSoundInput a.now)) }
     ensures some { IfOk result (λ found. IfSome found (IsLeftKernelOf a.now)) }
 {
     let Some(matrix) = a.matrix(alloc)? else {
@@ -104,7 +104,7 @@ pub(crate) fn inversion_of(alloc: Global, a: &Given<'_>) -> Result<Option<Invers
 
 // The pivots that one worker selects.
 pub(crate) fn pivots_of(alloc: Global, a: &Given<'_>) -> Result<Option<Vec<Pair>>, AllocError>
-    ensures none { IfOk result (λ found. IfNone found (¬ IsSound a.now)) }
+    ensures none { IfOk result (λ found. IfNone found (¬ IsSoundInput a.now)) }
     ensures some { IfOk result (λ found. IfSome found (λ pairs. ArePivotsOf a.now pairs.items)) }
 {
     let Some(matrix) = a.matrix(alloc)? else {

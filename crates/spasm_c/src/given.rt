@@ -1,9 +1,9 @@
 // Matrices that C passes.
-ghost use Rattle.std.specs.Prelude.{◌≡◌, length, IfNone, IfOk, IfSome};
-ghost use Rattle.spasm_c.specs.Given.{IsSound, entries, matrix_of};
+ghost use Rattle.std.specs.Prelude.{◌≡◌, ◌≢◌, ◌<◌, ◌≤◌, ◌+◌, ℕ, length, slice_index, IfNone, IfOk, IfSome, IsFalse, IsTrue};
+ghost use Rattle.spasm_c.specs.Given.{EntryFits, IsBefore, IsInOrder, IsSoundInput, given_matrix};
 
 use residue_words::{MODULUS_BOUND, Modulus};
-use sparse_rows::Rows;
+use sparse_rows::{LARGEST_SIZE, Rows, RowsBuilder};
 use std::alloc::{AllocError, Global};
 
 /// A matrix as C passes it, by three arrays of one length: the entries in any order, of which those at one place are added up.
@@ -25,41 +25,142 @@ pub struct Given<'a> {
 }
 
 impl Given<'_> {
-    // The matrix; `None` if the arrays aren't sound.
+    // The matrix; `None` if the arrays aren't sound. Entries in order are copied row by row, as they stand; others are sorted.
     pub(crate) fn matrix(&self, alloc: Global) -> Result<Option<Rows>, AllocError>
-        ensures none { IfOk result (λ found. IfNone found (¬ IsSound self.now)) }
-        ensures sound { IfOk result (λ found. IfSome found (λ _. IsSound self.now)) }
+        ensures none { IfOk result (λ found. IfNone found (¬ IsSoundInput self.now)) }
+        ensures sound { IfOk result (λ found. IfSome found (λ _. IsSoundInput self.now)) }
         ensures some { IfOk result (λ found. IfSome found (λ rows. rows ≡ record {
           modulus = self.now.modulus;
-          matrix = matrix_of self.now;
+          matrix = given_matrix self.now;
         })) }
     {
-        if self.columns.len() != self.rows.len() || self.values.len() != self.rows.len() {
+        if !self.is_sound() {
             return Ok(None);
+        }
+        let rows = if self.is_in_order() {
+            self.copied(alloc)?
+        } else {
+            self.summed(alloc)?
+        };
+        Ok(Some(rows))
+    }
+
+    // Whether the arrays have one length, and modulus, sizes and entries are in range.
+    fn is_sound(&self) -> bool
+        ensures yes { IsTrue result → IsSoundInput self.now }
+        ensures no { IsFalse result → ¬ IsSoundInput self.now }
+    {
+        if self.columns.len() != self.rows.len() || self.values.len() != self.rows.len() {
+            return false;
         }
         if self.modulus < 2 || self.modulus >= MODULUS_BOUND {
-            return Ok(None);
+            return false;
         }
-        let entries = together(alloc, self.rows, self.columns, self.values)?;
-        let modulus = Modulus::new(self.modulus);
-        Rows::checked_from_triples(alloc, self.height, self.width, &modulus, &entries)
+        if self.height > LARGEST_SIZE || self.width > LARGEST_SIZE {
+            return false;
+        }
+        for k in 0..self.rows.len() {
+            if !self.fits(k) {
+                return false;
+            }
+        }
+        true
     }
-}
 
-// The entries that three arrays of one length have.
-fn together(
-    alloc: Global,
-    rows: &[u32],
-    columns: &[u32],
-    values: &[u64],
-) -> Result<Vec<(u32, u32, u64)>, AllocError>
-    requires columns { length columns.now ≡ length rows.now }
-    requires values { length values.now ≡ length rows.now }
-    ensures { IfOk result (λ all. all.items ≡ entries rows.now columns.now values.now) }
-{
-    let mut all = Vec::with_capacity(alloc, rows.len())?;
-    for k in 0..rows.len() {
-        all.push((rows[k], columns[k], values[k]))?;
+    // Whether this entry lies inside.
+    fn fits(&self, k: usize) -> bool
+        requires row { k < length self.now.rows.now }
+        requires column { k < length self.now.columns.now }
+        requires value { k < length self.now.values.now }
+        ensures yes { IsTrue result → EntryFits self.now k }
+        ensures no { IsFalse result → ¬ EntryFits self.now k }
+    {
+        self.rows[k] < self.height && self.columns[k] < self.width && self.values[k] < self.modulus
     }
-    Ok(all)
+
+    // Whether the entries ascend by rows and, within a row, by columns, and none is 0.
+    fn is_in_order(&self) -> bool
+        requires { IsSoundInput self.now }
+        ensures { IsTrue result → IsInOrder self.now }
+    {
+        for k in 0..self.rows.len() {
+            if self.values[k] == 0 {
+                return false;
+            }
+            if k + 1 < self.rows.len() && !self.is_before_next(k) {
+                return false;
+            }
+        }
+        true
+    }
+
+    // Whether this entry stands before the next.
+    fn is_before_next(&self, k: usize) -> bool
+        requires sound { IsSoundInput self.now }
+        requires inside { k + 1 < length self.now.rows.now }
+        ensures { IsTrue result → IsBefore self.now k (k + 1) }
+    {
+        let (row, next) = (self.rows[k], self.rows[k + 1]);
+        row < next || (row == next && self.columns[k] < self.columns[k + 1])
+    }
+
+    // The matrix of entries in order.
+    fn copied(&self, alloc: Global) -> Result<Rows, AllocError>
+        requires sound { IsSoundInput self.now }
+        requires order { IsInOrder self.now }
+        ensures { IfOk result (λ rows. rows ≡ record {
+          modulus = self.now.modulus;
+          matrix = given_matrix self.now;
+        }) }
+    {
+        let modulus = Modulus::new(self.modulus);
+        let mut made = Rows::with_room(alloc, modulus, self.width, self.height, self.rows.len())?;
+        let mut next = 0;
+        let mut begin = 0;
+        while begin < self.rows.len() {
+            let row = self.rows[begin];
+            let end = self.row_end(begin);
+            made.append_zeros(row - next)?;
+            made.append_entries(&self.columns[begin..end], &self.values[begin..end])?;
+            next = row + 1;
+            begin = end;
+        }
+        made.append_zeros(self.height - next)?;
+        Ok(made)
+    }
+
+    // Where the entries end that follow this one in its row.
+    fn row_end(&self, begin: usize) -> usize
+        requires { begin < length self.now.rows.now }
+        ensures some { begin < result }
+        ensures within { result ≤ length self.now.rows.now }
+        ensures row { (k : ℕ) → begin ≤ k → k < result →
+            slice_index self.now.rows.now k ≡ slice_index self.now.rows.now begin }
+        ensures next { result < length self.now.rows.now →
+            slice_index self.now.rows.now result ≢ slice_index self.now.rows.now begin }
+    {
+        for k in begin + 1..self.rows.len() {
+            if self.rows[k] != self.rows[begin] {
+                return k;
+            }
+        }
+        self.rows.len()
+    }
+
+    // The matrix of entries in any order.
+    fn summed(&self, alloc: Global) -> Result<Rows, AllocError>
+        requires { IsSoundInput self.now }
+        ensures { IfOk result (λ rows. rows ≡ record {
+          modulus = self.now.modulus;
+          matrix = given_matrix self.now;
+        }) }
+    {
+        let modulus = Modulus::new(self.modulus);
+        let mut builder = RowsBuilder::new(alloc, self.height, self.width, modulus)?;
+        for k in 0..self.rows.len() {
+            builder.push(self.rows[k], self.columns[k], self.values[k])?;
+        }
+        let rows = builder.finish()?;
+        Ok(rows)
+    }
 }

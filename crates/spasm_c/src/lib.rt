@@ -12,10 +12,10 @@ mod room;
 mod status;
 
 ghost use Rattle.std.specs.Prelude.{◌≡◌, ◌≢◌, ◌<◌};
-ghost use Rattle.spasm_c.specs.Asked.{AnswersInversion, AnswersSystem, ArePivotsOf, IsInverseOf, IsKernelOf, IsLeftKernelOf};
+ghost use Rattle.spasm_c.specs.Asked.{IsInversionAnswerOf, IsSystemAnswerOf, ArePivotsOf, IsInverseOf, IsKernelOf, IsLeftKernelOf};
 ghost use Rattle.spasm_c.specs.Asked.{IsNullVectorOf, IsRankOf, IsRefutationOf, IsRrefOf, IsSolutionOf, IsSquare, IsSystem};
-ghost use Rattle.spasm_c.specs.Filled.{Holds, IsKept, Lacks};
-ghost use Rattle.spasm_c.specs.Given.{IsSound};
+ghost use Rattle.spasm_c.specs.Filled.{Holds, IsRoomKept, Lacks};
+ghost use Rattle.spasm_c.specs.Given.{IsSoundInput};
 ghost use Rattle.spasm_c.specs.Placed.{ArePlacesKept, HoldsPlaces, LacksPlaces};
 ghost use Rattle.spasm_c.specs.declared.status.TheConstants.{SPASM_BAD_INPUT, SPASM_NO_ROOM, SPASM_OK};
 ghost use Rattle.spasm_c.specs.declared.status.TheConstants.{SPASM_REFUTED, SPASM_SINGULAR};
@@ -43,7 +43,7 @@ pub extern "C" fn spasm_version() -> u32
 #[unsafe(no_mangle)]
 pub extern "C" fn spasm_rank(alloc: Global, a: &Given<'_>, rank: &mut u32) -> u32
     ensures rank { result ≡ SPASM_OK → IsRankOf a.now rank.new }
-    ensures refused { result ≡ SPASM_BAD_INPUT → ¬ IsSound a.now }
+    ensures refused { result ≡ SPASM_BAD_INPUT → ¬ IsSoundInput a.now }
     ensures kept { result ≢ SPASM_OK → rank.new ≡ rank.old }
 {
     match rank_of(alloc, a) {
@@ -62,8 +62,8 @@ pub extern "C" fn spasm_rank(alloc: Global, a: &Given<'_>, rank: &mut u32) -> u3
 pub extern "C" fn spasm_rref(alloc: Global, a: &Given<'_>, form: &mut Room<'_>) -> u32
     ensures form { result ≡ SPASM_OK → Holds (IsRrefOf a.now) form.new }
     ensures room { result ≡ SPASM_NO_ROOM → Lacks (IsRrefOf a.now) form.old form.new }
-    ensures refused { result ≡ SPASM_BAD_INPUT → ¬ IsSound a.now }
-    ensures kept { result ≢ SPASM_OK → result ≢ SPASM_NO_ROOM → IsKept form.old form.new }
+    ensures refused { result ≡ SPASM_BAD_INPUT → ¬ IsSoundInput a.now }
+    ensures kept { result ≢ SPASM_OK → result ≢ SPASM_NO_ROOM → IsRoomKept form.old form.new }
 {
     match rref_of(alloc, a) {
         Ok(Some(found)) => form.fill(alloc, &found, SPASM_OK),
@@ -78,8 +78,8 @@ pub extern "C" fn spasm_rref(alloc: Global, a: &Given<'_>, form: &mut Room<'_>) 
 pub extern "C" fn spasm_kernel(alloc: Global, a: &Given<'_>, basis: &mut Room<'_>) -> u32
     ensures basis { result ≡ SPASM_OK → Holds (IsKernelOf a.now) basis.new }
     ensures room { result ≡ SPASM_NO_ROOM → Lacks (IsKernelOf a.now) basis.old basis.new }
-    ensures refused { result ≡ SPASM_BAD_INPUT → ¬ IsSound a.now }
-    ensures kept { result ≢ SPASM_OK → result ≢ SPASM_NO_ROOM → IsKept basis.old basis.new }
+    ensures refused { result ≡ SPASM_BAD_INPUT → ¬ IsSoundInput a.now }
+    ensures kept { result ≢ SPASM_OK → result ≢ SPASM_NO_ROOM → IsRoomKept basis.old basis.new }
 {
     match kernel_of(alloc, a) {
         Ok(Some(found)) => basis.fill(alloc, &found, SPASM_OK),
@@ -93,8 +93,8 @@ pub extern "C" fn spasm_kernel(alloc: Global, a: &Given<'_>, basis: &mut Room<'_
 pub extern "C" fn spasm_left_kernel(alloc: Global, a: &Given<'_>, basis: &mut Room<'_>) -> u32
     ensures basis { result ≡ SPASM_OK → Holds (IsLeftKernelOf a.now) basis.new }
     ensures room { result ≡ SPASM_NO_ROOM → Lacks (IsLeftKernelOf a.now) basis.old basis.new }
-    ensures refused { result ≡ SPASM_BAD_INPUT → ¬ IsSound a.now }
-    ensures kept { result ≢ SPASM_OK → result ≢ SPASM_NO_ROOM → IsKept basis.old basis.new }
+    ensures refused { result ≡ SPASM_BAD_INPUT → ¬ IsSoundInput a.now }
+    ensures kept { result ≢ SPASM_OK → result ≢ SPASM_NO_ROOM → IsRoomKept basis.old basis.new }
 {
     match left_kernel_of(alloc, a) {
         Ok(Some(found)) => basis.fill(alloc, &found, SPASM_OK),
@@ -114,9 +114,9 @@ pub extern "C" fn spasm_solve(
 ) -> u32
     ensures solution { result ≡ SPASM_OK → Holds (IsSolutionOf a.now b.now) answer.new }
     ensures refutation { result ≡ SPASM_REFUTED → Holds (IsRefutationOf a.now b.now) answer.new }
-    ensures room { result ≡ SPASM_NO_ROOM → Lacks (AnswersSystem a.now b.now) answer.old answer.new }
+    ensures room { result ≡ SPASM_NO_ROOM → Lacks (IsSystemAnswerOf a.now b.now) answer.old answer.new }
     ensures refused { result ≡ SPASM_BAD_INPUT → ¬ IsSystem a.now b.now }
-    ensures kept { SPASM_REFUTED < result → result ≢ SPASM_NO_ROOM → IsKept answer.old answer.new }
+    ensures kept { SPASM_REFUTED < result → result ≢ SPASM_NO_ROOM → IsRoomKept answer.old answer.new }
 {
     match solution_of(alloc, a, b) {
         Ok(Some(Solution::Found(x))) => answer.fill(alloc, &x, SPASM_OK),
@@ -131,9 +131,9 @@ pub extern "C" fn spasm_solve(
 pub extern "C" fn spasm_inverse(alloc: Global, a: &Given<'_>, answer: &mut Room<'_>) -> u32
     ensures inverse { result ≡ SPASM_OK → Holds (IsInverseOf a.now) answer.new }
     ensures singular { result ≡ SPASM_SINGULAR → Holds (IsNullVectorOf a.now) answer.new }
-    ensures room { result ≡ SPASM_NO_ROOM → Lacks (AnswersInversion a.now) answer.old answer.new }
+    ensures room { result ≡ SPASM_NO_ROOM → Lacks (IsInversionAnswerOf a.now) answer.old answer.new }
     ensures refused { result ≡ SPASM_BAD_INPUT → ¬ IsSquare a.now }
-    ensures kept { SPASM_SINGULAR < result → result ≢ SPASM_NO_ROOM → IsKept answer.old answer.new }
+    ensures kept { SPASM_SINGULAR < result → result ≢ SPASM_NO_ROOM → IsRoomKept answer.old answer.new }
 {
     match inversion_of(alloc, a) {
         Ok(Some(Inverse::Found(b))) => answer.fill(alloc, &b, SPASM_OK),
@@ -149,7 +149,7 @@ pub extern "C" fn spasm_inverse(alloc: Global, a: &Given<'_>, answer: &mut Room<
 pub extern "C" fn spasm_pivots(alloc: Global, a: &Given<'_>, pivots: &mut Places<'_>) -> u32
     ensures pivots { result ≡ SPASM_OK → HoldsPlaces (ArePivotsOf a.now) pivots.new }
     ensures room { result ≡ SPASM_NO_ROOM → LacksPlaces (ArePivotsOf a.now) pivots.old pivots.new }
-    ensures refused { result ≡ SPASM_BAD_INPUT → ¬ IsSound a.now }
+    ensures refused { result ≡ SPASM_BAD_INPUT → ¬ IsSoundInput a.now }
     ensures kept { result ≢ SPASM_OK → result ≢ SPASM_NO_ROOM → ArePlacesKept pivots.old pivots.new }
 {
     match pivots_of(alloc, a) {

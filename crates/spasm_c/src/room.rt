@@ -1,6 +1,6 @@
 // Room for answers.
 ghost use Rattle.std.specs.Prelude.{◌≡◌, ◌≢◌, ◌<◌, ◌≤◌, ◌⊎◌, length, take};
-ghost use Rattle.spasm_c.specs.Filled.{IsKept, IsTold, IsWritten};
+ghost use Rattle.spasm_c.specs.Filled.{IsRoomKept, IsTold, IsMatrixWritten};
 ghost use Rattle.spasm_c.specs.Given.{entries};
 ghost use Rattle.spasm_c.specs.declared.status.TheConstants.{SPASM_BAD_INPUT, SPASM_NO_MEMORY, SPASM_NO_ROOM};
 
@@ -29,9 +29,9 @@ impl Room<'_> {
     pub(crate) fn fill(&mut self, alloc: Global, answer: &Rows, good: u32) -> u32
         requires { good < SPASM_BAD_INPUT }
         ensures status { (result ≡ good) ⊎ (SPASM_NO_MEMORY ≤ result) }
-        ensures good { result ≡ good → IsWritten answer.now.matrix self.new }
+        ensures good { result ≡ good → IsMatrixWritten answer.now.matrix self.new }
         ensures room { result ≡ SPASM_NO_ROOM → IsTold answer.now.matrix self.old self.new }
-        ensures other { result ≢ good → result ≢ SPASM_NO_ROOM → IsKept self.old self.new }
+        ensures other { result ≢ good → result ≢ SPASM_NO_ROOM → IsRoomKept self.old self.new }
     {
         let Ok(triples) = answer.triples(alloc) else {
             return SPASM_NO_MEMORY;
