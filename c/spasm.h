@@ -11,12 +11,14 @@
    status is SPASM_NO_ROOM, `needed` and `height` are told, and the arrays stay as they were. A second call with longer arrays computes
    the answer again, so pass as many places as an answer can have at most, where there is memory for them: it is told below.
 
-   STATUSES. Each function but spasm_version returns one. With SPASM_BAD_INPUT and SPASM_NO_MEMORY nothing is written.
+   STATUSES. Each function returns one but the two that tell of the library. With SPASM_BAD_INPUT and SPASM_NO_MEMORY nothing is written.
 
    A MODULUS that isn't prime isn't refused: but for spasm_pivots the answer then means nothing. It has a possible size.
 
    MEMORY is taken from malloc while a function runs, and all of it is given back before the function returns: 12 bytes an entry and 8 a
-   row for the matrix, 16 an entry for the arrays' copy, what the elimination makes, and 16 an entry of the answer.
+   row for the matrix, what the elimination makes, and 16 an entry of the answer. Entries that stand row by row and by ascending columns,
+   each at a place of its own and none of them 0, are copied in one pass; any others are sorted first, in 16 bytes an entry, and 36 for a
+   moment.
 
    THREADS. A call works on the calling thread alone, and starts none. Several threads may call at once, with arrays of their own for what
    is written. No function may be called from a signal handler, or in the forked child of a process with threads. A call can't be
@@ -96,6 +98,10 @@ typedef struct spasm_places {
 
 /* The library's version: the major one times 10000, the minor one times 100, and the patch. */
 uint32_t spasm_version(void);
+
+/* The processors that the library was compiled for: "x86-64-v3", which have AVX2, or "x86-64-v2". On any other the system may end the
+   program at a call of another function, as an illegal instruction. c/build.sh makes this function, and it isn't proved. */
+const char *spasm_processor(void);
 
 /* The rank. It is the cheapest call: no coefficients are kept.
    Statuses: SPASM_OK, SPASM_BAD_INPUT, SPASM_NO_MEMORY. */

@@ -5,6 +5,7 @@
 #include <pthread.h>
 #include <stdio.h>
 #include <stdlib.h>
+#include <string.h>
 
 enum { PLACES = 9, CALLERS = 8, TURNS = 200 };
 
@@ -81,6 +82,7 @@ static void answers(void) {
     pivots.rows_length = 0;
     expect(spasm_pivots(&matrix, &pivots) == SPASM_NO_ROOM, "spasm_pivots without room");
     expect(spasm_version() >= 10000, "spasm_version");
+    expect(strcmp(spasm_processor(), "x86-64-v2") == 0 || strcmp(spasm_processor(), "x86-64-v3") == 0, "spasm_processor");
 }
 
 static void refusals(void) {

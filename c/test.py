@@ -56,6 +56,7 @@ class Places(ctypes.Structure):
 LIBRARY = ctypes.CDLL(str(FOLDER / "libspasm.so"))
 for name in ("version", "rank", "rref", "kernel", "left_kernel", "solve", "inverse", "pivots"):
     getattr(LIBRARY, f"spasm_{name}").restype = ctypes.c_uint32
+LIBRARY.spasm_processor.restype = ctypes.c_char_p
 
 Triples = list[tuple[int, int, int]]
 
@@ -199,7 +200,7 @@ class HeaderTest(unittest.TestCase):
     def test_only_exports_are_seen(self) -> None:
         said = subprocess.run(["nm", "-D", "--defined-only", FOLDER / "libspasm.so"], capture_output=True, text=True, check=True).stdout
         self.assertEqual(sorted(line.split()[2] for line in said.splitlines()),
-                         sorted(re.findall(r'pub extern "C" fn (spasm_\w+)', self.sources["lib"])))
+                         sorted(["spasm_processor", *re.findall(r'pub extern "C" fn (spasm_\w+)', self.sources["lib"])]))
 
 
 class WorkedExampleTest(unittest.TestCase):
@@ -235,6 +236,7 @@ class WorkedExampleTest(unittest.TestCase):
 
     def test_version(self) -> None:
         self.assertGreaterEqual(LIBRARY.spasm_version(), 10000)
+        self.assertIn(LIBRARY.spasm_processor(), (b"x86-64-v2", b"x86-64-v3"))
 
 
 class BadInputTest(unittest.TestCase):
@@ -291,7 +293,9 @@ class RandomTest(unittest.TestCase):
 
     def judge(self, source: random.Random, p: int) -> None:
         triples, height, width = random_matrix(source, p)
-        given, rows = matrix(triples, height, width, p), dense(triples, height, width, p)
+        rows = dense(triples, height, width, p)
+        # entries in order are taken in another way
+        given = matrix(source.choice([triples, sparse(rows)]), height, width, p)
         form, leads = plain.rref(rows, width, p)
         left = plain.kernel(plain.transposed(rows, width), height, p)
         self.assertEqual(rank(given), (OK, len(leads)))

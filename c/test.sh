@@ -1,6 +1,7 @@
 #!/usr/bin/env bash
 # Tests the C library as it is built: from C, linked statically and under AddressSanitizer, linked to the shared object, and from Python.
-# Without c/build/libspasm.so, which c/build.sh makes, it says so and tests nothing.
+# Without c/build/libspasm.so, which c/build.sh makes, it says so and tests nothing: of a static library `rt ci` checks the proofs alone, and
+# leaves nothing of which an archive could be made.
 set -euo pipefail
 cd "$(dirname "${BASH_SOURCE[0]}")/.."
 
