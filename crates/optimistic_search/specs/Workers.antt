@@ -1,13 +1,15 @@
 -- Workers that share a board, and what their search leaves.
-use Rattle.std.specs.Prelude.{◌≤◌, ℕ, Bool, List, Option, None, Some}
+use Rattle.std.specs.Prelude.{◌≡◌, ◌≤◌, ℕ, All, Bool, List, Option, None, Some}
 use Rattle.residue_words.specs.Matrix.{Matrix}
 use Rattle.residue_words.specs.declared.plain.Pair.{Pair}
-use Rattle.pivot_table.specs.Board.{BoardState, SeatState}
+use Rattle.pivot_table.specs.Board.{BoardState, SeatState, IsSeatOf}
+use Rattle.pivot_table.specs.Book.{BookState}
 use Rattle.pivot_table.specs.Core.{Chair}
 use Rattle.pivot_table.specs.History.{StandsOrIsDead}
 use Rattle.pivot_table.specs.Closing.{IsDone}
 use Rattle.optimistic_search.specs.Taking.{IsIdle}
 use Rattle.optimistic_search.specs.Walked.{Walked}
+use Rattle.optimistic_search.specs.declared.together.Team.{Team}
 use Rattle.optimistic_search.specs.declared.worker.Worker.{Worker}
 
 -- seat and walk are idle
@@ -22,6 +24,14 @@ IsWorkerOf b w = AreIdle b w.seat w.walk × (w.from ≤ b.rows.matrix.height)
 -- the seat was split so often
 abbrev pub with_parted : Chair → ℕ → Chair
 with_parted s n = record s { parted = n }
+
+-- board, seat and walk of a book, and workers at the board
+pub record IsTeamOf (b : BookState) (t : Team) : Type 0 where
+  pub rows : t.board.rows ≡ b.rows
+  pub pairs : t.board.pairs ≡ b.pairs
+  pub seat : IsSeatOf t.board t.seat
+  pub walk : t.rest ≡ record { rows = b.rows; pairs = b.pairs; current = None }
+  pub workers : All (IsWorkerOf t.board) t.workers.items
 
 -- the rows that are done stand in the history or are dead in it
 abbrev pub DoneAreSettled : Matrix → List Pair → List Bool → Type 0

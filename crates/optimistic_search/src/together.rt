@@ -5,7 +5,7 @@ ghost use Rattle.pivot_table.specs.Book.{HasRoom};
 ghost use Rattle.pivot_table.specs.Closing.{IsDone};
 ghost use Rattle.pivot_table.specs.History.{Maximal, StandsOrIsDead, StartsWith};
 ghost use Rattle.optimistic_search.specs.Versions.{AreStartsOf};
-ghost use Rattle.optimistic_search.specs.Workers.{DoneAreSettled, IsWorkerOf, with_parted};
+ghost use Rattle.optimistic_search.specs.Workers.{DoneAreSettled, IsTeamOf, IsWorkerOf, with_parted};
 
 use crate::by_walk::{follow, try_row};
 use crate::gate::Gate;
@@ -56,6 +56,30 @@ fn prepared<'a>(
         });
     }
     Ok(workers)
+}
+
+// The board of a search with its workers, and what the calling thread keeps: a seat, and a walk over the book's pairs.
+#[derive(Drop)]
+struct Team<'a> {
+    board: Board<'a>,
+    seat: Seat,
+    rest: RestingWalk<'a>,
+    workers: Vec<Worker<'a>>,
+}
+
+// A board of the book's pairs with this many workers. It takes all memory that they need.
+fn seated<'a>(alloc: Global, book: &Book<'a>, count: u32) -> Result<Team<'a>, AllocError>
+    ensures { IfOk result (IsTeamOf book.now) }
+{
+    let (board, mut seat) = Board::new(alloc, book)?;
+    let rest = resting_over(alloc, book)?;
+    let workers = prepared(alloc, book, &board, &mut seat, count)?;
+    Ok(Team {
+        board,
+        seat,
+        rest,
+        workers,
+    })
 }
 
 // Runs the workers, each in a thread of its own where one can be made.
@@ -171,9 +195,12 @@ fn search_with<'a, R: Threads + Sync, G: Gate, L: Ledger>(
         AreStartsOf book.entry.rows.matrix book.entry.pairs t.0.pairs t.1) }
 {
     let first = book.pairs().len();
-    let (board, mut seat) = Board::new(alloc, &book)?;
-    let mut rest = resting_over(alloc, &book)?;
-    let mut team = prepared(alloc, &book, &board, &mut seat, workers)?;
+    let Team {
+        board,
+        mut seat,
+        mut rest,
+        workers: mut team,
+    } = seated(alloc, &book, workers)?;
     run_all(rt, &board, gate, team.as_mut_slice());
     let taken = join_all(&board, &mut seat, team);
     let Closed {

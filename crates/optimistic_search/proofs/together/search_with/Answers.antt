@@ -3,4 +3,4 @@ use Rattle.optimistic_search.proofs.Working.{all_back}
 use Rattle.optimistic_search.proofs.together.search_with.Goals as goal
 
 pub join_all-taken-requires-clause-workers : goal.join_all-taken-requires-clause-workers
-join_all-taken-requires-clause-workers g c = all_back (IsWorkerOf c.in_ok-board.board) c.in_ok-team.team.len _ c.run_all.new.workers c.in_ok-team.team.items c.run_all.ensures c.in_ok-team.ensures.workers
+join_all-taken-requires-clause-workers g c = all_back (IsWorkerOf c.in_ok-board.field-0.board) c.in_ok-board.field-0.workers.len _ c.run_all.new.workers c.in_ok-board.field-0.workers.items c.run_all.ensures c.in_ok-board.ensures.workers
