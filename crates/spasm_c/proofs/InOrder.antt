@@ -8,7 +8,7 @@ use Rattle.sparse_rows.specs.Rows.{FitsMatrix, IsNextFilled, IsZeroRow, ResidueM
 use Rattle.sparse_rows.specs.Stored.{IsSparse, entry_at, spread, with_sparse_row}
 use Rattle.sparse_rows.proofs.Below.{appended_all, appended_more, front, front_none}
 use Rattle.sparse_rows.proofs.Spread.{at_spread, entry_cover, entry_tail, spread_vector, support_spread}
-use Rattle.spasm_c.specs.Given.{IsBefore, IsInOrder, IsSoundInput, entries, entries_of, entry_given, given_matrix}
+use Rattle.spasm_c.specs.Given.{IsBefore, IsInOrder, IsSoundInput, entries, entries_given, entry_given, given_matrix}
 use Rattle.spasm_c.specs.declared.given.Given.{Given}
 use Rattle.spasm_c.proofs.Entries.{at_entries, length_entries}
 
@@ -93,7 +93,7 @@ module _ {a : Given} (s : IsSoundInput a) where
       (s.fit.inside k (0, 0, 0) (omega (arith, l, length_entries a.rows.now a.columns.now a.values.now s.columns s.values)))
 
   given_is_matrix : IsMatrix a.modulus (given_matrix a)
-  given_is_matrix = is_matrix_of a.modulus a.height a.width (λ i j. sum_at i j (map triple (entries_of a)) % a.modulus) (λ i j x y. mod-lt _ (omega (arith, s.two_or_more)))
+  given_is_matrix = is_matrix_of a.modulus a.height a.width (λ i j. sum_at i j (map triple (entries_given a)) % a.modulus) (λ i j x y. mod-lt _ (omega (arith, s.two_or_more)))
 
   module _ (o : IsInOrder a) where
     order_by : (d k t : ℕ) → k + suc d ≡ t → t < length a.rows.now → IsBefore a k t
@@ -149,9 +149,9 @@ module _ {a : Given} (s : IsSoundInput a) where
     run_row {i} {b} {e} r l =
         let cs : List ℕ = slice_range a.columns.now b e in
         let vs : List ℕ = slice_range a.values.now b e in
-        let sums : ℕ → ℕ → ℕ = λ i j. sum_at i j (map triple (entries_of a)) % a.modulus in
+        let sums : ℕ → ℕ → ℕ = λ i j. sum_at i j (map triple (entries_given a)) % a.modulus in
         row_matrix_of a.height a.width sums i l ∙ list_of_equal a.width (sums i) (entry_at cs vs) (λ j inside.
-        let sum : sum_at i j (map triple (entries_of a)) ≡ entry_at cs vs j =
+        let sum : sum_at i j (map triple (entries_given a)) ≡ entry_at cs vs j =
         sum_run i j b (e - b) e a.rows.now a.columns.now a.values.now (omega (arith, r.up)) s.columns s.values r.within
         (λ k h q. omega (arith, r.before k h, q)) r.here (λ k g h q. omega (arith, r.behind k g h, q))
         (λ k t g h m. (order_of k t h (omega (arith, m, r.within))).column (r.here k g (omega (arith, h, m)) ∙ sym (r.here t (omega (arith, g, h)) m))) in
@@ -180,8 +180,8 @@ pub record IsCopied (a : Given) (next begin : ℕ) (made : ResidueMatrix) : Type
   pub before : (k : ℕ) → k < begin → slice_index a.rows.now k < next
   pub behind : (k : ℕ) → begin ≤ k → k < length a.rows.now → next ≤ slice_index a.rows.now k
 
-pub copied_none : {a : Given} {made : ResidueMatrix} → made.modulus ≡ a.modulus → made.matrix ≡ no_row a → IsCopied a 0 0 made
-copied_none {a} {made} p is = record {
+pub copying_begins : {a : Given} {made : ResidueMatrix} → made.modulus ≡ a.modulus → made.matrix ≡ no_row a → IsCopied a 0 0 made
+copying_begins {a} {made} p is = record {
   modulus = p;
   matrix = is ∙ front_none (no_row a) (given_matrix a);
   low = omega arith;
@@ -245,9 +245,9 @@ module _ {a : Given} (s : IsSoundInput a) (o : IsInOrder a) {next begin : ℕ} {
       }) (omega (arith, l, inside));
     }
 
-    pub copied_more : {mid new : ResidueMatrix} → mid.modulus ≡ old.modulus → mid.matrix ≡ with_zeros old.matrix (slice_index a.rows.now begin - next) → new.modulus ≡ mid.modulus →
+    pub copying_more : {mid new : ResidueMatrix} → mid.modulus ≡ old.modulus → mid.matrix ≡ with_zeros old.matrix (slice_index a.rows.now begin - next) → new.modulus ≡ mid.modulus →
         new.matrix ≡ with_sparse_row mid.matrix (slice_range a.columns.now begin end) (slice_range a.values.now begin end) → IsCopied a (slice_index a.rows.now begin + 1) end new
-    copied_more {mid} {new} p zeros q row =
+    copying_more {mid} {new} p zeros q row =
         let cs : List ℕ = slice_range a.columns.now begin end in
         let vs : List ℕ = slice_range a.values.now begin end in
         let wide : mid.matrix.width ≡ a.width = ap (λ (M : Matrix). M.width) zeros ∙ ap (λ (M : Matrix). M.width) h.matrix in
@@ -264,9 +264,9 @@ module _ {a : Given} (s : IsSoundInput a) (o : IsInOrder a) {next begin : ℕ} {
         }
 
   -- and all of them
-  pub copied_all : length a.rows.now ≤ begin → {made : ResidueMatrix} → made.modulus ≡ old.modulus → made.matrix ≡ with_zeros old.matrix (a.height - next) →
+  pub copying_ends : length a.rows.now ≤ begin → {made : ResidueMatrix} → made.modulus ≡ old.modulus → made.matrix ≡ with_zeros old.matrix (a.height - next) →
       made ≡ record { modulus = a.modulus; matrix = given_matrix a }
-  copied_all all {made} p zeros =
+  copying_ends all {made} p zeros =
       let M : Matrix = given_matrix a in
       let whole : made.matrix ≡ above (no_row a) M = appended_all (no_row a) (given_is_matrix s) refl h.matrix h.low
       (λ k g l. run_none s o (record {

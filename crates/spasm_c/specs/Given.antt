@@ -12,8 +12,8 @@ entries (i ∷ rows) [] values = []
 entries (i ∷ rows) (j ∷ columns) [] = []
 entries (i ∷ rows) (j ∷ columns) (v ∷ values) = (i, j, v) ∷ entries rows columns values
 
-abbrev pub entries_of : Given → List (ℕ × ℕ × ℕ)
-entries_of a = entries a.rows.now a.columns.now a.values.now
+abbrev pub entries_given : Given → List (ℕ × ℕ × ℕ)
+entries_given a = entries a.rows.now a.columns.now a.values.now
 
 -- one of them
 abbrev pub entry_given : Given → ℕ → ℕ × ℕ × ℕ
@@ -25,7 +25,7 @@ EntryFits a k = FitsMatrix a.height a.width a.modulus (entry_given a k)
 
 -- the matrix: at each place the sum of the entries there, modulo the modulus
 abbrev pub given_matrix : Given → Matrix
-given_matrix a = built a.modulus a.height a.width (map triple (entries_of a))
+given_matrix a = built a.modulus a.height a.width (map triple (entries_given a))
 
 -- the arrays have one length, modulus and sizes are in range, each entry is a residue at a place of the matrix
 pub record IsSoundInput (a : Given) : Type 0 where
@@ -33,7 +33,7 @@ pub record IsSoundInput (a : Given) : Type 0 where
   pub values : length a.values.now ≡ length a.rows.now
   pub two_or_more : 2 ≤ a.modulus
   pub in_range : a.modulus < MODULUS_BOUND
-  pub fit : AllFit a.height a.width a.modulus (entries_of a)
+  pub fit : AllFit a.height a.width a.modulus (entries_given a)
 
 -- entry k stands above entry t, or to its left in the same row
 pub record IsBefore (a : Given) (k t : ℕ) : Type 0 where

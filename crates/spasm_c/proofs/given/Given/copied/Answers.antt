@@ -1,7 +1,7 @@
 use Rattle.std.proofs.Common.{◌≡◌, ◌∙◌, ℕ, List, ap, arith, slice_range, subst, sym}
 use Rattle.residue_words.specs.Matrix.{Matrix}
 use Rattle.sparse_rows.specs.Stored.{IsSparse}
-use Rattle.spasm_c.proofs.InOrder.{IsRowEnd, copied_all, copied_more, inside, low, next_run, run_sparse}
+use Rattle.spasm_c.proofs.InOrder.{IsRowEnd, copying_ends, copying_more, inside, low, next_run, run_sparse}
 use Rattle.spasm_c.proofs.given.Given.copied.Goals as goal
 
 pub append_zeros-requires : goal.append_zeros-requires
@@ -63,9 +63,9 @@ loop-begin-preserved c =
       row = c.row_end-end.ensures.row;
       next = c.row_end-end.ensures.next;
     } in
-    copied_more c.requires.sound c.requires.order c.loop-begin.invariant end
+    copying_more c.requires.sound c.requires.order c.loop-begin.invariant end
     c.in_ok-append_zeros.ensures.modulus c.in_ok-append_zeros.ensures.matrix c.in_ok-append_entries.ensures.modulus c.in_ok-append_entries.ensures.matrix
 
 pub returns : goal.returns
 returns c =
-    copied_all c.requires.sound c.requires.order c.loop-begin.invariant c.loop-begin-test.false c.in_ok-append_zeros-2.ensures.modulus c.in_ok-append_zeros-2.ensures.matrix
+    copying_ends c.requires.sound c.requires.order c.loop-begin.invariant c.loop-begin-test.false c.in_ok-append_zeros-2.ensures.modulus c.in_ok-append_zeros-2.ensures.matrix
