@@ -30,7 +30,8 @@ pub struct Ended<I, O, E> {
 pub fn end_without<I, O, E: Write>(reason: NoWords, streams: Streams<I, O, E>) -> Ended<I, O, E>
     ensures input { result.streams.input ≡ streams.input }
     ensures output { result.streams.output ≡ streams.output }
-    ensures ends { EndsWithout reason (E.contents streams.errors) (E.contents result.streams.errors) result.code }
+    ensures ends { EndsWithout reason
+        (E.contents streams.errors) (E.contents result.streams.errors) result.code }
 {
     let mut err = ToWrite::new(streams.errors);
     let _ = reason.tell(&mut err);
