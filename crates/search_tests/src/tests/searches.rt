@@ -82,7 +82,10 @@ fn extend_late<L: Ledger>(walk: &mut Walk<'_, L>, steps: &mut Steps<L>) -> u64
 }
 
 // What is alive least for row 1 with the pair (0, 0), and then once row 2 has the column 1; and how many steps each call took.
-fn overtaken<L: Ledger>(walk: &mut Walk<'_, L>, steps: &mut Steps<L>) -> ([Option<u32>; 2], [u64; 3])
+fn overtaken<L: Ledger>(
+    walk: &mut Walk<'_, L>,
+    steps: &mut Steps<L>,
+) -> ([Option<u32>; 2], [u64; 3])
     requires matrix { walk.old.rows.matrix ≡ pivot_example }
     requires pairs { walk.old.pairs ≡ [] }
     requires closed { walk.old.current ≡ None }
