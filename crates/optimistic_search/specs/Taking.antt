@@ -34,8 +34,7 @@ TakesUp A r s result t = (more : List Pair) × LetsGo A r (with_seen (claiming s
 -- the row was met; or it was taken up, and published or dropped
 abbrev pub TakesRow : Matrix → ℕ → Chair → Taken → Chair → Type 0
 TakesRow A r s taken.Busy t = t ≡ meeting s r
-TakesRow A r s (taken.Published k) t = TakesUp A r s (taken.Published k) t
-TakesRow A r s taken.Dropped t = TakesUp A r s taken.Dropped t
+TakesRow A r s result t = TakesUp A r s result t
 
 -- what the seat has seen at the end, without the row's own pair
 abbrev pub others_seen : Taken → Chair → List Pair
