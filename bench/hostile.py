@@ -5,7 +5,8 @@ usage: bench/hostile.py [--cases N] [--seed S] [--megabytes M]
 
 Texts have bytes changed, cut, doubled and exchanged; lines exchanged and repeated; numbers of a million digits, lines of 100 MB, a million
 void lines, NUL bytes and other encodings. Certificates, traces and scripts are valid ones changed in one place. Each run has M megabytes of
-memory (1000) and 60 seconds; a run that ends out of memory (status 8) is told and not compared. It ends with status 1 at a difference.
+memory (1000) and 60 seconds; a run that ends out of memory (status 8) is told and not compared. How far it has come is told to standard
+error, after the large texts and every 500 runs. It ends with status 1 at a difference.
 """
 
 from __future__ import annotations
@@ -141,7 +142,16 @@ class Tally:
         elif status != wanted.status or error != wanted.error or (wanted.out is not None and out != wanted.out):
             self.differences += 1
             print(f"DIFFERENCE in {name}: spasm {' '.join(words)}: status {status}, '{out[:200]}', '{error[:200]}'; wanted {wanted}")
-            print(f"  input: {data[:400]!r}")
+            print(f"  input: {data[:400]!r}", flush=True)
+        if self.cases % 500 == 0:
+            self.tell()
+
+    def told(self) -> str:
+        return f"{self.cases} cases, {self.out_of_memory} of them out of memory, {self.differences} differences"
+
+    def tell(self) -> None:
+        """Tells to standard error how far it has come."""
+        print(self.told(), file=sys.stderr, flush=True)
 
 
 def main() -> int:
@@ -156,6 +166,7 @@ def main() -> int:
     for name, data in large_inputs():
         for command in ("rank", "rref", "pivots"):
             tally.compare([command, "--modulus", "7"], data, reference.expected(command, data, 7), words.megabytes, name)
+    tally.tell()
     for number in range(words.cases):
         command, p = commands[number % len(commands)], chance.choice(PRIMES)
         first, second = valid_input(chance, command, p, words.megabytes)
@@ -169,7 +180,7 @@ def main() -> int:
             wanted = reference.expected(command, data, p) if is_small(data) else reference_of_sizes(command, data, p)
             if wanted:
                 tally.compare([command, "--modulus", str(p)], data, wanted, words.megabytes, f"case {number}")
-    print(f"seed {words.seed}: {tally.cases} cases, {tally.out_of_memory} of them out of memory, {tally.differences} differences")
+    print(f"seed {words.seed}: {tally.told()}")
     return 1 if tally.differences else 0
 
 
