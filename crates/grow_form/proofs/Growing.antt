@@ -19,10 +19,11 @@ use Rattle.triangular_solve.proofs.Appending.{inserts_same, of_own_rows, with_ow
 use Rattle.triangular_solve.proofs.Dividing.{listed_none}
 use Rattle.triangular_solve.proofs.Draining.{sparse_of}
 use Rattle.triangular_solve.proofs.Combining.{leads_independent}
+use Rattle.echelon_form.specs.Form.{Form, IsFormOf}
 use Rattle.grow_form.specs.Growing.{AppendsRow}
-use Rattle.grow_form.specs.Numbering.{AreKeptByNumbers, ComesBehind, HasNumber, IsByNumbers, IsNumbering, IsRowByNumbers, NumberedColumns, at_columns, number_of, rows_at_columns, seen_rows}
+use Rattle.grow_form.specs.Numbering.{AreKeptByNumbers, ComesBehind, IsByNumbers, IsNumbering, IsRowByNumbers, NumberedColumns, at_columns, number_of, seen_matrix, seen_rows}
 use Rattle.grow_form.proofs.Moved.{moved_independent, moved_matrix, moved_more, moved_span, moved_vector}
-use Rattle.grow_form.proofs.Numbers.{IsUnused, combination_seen, kept_behind, kept_inserted, kept_prime, kept_zero, named, seen_behind}
+use Rattle.grow_form.proofs.Numbers.{IsUnused, combination_seen, kept_behind, kept_inserted, kept_zero, named, seen_behind}
 
 -- what holds, holds at an error
 pub any_err : {T E P : Type 0} (r : Result T E) → P → OnErr r P
@@ -71,6 +72,20 @@ same_form p A B E width same h = record {
   span = same_span_chained p B A E (same_span_turned p A B same) h.span;
 }
 
+-- and what is the form of one is that of the other, for every modulus
+pub form_of_same : {p q : ℕ} {A B : Matrix} {f g : Form} → q ≡ p → A.width ≡ B.width → SameSpan p A B → IsFormOf q B f → g ≡ f → IsFormOf p A g
+form_of_same {p} {q} {A} {B} {f} {g} e width same is made =
+    let h : IsFormOf p B f = subst (λ q. IsFormOf q B f) e is in
+    subst (IsFormOf p A) (sym made) (record {
+      modulus = h.modulus;
+      matrix = h.matrix;
+      width = h.width ∙ sym width;
+      short = omega (arith, h.short, width);
+      rank = h.rank;
+      rref = λ prime. same_form p B A f.matrix (sym width) (same_span_turned p A B same) (h.rref prime);
+      leads = h.leads;
+    })
+
 -- the form with a row more is that of the form with the row
 pub form_more : (p : ℕ) (A B : Matrix) (v : List ℕ) → 2 ≤ p → IsMatrix p A → IsVector p A.width v → B.width ≡ A.width → SameSpan p B (with_row A v) →
     (E F : Matrix) → IsRref p A E → IsRref p B F ↔ IsRref p (with_row E v) F
@@ -100,17 +115,17 @@ inserted_old : (old new : KeptRows) (v : List ℕ) (lead : Option ℕ) → Inser
 inserted_old old new v (Some c) h = ((λ e. absurd (subst IsFound e tt)), (λ c. absurd (h.independent c)))
 inserted_old old new v None h = ((λ e. h.1), (λ c. refl))
 
--- a row that was inserted by numbers was appended, as callers are told, whatever columns come later
-pub appends_seen : {old new : KeptRows} {N later : NumberedColumns} {v : List ℕ} → IsSound old → IsSound new → IsNumbering N → AreKeptByNumbers old N → ComesBehind N later →
-    IsVector old.modulus old.matrix.width v → IsByNumbers N v → (lead : Option ℕ) → Inserts old new v lead → AppendsRow (seen_rows old N) (seen_rows new later) (at_columns N.arrivals v) (is_some lead)
-appends_seen {old} {new} {N} {later} {v} sound after h by behind vector is lead inserts = record {
+-- a row that was inserted by numbers was appended, as callers are told
+pub appends_seen : {old new : KeptRows} {N : NumberedColumns} {v : List ℕ} → IsSound old → IsSound new → IsNumbering N → AreKeptByNumbers old N →
+    IsVector old.modulus old.matrix.width v → IsByNumbers N v → (lead : Option ℕ) → Inserts old new v lead → AppendsRow (seen_rows old N) (seen_rows new N) (at_columns N v) (is_some lead)
+appends_seen {old} {new} {N} {v} sound after h by vector is lead inserts = record {
   modulus = same.0;
-  width = behind.width;
-  matrix = subst (λ q. IsMatrix q (rows_at_columns later.arrivals new.matrix)) same.0 (moved_matrix (length later.arrivals) (number_of later.arrivals) (omega (arith, after.two_or_more)) after.matrix);
+  width = refl;
+  matrix = subst (λ q. IsMatrix q (seen_matrix N new.matrix)) same.0 (moved_matrix (length N.arrivals) (number_of N) (omega (arith, after.two_or_more)) after.matrix);
   height = inserted_height old new v lead inserts;
   spanned = ((λ e. there.0 (found.0 e)), (λ c. found.1 (there.1 c)));
   span = span;
-  form = λ prime. form_more p A (rows_at_columns later.arrivals new.matrix) (at_columns N.arrivals v) sound.two_or_more (moved_matrix n number pos sound.matrix) (moved_vector n number pos vector) behind.width (span prime);
+  form = λ prime. form_more p A (seen_matrix N new.matrix) (at_columns N v) sound.two_or_more (moved_matrix n number pos sound.matrix) (moved_vector n number pos vector) refl (span prime);
 }
   where
     p : ℕ
@@ -120,13 +135,13 @@ appends_seen {old} {new} {N} {later} {v} sound after h by behind vector is lead 
     n = length N.arrivals
 
     number : ℕ → ℕ
-    number = number_of N.arrivals
+    number = number_of N
 
     pos : 0 < old.modulus
     pos = omega (arith, sound.two_or_more)
 
     A : Matrix
-    A = rows_at_columns N.arrivals old.matrix
+    A = seen_matrix N old.matrix
 
     same : (new.modulus ≡ old.modulus) × (new.matrix.width ≡ old.matrix.width)
     same = inserts_same old new v lead inserts
@@ -134,19 +149,16 @@ appends_seen {old} {new} {N} {later} {v} sound after h by behind vector is lead 
     found : (is_some lead ≡ false) ↔ IsCombination old.modulus old.matrix v
     found = inserted_old old new v lead inserts
 
-    there : IsCombination old.modulus old.matrix v ↔ IsCombination old.modulus (rows_at_columns N.arrivals old.matrix) (at_columns N.arrivals v)
+    there : IsCombination old.modulus old.matrix v ↔ IsCombination old.modulus (seen_matrix N old.matrix) (at_columns N v)
     there = combination_seen sound by h vector is
 
     own : IsMatrix old.modulus new.matrix
     own = subst (λ q. IsMatrix q new.matrix) same.0 after.matrix
 
-    span : IsPrime old.modulus → SameSpan old.modulus (rows_at_columns later.arrivals new.matrix) (with_row (rows_at_columns N.arrivals old.matrix) (at_columns N.arrivals v))
+    span : IsPrime old.modulus → SameSpan old.modulus (seen_matrix N new.matrix) (with_row (seen_matrix N old.matrix) (at_columns N v))
     span prime =
-        let now : rows_at_columns later.arrivals new.matrix ≡ rows_at_columns N.arrivals new.matrix =
-        ap (λ (r : ResidueMatrix). r.matrix) (seen_behind after (kept_prime sound by after prime vector is lead inserts) behind) in
-        subst (λ B. SameSpan old.modulus B (with_row (rows_at_columns N.arrivals old.matrix) (at_columns N.arrivals v))) (sym now)
-        (subst (SameSpan old.modulus (rows_at_columns N.arrivals new.matrix)) (moved_more (length N.arrivals) (number_of N.arrivals) old.matrix v)
-        (moved_span (length N.arrivals) (number_of N.arrivals) pos own (matrix_more sound.matrix vector) (inserted_span new sound vector lead inserts prime)))
+        (subst (SameSpan old.modulus (seen_matrix N new.matrix)) (moved_more (length N.arrivals) (number_of N) old.matrix v)
+        (moved_span (length N.arrivals) (number_of N) pos own (matrix_more sound.matrix vector) (inserted_span new sound vector lead inserts prime)))
 
 -- a row has no support exactly where it is the zero row
 pub no_support : (n : ℕ) (w : List ℕ) → length w ≡ n → (length (support w) ≡ 0) ↔ (w ≡ zeros n)
@@ -163,16 +175,16 @@ spread_alone {n} {r} {cols} {vals} m width height ce ve =
     ap (λ c. spread n c vals) ce ∙ ap (spread n (support (row r.matrix 0))) ve ∙ spread_support n (row r.matrix 0) (vector.len ∙ width)
 
 -- the kept rows by numbers are independent where they are seen
-pub seen_independent : {kept : KeptRows} {N : NumberedColumns} → IsSound kept → IsNumbering N → AreKeptByNumbers kept N → IsIndependent kept.modulus (rows_at_columns N.arrivals kept.matrix)
+pub seen_independent : {kept : KeptRows} {N : NumberedColumns} → IsSound kept → IsNumbering N → AreKeptByNumbers kept N → IsIndependent kept.modulus (seen_matrix N kept.matrix)
 seen_independent {kept} {N} sound h by =
-    moved_independent (length N.arrivals) (number_of N.arrivals) (length N.arrivals) (IsUnused N) (named h) (omega (arith, sound.two_or_more)) sound.matrix by.width
+    moved_independent (length N.arrivals) (number_of N) N.room (IsUnused N) (named h) (omega (arith, sound.two_or_more)) sound.matrix by.width
     (λ i s l off. kept_zero sound by i s l off) (leads_independent kept.modulus kept.matrix kept.leads sound.leads)
 
 -- A row came to kept rows, first its columns and then its entries by their numbers.
 module _ {kept : KeptRows} {N now : NumberedColumns} {cols vals row_cols row_vals : List ℕ} {r : ResidueMatrix} (sound : IsSound kept) (by : AreKeptByNumbers kept N) (h : IsNumbering now) (behind : ComesBehind N now)
     (is : IsRowByNumbers now kept.modulus cols vals r) (m : IsMatrix r.modulus r.matrix) (ce : row_cols ≡ support (row r.matrix 0)) (ve : row_vals ≡ nonzeros (row r.matrix 0)) where
   wide : r.matrix.width ≡ kept.matrix.width
-  wide = is.width ∙ behind.width ∙ sym by.width
+  wide = is.width ∙ behind.room ∙ sym by.width
 
   row_vector : IsVector kept.modulus kept.matrix.width (row r.matrix 0)
   row_vector = subst (λ q. IsVector q kept.matrix.width (row r.matrix 0)) is.modulus (subst (λ n. IsVector r.modulus n (row r.matrix 0)) wide (m.each 0 (omega (arith, is.height))))
@@ -186,29 +198,28 @@ module _ {kept : KeptRows} {N now : NumberedColumns} {cols vals row_cols row_val
   by_now : AreKeptByNumbers kept now
   by_now = kept_behind sound by behind
 
-  same_row : at_columns now.arrivals (row r.matrix 0) ≡ spread (length N.arrivals) cols vals
+  same_row : at_columns now (row r.matrix 0) ≡ spread (length N.arrivals) cols vals
   same_row = is.same ∙ ap (λ n. spread n cols vals) behind.width
 
   -- it was appended
-  pub row_appended : {new : KeptRows} {later : NumberedColumns} → IsSound new → ComesBehind now later → (lead : Option ℕ) → Inserts kept new (spread kept.matrix.width row_cols row_vals) lead →
-      AppendsRow (seen_rows kept N) (seen_rows new later) (spread (length N.arrivals) cols vals) (is_some lead)
-  row_appended {new} {later} after then lead inserts =
-      subst (λ (g : ResidueMatrix). AppendsRow g (seen_rows new later) (spread (length N.arrivals) cols vals) (is_some lead)) (seen_behind sound by behind)
-      (subst (λ v. AppendsRow (seen_rows kept now) (seen_rows new later) v (is_some lead)) same_row
-      (appends_seen sound after h by_now then row_vector is.by_numbers lead (subst (λ v. Inserts kept new v lead) is_row inserts)))
+  pub row_appended : {new : KeptRows} → IsSound new → (lead : Option ℕ) → Inserts kept new (spread kept.matrix.width row_cols row_vals) lead →
+      AppendsRow (seen_rows kept N) (seen_rows new now) (spread (length N.arrivals) cols vals) (is_some lead)
+  row_appended {new} after lead inserts =
+      subst (λ (g : ResidueMatrix). AppendsRow g (seen_rows new now) (spread (length N.arrivals) cols vals) (is_some lead)) (seen_behind sound by behind)
+      (subst (λ v. AppendsRow (seen_rows kept now) (seen_rows new now) v (is_some lead)) same_row
+      (appends_seen sound after h by_now row_vector is.by_numbers lead (subst (λ v. Inserts kept new v lead) is_row inserts)))
 
   -- and the rows stay kept by numbers
-  pub row_kept : {new : KeptRows} {later : NumberedColumns} → ComesBehind now later → (lead : Option ℕ) → HasNumber later lead → Inserts kept new (spread kept.matrix.width row_cols row_vals) lead →
-      AreKeptByNumbers new later
-  row_kept then lead has inserts = kept_inserted sound (kept_behind sound by_now then) (spread kept.matrix.width row_cols row_vals) lead inserts has
+  pub row_kept : {new : KeptRows} → (lead : Option ℕ) → Inserts kept new (spread kept.matrix.width row_cols row_vals) lead → AreKeptByNumbers new now
+  row_kept {new} lead inserts = kept_inserted sound by_now is.by_numbers lead (subst (λ v. Inserts kept new v lead) is_row inserts)
 
   -- it is a combination of the kept rows where it is one of those that are seen
-  pub row_found : IsCombination kept.modulus kept.matrix (spread kept.matrix.width row_cols row_vals) ↔ IsCombination kept.modulus (rows_at_columns N.arrivals kept.matrix) (spread (length N.arrivals) cols vals)
+  pub row_found : IsCombination kept.modulus kept.matrix (spread kept.matrix.width row_cols row_vals) ↔ IsCombination kept.modulus (seen_matrix N kept.matrix) (spread (length N.arrivals) cols vals)
   row_found =
       let seen = combination_seen sound by_now h row_vector is.by_numbers in
-      let same : rows_at_columns now.arrivals kept.matrix ≡ rows_at_columns N.arrivals kept.matrix = ap (λ (g : ResidueMatrix). g.matrix) (seen_behind sound by behind) in (
-        λ c. subst (λ A. IsCombination kept.modulus A (spread (length N.arrivals) cols vals)) same (subst (IsCombination kept.modulus (rows_at_columns now.arrivals kept.matrix)) same_row
+      let same : seen_matrix now kept.matrix ≡ seen_matrix N kept.matrix = ap (λ (g : ResidueMatrix). g.matrix) (seen_behind sound by behind) in (
+        λ c. subst (λ A. IsCombination kept.modulus A (spread (length N.arrivals) cols vals)) same (subst (IsCombination kept.modulus (seen_matrix now kept.matrix)) same_row
             (seen.0 (subst (IsCombination kept.modulus kept.matrix) is_row c))),
-        λ c. subst (IsCombination kept.modulus kept.matrix) (sym is_row) (seen.1 (subst (IsCombination kept.modulus (rows_at_columns now.arrivals kept.matrix)) (sym same_row)
+        λ c. subst (IsCombination kept.modulus kept.matrix) (sym is_row) (seen.1 (subst (IsCombination kept.modulus (seen_matrix now kept.matrix)) (sym same_row)
             (subst (λ A. IsCombination kept.modulus A (spread (length N.arrivals) cols vals)) (sym same) c))),
       )

@@ -1,5 +1,5 @@
 // Rows that are appended between questions.
-ghost use Rattle.std.specs.Prelude.{◌≡◌, ◌≤◌, ◌↔◌, true, None, IfOk, IfSome, OnErr};
+ghost use Rattle.std.specs.Prelude.{◌≡◌, ◌≤◌, ◌↔◌, true, None, IfOk, IfSome, OnErr, OnOk};
 ghost use Rattle.residue_words.specs.Matrix.{IsCombination};
 ghost use Rattle.residue_words.specs.Residues.{IsPrime};
 ghost use Rattle.row_space.specs.Echelon.{HasRank};
@@ -7,9 +7,12 @@ ghost use Rattle.sparse_rows.specs.Stored.{IsSparse, spread};
 ghost use Rattle.sparse_rows.specs.declared.rows.TheConstants.{LARGEST_SIZE};
 ghost use Rattle.triangular_solve.specs.Accumulator.{IsClear};
 ghost use Rattle.grow_form.specs.Growing.{AppendsRow, AreRowsOfForm, SpansRowsOf, without_rows};
+ghost use Rattle.grow_form.specs.Numbering.{AreKeptByNumbers, HasRoomFor, seen_rows};
 
 use crate::numbering::Numbering;
-use crate::reduced_form::{eliminated, settled_rows};
+use crate::reduced_form::{rows_at_columns, settled_rows};
+use crew::Alone;
+use echelon_form::Echelon;
 use residue_words::Modulus;
 use sparse_rows::Rows;
 use std::alloc::{AllocError, Global};
@@ -17,12 +20,17 @@ use std::marker::Model;
 use std::mem::replace;
 use triangular_solve::{Accumulator, Leads};
 
+// There is room for so many columns at least.
+const LEAST_ROOM: u64 = 256;
+
 /// The row space of rows that are appended one after another. Contracts see the modulus and independent rows that span it;
 /// what is asked of it, its rank, its reduced echelon form and the rows in it, are the same whichever rows these are.
 ///
 /// Rows are kept by their leads, each at that of its columns which came last, so that a new row meets few of
-/// them; they are settled only where the form is asked for. It takes 20 bytes a column, and 8 more once it was asked for a row;
-/// at most 24 bytes an entry of the kept rows and about 90 bytes a row.
+/// them; they are settled only if the form is asked for.
+///
+/// A column takes memory only once a row with an entry there comes: about 60 bytes, and 20 more if a row was asked for. The
+/// kept rows take at most 24 bytes an entry and about 90 bytes a row, and are copied whenever columns are twice as many as before.
 #[derive(Debug, Drop)]
 pub struct Grow {
     alloc: Global,
@@ -48,15 +56,24 @@ impl Model for Grow {
 }
 
 impl Grow {
-    /// No row of n entries, where n is at most `LARGEST_SIZE`. The memory is that of the columns.
+    /// No row of n entries, where n is at most `LARGEST_SIZE`. It takes some kilobytes, however many columns there are.
     pub fn new(alloc: Global, n: u32, p: &Modulus) -> Result<Grow, AllocError>
         requires { n ≤ LARGEST_SIZE }
         ensures { IfOk result (λ grow. grow ≡ without_rows p.now n) }
     {
+        Grow::with_room(alloc, n, p, 0)
+    }
+
+    // The same with room for so many columns that come.
+    fn with_room(alloc: Global, n: u32, p: &Modulus, columns: u64) -> Result<Grow, AllocError>
+        requires { n ≤ LARGEST_SIZE }
+        ensures { IfOk result (λ grow. grow ≡ without_rows p.now n) }
+    {
+        let room = columns.max(LEAST_ROOM).min(u64::from(n)) as u32;
         Ok(Grow {
             alloc,
-            kept: Leads::new(alloc, n, p)?,
-            numbering: Numbering::new(alloc, n)?,
+            kept: Leads::new(alloc, room, p)?,
+            numbering: Numbering::new(alloc, n, room),
             sums: None,
         })
     }
@@ -65,7 +82,7 @@ impl Grow {
     pub fn of(alloc: Global, rows: &Rows) -> Result<Grow, AllocError>
         ensures { IfOk result (SpansRowsOf rows.now) }
     {
-        let mut grow = Grow::new(alloc, rows.width(), &rows.modulus())?;
+        let mut grow = Grow::with_room(alloc, rows.width(), &rows.modulus(), rows.entries())?;
         // The call tells how high a matrix is: the next row's number is no overflow.
         let _ = rows.height();
         let mut from = 0;
@@ -88,15 +105,21 @@ impl Grow {
     {
         // The calls tell what the kept rows and the numbers promise before they change and after it.
         let _ = (self.kept.height(), self.numbering.width());
-        self.numbering.note(cols);
+        make_room(
+            self.alloc,
+            &mut self.kept,
+            &mut self.numbering,
+            &mut self.sums,
+            cols.len(),
+        )?;
+        let _ = (self.kept.height(), self.numbering.width());
+        self.numbering.note(cols)?;
         let _ = self.numbering.width();
         let p = self.kept.modulus();
         let row = self.numbering.row_by_numbers(self.alloc, cols, vals, &p)?;
         // The call tells that the entries are residues.
         let _ = row.height();
         let lead = self.kept.insert(row.cols(0), row.vals(0))?;
-        // For a prime modulus the lead is the number of a column, and no other column comes.
-        self.numbering.cover(lead);
         let _ = self.kept.height();
         Ok(lead.is_some())
     }
@@ -128,14 +151,15 @@ impl Grow {
 
     /// The reduced echelon form of the rows: for a prime modulus the one form of all rows that were appended. The
     /// kept rows are settled, eliminated anew in the order of the columns and settled again, in the time of the
-    /// entries that this makes and of the columns.
+    /// entries that this makes.
     pub fn form(&self) -> Result<Rows, AllocError>
         ensures { IfOk result (AreRowsOfForm self.now) }
     {
+        // The call tells what the numbers promise.
+        let _ = self.numbering.width();
         let settled = settled_rows(self.alloc, &self.kept)?;
-        let rows = eliminated(self.alloc, &self.kept, &settled, &self.numbering)?;
-        let form = settled_rows(self.alloc, &rows)?;
-        Ok(form)
+        let rows = rows_at_columns(self.alloc, &self.kept, &settled, &self.numbering)?;
+        Ok(Echelon::made_by(&Alone, self.alloc, &rows, 1)?.into_rows())
     }
 
     /// How many rows the form has, for a prime modulus the rank of the rows. It takes no memory.
@@ -151,6 +175,32 @@ impl Grow {
         let _ = self.numbering.width();
         self.kept.height()
     }
+}
+
+// Makes room for so many columns more that may come. If there were too few numbers, the rows are copied behind zeros, and the
+// row for sums is given up.
+fn make_room(
+    alloc: Global,
+    kept: &mut Leads,
+    numbering: &mut Numbering,
+    sums: &mut Option<Accumulator>,
+    count: usize,
+) -> Result<(), AllocError>
+    requires by_numbers { AreKeptByNumbers kept.old numbering.old }
+    requires clear { IfSome sums.old (IsClear kept.old.modulus kept.old.matrix.width) }
+    ensures by_numbers { AreKeptByNumbers kept.new numbering.new }
+    ensures clear { IfSome sums.new (IsClear kept.new.modulus kept.new.matrix.width) }
+    ensures seen { seen_rows kept.new numbering.new ≡ seen_rows kept.old numbering.old }
+    ensures room { OnOk result (HasRoomFor numbering.new count) }
+{
+    // The calls tell what the kept rows and the numbers promise.
+    let _ = (kept.height(), numbering.width());
+    if let Some(more) = numbering.lacking(count) {
+        *kept = kept.behind_zeros(alloc, more)?;
+        numbering.add_numbers(more);
+        *sums = None;
+    }
+    Ok(())
 }
 
 // The zero row for sums, as long as these rows: the one that is there, or a new one.

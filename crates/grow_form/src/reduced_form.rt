@@ -1,36 +1,42 @@
 // The reduced echelon form of the kept rows.
 ghost use Rattle.std.specs.Prelude.{◌≡◌, length, IfOk};
 ghost use Rattle.triangular_solve.specs.Leads.{IsSound};
-ghost use Rattle.echelon_form.specs.Settling.{AreSettled, HaveSpanOf, IsOrderOfLeads};
-ghost use Rattle.grow_form.specs.Numbering.{AreKeptByNumbers, AreSettledByLeads, rows_at_columns};
+ghost use Rattle.echelon_form.specs.Settling.{AreSettled, IsOrderOfLeads};
+ghost use Rattle.grow_form.specs.Numbering.{AreKeptByNumbers, AreSettledByLeads, seen_matrix};
 
 use crate::numbering::Numbering;
 use sparse_rows::Rows;
 use std::alloc::{AllocError, Global};
 use triangular_solve::{Accumulator, Leads};
 
-// The rows that are kept by numbers and were settled, eliminated in the order of the columns.
-pub(crate) fn eliminated(
+// The rows that are kept by numbers and were settled, moved to the columns.
+pub(crate) fn rows_at_columns(
     alloc: Global,
     kept: &Leads,
     settled: &Rows,
     numbering: &Numbering,
-) -> Result<Leads, AllocError>
+) -> Result<Rows, AllocError>
     requires by_numbers { AreKeptByNumbers kept.now numbering.now }
     requires settled { AreSettledByLeads kept.now settled.now.matrix }
     ensures modulus { IfOk result (λ rows. rows.modulus ≡ kept.now.modulus) }
-    ensures width { IfOk result (λ rows. rows.matrix.width ≡ kept.now.matrix.width) }
-    ensures span { IfOk result (HaveSpanOf (rows_at_columns numbering.now.arrivals kept.now.matrix)) }
+    ensures matrix { IfOk result (λ rows. rows.matrix ≡ seen_matrix numbering.now settled.now.matrix) }
 {
     // The calls tell what the kept rows and the numbers promise.
     let _ = (kept.height(), numbering.width());
     let p = kept.modulus();
-    let mut rows = Leads::new(alloc, kept.width(), &p)?;
-    for k in 0..settled.height() {
+    let height = settled.height();
+    let mut rows = Rows::with_room(
+        alloc,
+        p,
+        numbering.width(),
+        height,
+        settled.entries() as usize,
+    )?;
+    for k in 0..height {
         let row = numbering.row_at_columns(alloc, settled.cols(k), settled.vals(k), &p)?;
-        // The calls tell what the rows promise before they change, and that the entries are residues.
-        let _ = (rows.height(), row.height());
-        rows.insert(row.cols(0), row.vals(0))?;
+        // The call tells that the entries are residues.
+        let _ = row.height();
+        rows.append_entries(row.cols(0), row.vals(0))?;
     }
     Ok(rows)
 }

@@ -1,5 +1,6 @@
 pub mod Accumulating
 pub mod Appending
+pub mod Behind
 pub mod Changing
 pub mod Combining
 pub mod Counting

@@ -96,6 +96,18 @@ pub record IsTailOf (p : ℕ) (w : List ℕ) (c : ℕ) (tail : List ℕ) : Type 
 abbrev pub IsZeroAtLeads : KeptRows → List ℕ → Type 0
 IsZeroAtLeads kept w = (k : ℕ) → k < kept.matrix.height → slice_index w (slice_index kept.leads k) ≡ 0
 
+-- no kept row leads at column c
+abbrev pub IsNewLead : KeptRows → ℕ → Type 0
+IsNewLead kept c = (k : ℕ) → k < kept.matrix.height → slice_index kept.leads k ≢ c
+
+-- the row was appended to the kept ones
+abbrev pub with_led : KeptRows → Led → KeptRows
+with_led kept r = record {
+  modulus = kept.modulus;
+  matrix = with_row kept.matrix (whole r);
+  leads = kept.leads ++ r.lead ∷ [];
+}
+
 -- w, whose first entry stands at column c, was appended with 1 there and its tail
 pub record ExtendsAt (old new : KeptRows) (w : List ℕ) (c : ℕ) : Type 0 where
   pub tail : List ℕ

@@ -1,6 +1,8 @@
 // One kept row.
-ghost use Rattle.std.specs.Prelude.{◌≡◌, ◌<◌, length, slice_index, IfOk};
+ghost use Rattle.std.specs.Prelude.{◌≡◌, ◌<◌, ◌≤◌, ◌+◌, ◌++◌, length, slice_index, IfOk};
+ghost use Rattle.residue_words.specs.Matrix.{zeros};
 ghost use Rattle.sparse_rows.specs.Rows.{support};
+ghost use Rattle.sparse_rows.specs.declared.rows.TheConstants.{LARGEST_SIZE};
 ghost use Rattle.triangular_solve.specs.Led.{IsTailOf};
 
 use sparse_rows::Sparse;
@@ -35,6 +37,26 @@ impl Led {
         }
         Ok(Led {
             lead: cols[0],
+            tail,
+        })
+    }
+
+    // The row behind so many columns more, where it is 0.
+    pub(crate) fn behind_zeros(&self, alloc: Global, count: u32) -> Result<Led, AllocError>
+        requires width { count + length self.now.tail.row ≤ LARGEST_SIZE }
+        requires lead { self.now.lead < length self.now.tail.row }
+        ensures lead { IfOk result (λ led. led.lead ≡ count + self.now.lead) }
+        ensures modulus { IfOk result (λ led. led.tail.modulus ≡ self.now.tail.modulus) }
+        ensures tail { IfOk result (λ led. led.tail.row ≡ zeros count ++ self.now.tail.row) }
+    {
+        let (cols, vals) = (self.tail.cols(), self.tail.vals());
+        let width = count + self.tail.width();
+        let mut tail = Sparse::with_room(alloc, width, self.tail.modulus(), cols.len())?;
+        for k in 0..cols.len() {
+            tail.push(count + cols[k], vals[k])?;
+        }
+        Ok(Led {
+            lead: count + self.lead,
             tail,
         })
     }

@@ -1,6 +1,7 @@
-use Rattle.std.proofs.Common.{ap₂, List, ℕ}
+use Rattle.std.proofs.Common.{subst, sym}
+use Rattle.grow_form.specs.Numbering.{IsNumbering, numbered}
+use Rattle.grow_form.proofs.Numbers.{none_come}
 use Rattle.grow_form.proofs.numbering.Numbering.new.Goals as goal
 
-pub returns : goal.returns
-returns c =
-    ap₂ (λ (a b : List ℕ). record { arrivals = a; columns = b; count = 0 }) (c.in_ok-vec.ensures.items_if_clones_equal (λ y e. e)) (c.in_ok-vec-2.ensures.items_if_clones_equal (λ y e. e))
+pub invariant_of-result : goal.invariant_of-result
+invariant_of-result c = subst (λ ks. IsNumbering (numbered c.args.n c.args.room ks)) (sym c.new.ensures.empty) (none_come c.args.n c.args.room c.requires.small c.requires.room)

@@ -1,26 +1,28 @@
-use Rattle.std.proofs.Common.{◌≡◌, ◌<◌, ◌∙◌, arith, length, slice_index, subst, sym}
-use Rattle.std.proofs.lemmas.List.{get_or_read}
-use Rattle.grow_form.specs.Numbering.{NumberedColumns}
-use Rattle.grow_form.proofs.Numbers.{column_noted, columns_few, noted_behind, room_left}
+use Rattle.std.proofs.Common.{◌<◌, arith, length, subst, sym}
+use Rattle.grow_form.specs.Numbering.{ComesBehind, HasRoomFor, NumberedColumns, numbered}
+use Rattle.grow_form.proofs.Numbers.{IsNoted, is_noted, long_arrivals}
 use Rattle.grow_form.proofs.numbering.Numbering.note_column.Goals as goal
 
-pub index_mut-requires : goal.index_mut-requires
-index_mut-requires c =
-    let inside : c.args.c < length c.self.inside.arrivals.items = subst (λ (N : NumberedColumns). c.args.c < length N.arrivals) (sym c.self.view_is) c.requires in
-    let none : slice_index c.self.inside.arrivals.items c.args.c ≡ 0 = sym (get_or_read c.self.inside.arrivals.items c.args.c c.index.result.now inside c.index.ensures 0) ∙ c.if-index-eq0.true in
-    omega (arith, room_left c.self.invariant inside none, c.self.inside.columns.ok.0)
+pub invariant_of-self-2 : goal.invariant_of-self-2
+invariant_of-self-2 c =
+    let below : c.args.c < c.self.inside.width =
+    omega (arith, subst (λ (N : NumberedColumns). c.args.c < length N.arrivals) (sym c.self.view_is) c.requires.below, long_arrivals c.self.inside.width c.self.inside.columns.keys) in
+    let noted : IsNoted c.self.inside.width c.self.inside.room c.self.inside.columns.keys c.insert.new.self.keys c.args.c =
+    is_noted c.self.invariant below (subst (λ N. HasRoomFor N 1) (sym c.self.view_is) c.requires.room) c.in_ok-insert.ensures.keys in
+    noted.numbering
 
-pub overflow_add-self : goal.overflow_add-self
-overflow_add-self c = record { fits = omega (arith, columns_few c.self.invariant, c.self.invariant.width_small) }
+pub returns-clause-behind : goal.returns-clause-behind
+returns-clause-behind c =
+    let below : c.args.c < c.self.inside.width =
+    omega (arith, subst (λ (N : NumberedColumns). c.args.c < length N.arrivals) (sym c.self.view_is) c.requires.below, long_arrivals c.self.inside.width c.self.inside.columns.keys) in
+    let noted : IsNoted c.self.inside.width c.self.inside.room c.self.inside.columns.keys c.insert.new.self.keys c.args.c =
+    is_noted c.self.invariant below (subst (λ N. HasRoomFor N 1) (sym c.self.view_is) c.requires.room) c.in_ok-insert.ensures.keys in
+    subst (λ N. ComesBehind N (numbered c.self.inside.width c.self.inside.room c.insert.new.self.keys)) c.self.view_is noted.behind
 
-pub invariant_of-self : goal.invariant_of-self
-invariant_of-self c =
-    let inside : c.args.c < length c.self.inside.arrivals.items = subst (λ (N : NumberedColumns). c.args.c < length N.arrivals) (sym c.self.view_is) c.requires in
-    let none : slice_index c.self.inside.arrivals.items c.args.c ≡ 0 = sym (get_or_read c.self.inside.arrivals.items c.args.c c.index.result.now inside c.index.ensures 0) ∙ c.if-index-eq0.true in
-    column_noted c.self.invariant inside none
-
-pub returns-then-index-eq0-clause-behind : goal.returns-then-index-eq0-clause-behind
-returns-then-index-eq0-clause-behind c =
-    let inside : c.args.c < length c.self.inside.arrivals.items = subst (λ (N : NumberedColumns). c.args.c < length N.arrivals) (sym c.self.view_is) c.requires in
-    let none : slice_index c.self.inside.arrivals.items c.args.c ≡ 0 = sym (get_or_read c.self.inside.arrivals.items c.args.c c.index.result.now inside c.index.ensures 0) ∙ c.if-index-eq0.true in
-    rw (← c.self.view_is) (noted_behind c.self.invariant inside none)
+pub returns-clause-come : goal.returns-clause-come
+returns-clause-come c =
+    let below : c.args.c < c.self.inside.width =
+    omega (arith, subst (λ (N : NumberedColumns). c.args.c < length N.arrivals) (sym c.self.view_is) c.requires.below, long_arrivals c.self.inside.width c.self.inside.columns.keys) in
+    let noted : IsNoted c.self.inside.width c.self.inside.room c.self.inside.columns.keys c.insert.new.self.keys c.args.c =
+    is_noted c.self.invariant below (subst (λ N. HasRoomFor N 1) (sym c.self.view_is) c.requires.room) c.in_ok-insert.ensures.keys in
+    noted.come

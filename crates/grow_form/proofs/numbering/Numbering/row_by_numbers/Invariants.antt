@@ -4,4 +4,4 @@ use Rattle.grow_form.proofs.OneRow.{renamed_to}
 use Rattle.grow_form.proofs.numbering.Numbering.row_by_numbers.Given as goal
 
 abbrev pub invariant-loop-k : goal.invariant-loop-k
-invariant-loop-k l = l.triples.items ≡ renamed_to (number_of l.self.arrivals) l.cols l.vals l.k
+invariant-loop-k l = l.triples.items ≡ renamed_to (number_of l.self) l.cols l.vals l.k

@@ -1,0 +1,10 @@
+use Rattle.std.proofs.Common.{◌∙◌, ap₂}
+use Rattle.grow_form.specs.Numbering.{seen_rows}
+use Rattle.grow_form.proofs.Numbers.{kept_added, seen_added}
+use Rattle.grow_form.proofs.grow.make_room.Goals as goal
+
+pub returns-in_ok-kept-clause-by_numbers : goal.returns-in_ok-kept-clause-by_numbers
+returns-in_ok-kept-clause-by_numbers c = rw (c.in_ok-kept.ensures, c.add_numbers.ensures) (kept_added c.height.ensures.sound c.requires.by_numbers c.in-Some.more)
+
+pub returns-in_ok-kept-clause-seen : goal.returns-in_ok-kept-clause-seen
+returns-in_ok-kept-clause-seen c = ap₂ seen_rows c.in_ok-kept.ensures c.add_numbers.ensures ∙ seen_added c.args.kept.now c.width.ensures.sound c.in-Some.more
