@@ -1,7 +1,6 @@
 -- A row more, and the form with it.
-use Rattle.std.proofs.Common.{ℕ, ◌≡◌, ◌+◌, ◌<◌, ◌≤◌, ◌↔◌, Bool, true, false, cond, Option, None, Some, Result, Ok, Err, List, [], length, sym, refl, ap, subst, ◌∙◌, arith}
+use Rattle.std.proofs.Common.{ℕ, ◌≡◌, ◌+◌, ◌<◌, ◌≤◌, ◌↔◌, Bool, true, false, cond, Option, None, Some, List, [], length, sym, refl, ap, subst, ◌∙◌, arith}
 use Rattle.std.specs.Option.{is_some}
-use Rattle.std.specs.Result.{OnErr}
 use Rattle.residue_words.specs.Residues.{IsPrime}
 use Rattle.residue_words.specs.Matrix.{Matrix, IsMatrix, IsVector, IsCombination, row, zeros}
 use Rattle.residue_words.proofs.Vectors.{at_zeros, length_list_of, list_equal}
@@ -24,11 +23,6 @@ use Rattle.grow_form.specs.Growing.{AppendsRow}
 use Rattle.grow_form.specs.Numbering.{AreKeptByNumbers, ComesBehind, IsByNumbers, IsNumbering, IsRowByNumbers, NumberedColumns, at_columns, number_of, seen_matrix, seen_rows}
 use Rattle.grow_form.proofs.Moved.{moved_independent, moved_matrix, moved_more, moved_span, moved_vector}
 use Rattle.grow_form.proofs.Numbers.{IsUnused, combination_seen, kept_behind, kept_inserted, kept_zero, named, seen_behind}
-
--- what holds, holds at an error
-pub any_err : {T E P : Type 0} (r : Result T E) → P → OnErr r P
-any_err (Ok x) h = tt
-any_err (Err e) h = h
 
 own_matrix : (p : ℕ) (A : Matrix) → IsMatrix p A → IsMatrix p (of_rows A.width A.rows)
 own_matrix p A m = subst (IsMatrix p) (sym (of_own_rows p A m)) m

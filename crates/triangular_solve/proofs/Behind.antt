@@ -1,15 +1,15 @@
 -- Rows behind zeros.
-use Rattle.std.proofs.Common.{ℕ, suc, ◌≡◌, ◌≢◌, ◌+◌, ◌-◌, ◌<◌, ◌≤◌, List, [], ◌∷◌, ◌++◌, length, map, slice_index, slice_set, take, inl, inr, sym, ap, ap₂, subst, ◌∙◌, arith, length-append}
+use Rattle.std.proofs.Common.{ℕ, zero, suc, ◌≡◌, ◌≢◌, ◌+◌, ◌-◌, ◌<◌, ◌≤◌, List, [], ◌∷◌, ◌++◌, length, map, slice_index, slice_index_or, slice_set, take, inl, inr, sym, refl, ap, ap₂, subst, ◌∙◌, arith, length-append}
 use Rattle.std.proofs.Math.ListN.{get_or-append}
-use Rattle.std.proofs.lemmas.List.{get_or-map, get_or-take, map-append, get_or-set_other, get_or-set_same, length-map, length-take-le, take_all, take_more}
+use Rattle.std.proofs.lemmas.List.{get_or-map, get_or-take, map-append, get_or-set_other, get_or-set_same, length-map, length-set, length-take-le, map_more, take_all, take_more}
 use Rattle.std.proofs.lemmas.Bool.{cases_eq, cases_lt}
 use Rattle.residue_words.specs.Matrix.{IsVector, Matrix, zeros}
 use Rattle.residue_words.proofs.Vectors.{at_zeros, length_list_of, list_equal, zeros_vector}
 use Rattle.sparse_rows.specs.Rows.{nonzeros, support}
 use Rattle.triangular_solve.specs.Leads.{KeptRows, behind, behind_zeros}
-use Rattle.triangular_solve.specs.Led.{IsKept, IsLed, IsNewLead, kept_rows, leads_of, whole, with_led}
+use Rattle.triangular_solve.specs.Led.{IsKept, IsLed, IsNewLead, kept_rows, leads_of, whole, whole_matrix, with_led}
 use Rattle.triangular_solve.specs.declared.led.Led.{Led}
-use Rattle.triangular_solve.proofs.Appending.{leads_more, whole_more}
+use Rattle.triangular_solve.proofs.Appending.{kept_more, leads_more, whole_more}
 use Rattle.triangular_solve.proofs.Dividing.{IsListed}
 use Rattle.triangular_solve.proofs.Draining.{set_vector}
 use Rattle.triangular_solve.proofs.LedRows.{led, lead_at, no_led}

@@ -3,7 +3,8 @@ use Rattle.sparse_rows.specs.Rows.{ResidueMatrix}
 use Rattle.sparse_rows.specs.Stored.{IsSparse, spread}
 use Rattle.grow_form.specs.Growing.{AppendsRow}
 use Rattle.grow_form.specs.Numbering.{IsRowByNumbers, seen_rows}
-use Rattle.grow_form.proofs.Growing.{any_err, row_appended, row_kept, row_sparse}
+use Rattle.sparse_rows.proofs.Below.{any_err}
+use Rattle.grow_form.proofs.Growing.{row_appended, row_kept, row_sparse}
 use Rattle.grow_form.proofs.Numbers.{seen_behind}
 use Rattle.grow_form.proofs.grow.Grow.append.Goals as goal
 
