@@ -32,9 +32,9 @@ pub record IsTold (E : Matrix) (old new : Room) : Type 0 where
   pub values : new.values.now ≡ old.values.now
 
 -- a matrix of which P holds was written
-abbrev pub Holds : (ResidueMatrix → Type 0) → Room → Type 0
-Holds P new = (E : ResidueMatrix) × P E × IsMatrixWritten E.matrix new
+abbrev pub HoldsMatrix : (ResidueMatrix → Type 0) → Room → Type 0
+HoldsMatrix P new = (E : ResidueMatrix) × P E × IsMatrixWritten E.matrix new
 
 -- there is no room for a matrix of which P holds
-abbrev pub Lacks : (ResidueMatrix → Type 0) → Room → Room → Type 0
-Lacks P old new = (E : ResidueMatrix) × P E × IsTold E.matrix old new
+abbrev pub LacksMatrix : (ResidueMatrix → Type 0) → Room → Room → Type 0
+LacksMatrix P old new = (E : ResidueMatrix) × P E × IsTold E.matrix old new

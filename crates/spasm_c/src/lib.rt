@@ -14,7 +14,7 @@ mod status;
 ghost use Rattle.std.specs.Prelude.{◌≡◌, ◌≢◌, ◌<◌};
 ghost use Rattle.spasm_c.specs.Asked.{IsInversionAnswerOf, IsSystemAnswerOf, ArePivotsOf, IsInverseOf, IsKernelOf, IsLeftKernelOf};
 ghost use Rattle.spasm_c.specs.Asked.{IsNullVectorOf, IsRankOf, IsRefutationOf, IsRrefOf, IsSolutionOf, IsSquare, IsSystem};
-ghost use Rattle.spasm_c.specs.Filled.{Holds, IsRoomKept, Lacks};
+ghost use Rattle.spasm_c.specs.Filled.{HoldsMatrix, IsRoomKept, LacksMatrix};
 ghost use Rattle.spasm_c.specs.Given.{IsSoundInput};
 ghost use Rattle.spasm_c.specs.Placed.{ArePlacesKept, HoldsPlaces, LacksPlaces};
 ghost use Rattle.spasm_c.specs.declared.status.TheConstants.{SPASM_BAD_INPUT, SPASM_NO_ROOM, SPASM_OK};
@@ -60,8 +60,8 @@ pub extern "C" fn spasm_rank(alloc: Global, a: &Given<'_>, rank: &mut u32) -> u3
 /// another number it is some rows of the matrix's width.
 #[unsafe(no_mangle)]
 pub extern "C" fn spasm_rref(alloc: Global, a: &Given<'_>, form: &mut Room<'_>) -> u32
-    ensures form { result ≡ SPASM_OK → Holds (IsRrefOf a.now) form.new }
-    ensures room { result ≡ SPASM_NO_ROOM → Lacks (IsRrefOf a.now) form.old form.new }
+    ensures form { result ≡ SPASM_OK → HoldsMatrix (IsRrefOf a.now) form.new }
+    ensures room { result ≡ SPASM_NO_ROOM → LacksMatrix (IsRrefOf a.now) form.old form.new }
     ensures refused { result ≡ SPASM_BAD_INPUT → ¬ IsSoundInput a.now }
     ensures kept { result ≢ SPASM_OK → result ≢ SPASM_NO_ROOM → IsRoomKept form.old form.new }
 {
@@ -76,8 +76,8 @@ pub extern "C" fn spasm_rref(alloc: Global, a: &Given<'_>, form: &mut Room<'_>) 
 /// entries than the rank and one more.
 #[unsafe(no_mangle)]
 pub extern "C" fn spasm_kernel(alloc: Global, a: &Given<'_>, basis: &mut Room<'_>) -> u32
-    ensures basis { result ≡ SPASM_OK → Holds (IsKernelOf a.now) basis.new }
-    ensures room { result ≡ SPASM_NO_ROOM → Lacks (IsKernelOf a.now) basis.old basis.new }
+    ensures basis { result ≡ SPASM_OK → HoldsMatrix (IsKernelOf a.now) basis.new }
+    ensures room { result ≡ SPASM_NO_ROOM → LacksMatrix (IsKernelOf a.now) basis.old basis.new }
     ensures refused { result ≡ SPASM_BAD_INPUT → ¬ IsSoundInput a.now }
     ensures kept { result ≢ SPASM_OK → result ≢ SPASM_NO_ROOM → IsRoomKept basis.old basis.new }
 {
@@ -91,8 +91,8 @@ pub extern "C" fn spasm_kernel(alloc: Global, a: &Given<'_>, basis: &mut Room<'_
 /// The basis of the left kernel, modulo a prime: the kernel basis of the transposed matrix.
 #[unsafe(no_mangle)]
 pub extern "C" fn spasm_left_kernel(alloc: Global, a: &Given<'_>, basis: &mut Room<'_>) -> u32
-    ensures basis { result ≡ SPASM_OK → Holds (IsLeftKernelOf a.now) basis.new }
-    ensures room { result ≡ SPASM_NO_ROOM → Lacks (IsLeftKernelOf a.now) basis.old basis.new }
+    ensures basis { result ≡ SPASM_OK → HoldsMatrix (IsLeftKernelOf a.now) basis.new }
+    ensures room { result ≡ SPASM_NO_ROOM → LacksMatrix (IsLeftKernelOf a.now) basis.old basis.new }
     ensures refused { result ≡ SPASM_BAD_INPUT → ¬ IsSoundInput a.now }
     ensures kept { result ≢ SPASM_OK → result ≢ SPASM_NO_ROOM → IsRoomKept basis.old basis.new }
 {
@@ -112,9 +112,9 @@ pub extern "C" fn spasm_solve(
     b: &Given<'_>,
     answer: &mut Room<'_>,
 ) -> u32
-    ensures solution { result ≡ SPASM_OK → Holds (IsSolutionOf a.now b.now) answer.new }
-    ensures refutation { result ≡ SPASM_REFUTED → Holds (IsRefutationOf a.now b.now) answer.new }
-    ensures room { result ≡ SPASM_NO_ROOM → Lacks (IsSystemAnswerOf a.now b.now) answer.old answer.new }
+    ensures solution { result ≡ SPASM_OK → HoldsMatrix (IsSolutionOf a.now b.now) answer.new }
+    ensures refutation { result ≡ SPASM_REFUTED → HoldsMatrix (IsRefutationOf a.now b.now) answer.new }
+    ensures room { result ≡ SPASM_NO_ROOM → LacksMatrix (IsSystemAnswerOf a.now b.now) answer.old answer.new }
     ensures refused { result ≡ SPASM_BAD_INPUT → ¬ IsSystem a.now b.now }
     ensures kept { SPASM_REFUTED < result → result ≢ SPASM_NO_ROOM → IsRoomKept answer.old answer.new }
 {
@@ -129,9 +129,9 @@ pub extern "C" fn spasm_solve(
 /// The inverse of a square matrix of at most 2^30 rows, or, with `SPASM_SINGULAR`, a null vector as a row; modulo a prime.
 #[unsafe(no_mangle)]
 pub extern "C" fn spasm_inverse(alloc: Global, a: &Given<'_>, answer: &mut Room<'_>) -> u32
-    ensures inverse { result ≡ SPASM_OK → Holds (IsInverseOf a.now) answer.new }
-    ensures singular { result ≡ SPASM_SINGULAR → Holds (IsNullVectorOf a.now) answer.new }
-    ensures room { result ≡ SPASM_NO_ROOM → Lacks (IsInversionAnswerOf a.now) answer.old answer.new }
+    ensures inverse { result ≡ SPASM_OK → HoldsMatrix (IsInverseOf a.now) answer.new }
+    ensures singular { result ≡ SPASM_SINGULAR → HoldsMatrix (IsNullVectorOf a.now) answer.new }
+    ensures room { result ≡ SPASM_NO_ROOM → LacksMatrix (IsInversionAnswerOf a.now) answer.old answer.new }
     ensures refused { result ≡ SPASM_BAD_INPUT → ¬ IsSquare a.now }
     ensures kept { SPASM_SINGULAR < result → result ≢ SPASM_NO_ROOM → IsRoomKept answer.old answer.new }
 {
