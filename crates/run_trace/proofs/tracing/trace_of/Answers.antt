@@ -24,7 +24,7 @@ returns-clause-is g c =
     found.begins
     (subst (λ (m : ResidueMatrix). TellsStarts m.matrix first.pairs all c.in_ok-found.found.versions.items) same found.versions)
     (λ one. subst (λ (m : ResidueMatrix). IsGreedy m.matrix first.pairs all) same (found.greedy one))
-    (λ one. found.one_worker one)
+    (λ one. found.alone one)
 
 pub returns-clause-fits : goal.returns-clause-fits
 returns-clause-fits g c =
@@ -43,5 +43,5 @@ returns-clause-fits g c =
     found.begins
     (subst (λ (m : ResidueMatrix). TellsStarts m.matrix first.pairs all c.in_ok-found.found.versions.items) same found.versions)
     (λ one. subst (λ (m : ResidueMatrix). IsGreedy m.matrix first.pairs all) same (found.greedy one))
-    (λ one. found.one_worker one) in
+    (λ one. found.alone one) in
     λ fits. lawful_text c.args.rows.now.modulus c.args.rows.now.matrix _ (omega (arith, c.modulus.ensures.in_range, c.modulus.ensures.value)) fits is.lawful
