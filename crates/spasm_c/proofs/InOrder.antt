@@ -4,9 +4,9 @@ use Rattle.std.proofs.lemmas.Bool.{cases_eq, cases_lt, cond-true, eq-eqb, ne_eqb
 use Rattle.std.proofs.lemmas.List.{get_or-drop, get_or-take, length-drop, length-take-le}
 use Rattle.residue_words.specs.Matrix.{IsMatrix, Matrix, row}
 use Rattle.residue_words.proofs.Vectors.{is_matrix_of, list_of_equal, row_matrix_of}
-use Rattle.sparse_rows.specs.Rows.{FitsMatrix, IsNextFilled, IsZeroRow, ResidueMatrix, above, sum_at, support, triple, with_zeros}
+use Rattle.sparse_rows.specs.Rows.{FitsMatrix, IsNextFilled, IsZeroRow, ResidueMatrix, above, first_rows, sum_at, support, triple, with_zeros}
 use Rattle.sparse_rows.specs.Stored.{IsSparse, entry_at, spread, with_sparse_row}
-use Rattle.sparse_rows.proofs.Below.{appended_all, appended_more, front, front_none}
+use Rattle.sparse_rows.proofs.Below.{appended_all, appended_more, front_none}
 use Rattle.sparse_rows.proofs.Spread.{at_spread, entry_cover, entry_tail, spread_vector, support_spread}
 use Rattle.spasm_c.specs.Given.{IsBefore, IsInOrder, IsSoundInput, entries, entries_given, entry_given, given_matrix}
 use Rattle.spasm_c.specs.declared.given.Given.{Given}
@@ -174,7 +174,7 @@ no_row a = record { height = 0; width = a.width; rows = [] }
 -- the rows before `next` are copied, which are those of the entries before `begin`
 pub record IsCopied (a : Given) (next begin : ℕ) (made : ResidueMatrix) : Type 0 where
   pub modulus : made.modulus ≡ a.modulus
-  pub matrix : made.matrix ≡ above (no_row a) (front next (given_matrix a))
+  pub matrix : made.matrix ≡ above (no_row a) (first_rows next (given_matrix a))
   pub low : next ≤ a.height
   pub within : begin ≤ length a.rows.now
   pub before : (k : ℕ) → k < begin → slice_index a.rows.now k < next
