@@ -11,6 +11,8 @@ printf "6 2147483647 M\n$few" > bench/out/broad.sms
 printf "2147483647 6 M\n$turned" > bench/out/tall.sms
 { cat bench/out/broad.sms; printf '6 1 M\n1 1 1\n0 0 0\n'; } > bench/out/broad_system.sms
 { cat bench/out/tall.sms; printf '2147483647 1 M\n1 1 1\n0 0 0\n'; } > bench/out/tall_system.sms
+{ cat bench/out/broad.sms; printf 'row 1 1 2147483647 2\nrank\nin 5 1\nrref\nend\n'; } > bench/out/broad_script.txt
+{ cat bench/out/tall.sms; printf 'row 1 1 2 2\nrank\nin 5 1\nrref\nend\n'; } > bench/out/tall_script.txt
 {
     echo "2147483647 2147483647 M"
     for k in 1 2 3 4 5 6 7 8 9 10; do echo "$((k * 200000000)) $(((11 - k) * 190000000)) $k"; done
@@ -32,6 +34,8 @@ timed bench/out/broad.sms leftkernel
 timed bench/out/tall.sms kernel
 timed bench/out/broad_system.sms solve
 timed bench/out/tall_system.sms solve
+timed bench/out/broad_script.txt grow
+timed bench/out/tall_script.txt grow
 for command in rank rref; do timed bench/out/square_of_ten.sms "$command"; done
 # Answers of 2^31 rows: want of memory, soon.
 timed bench/out/broad.sms kernel
