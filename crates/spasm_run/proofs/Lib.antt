@@ -2,6 +2,7 @@ pub mod Accepting
 pub mod Building
 pub mod Certifying
 pub mod Exact
+pub mod Fewer
 pub mod Generating
 pub mod InRange
 pub mod Input

@@ -27,20 +27,45 @@ use std::thread::Threads;
 /// The most rows of a matrix that is inverted, 2^30.
 pub const LARGEST_INVERTED: u32 = 1_073_741_824;
 
-// By whom a command is worked out, and how.
+// What the workers of a command may take in bytes beside the matrix: as many an entry, and as many in any case.
+const ROOM_AN_ENTRY: u64 = 24;
+
+const ROOM_ANYWAY: u64 = 1_048_576;
+
+// What each of them takes a column, for rows that it reduces and for what it has seen of pivots.
+const BYTES_A_COLUMN: u64 = 20;
+
+// How many workers go at once where so many are asked for: several if several are, but no more than there is room for, so that a command
+// takes at most about twice the memory of one.
+fn fitting_workers(a: &Rows, asked: u32) -> u32
+    requires { 1 ≤ asked }
+    ensures some { 1 ≤ result }
+    ensures one_worker { asked ≡ 1 → result ≡ 1 }
+{
+    let room = ROOM_AN_ENTRY
+        .saturating_mul(a.entries())
+        .saturating_add(ROOM_ANYWAY);
+    let each = BYTES_A_COLUMN * u64::from(a.width()) + 1;
+    asked.min((room / each).clamp(2, 64) as u32)
+}
+
+// By whom a command is worked out on a matrix, and how.
 fn team_of<'a, R: Threads, G>(
     rt: &'a R,
     alloc: Global,
+    a: &Rows,
     command: Command,
     gate: &'a G,
 ) -> Team<'a, Threaded<'a, R>, G>
-    ensures workers { result.workers ≡ command.workers }
+    requires { 1 ≤ command.workers }
+    ensures some { 1 ≤ result.workers }
+    ensures one_worker { command.workers ≡ 1 → result.workers ≡ 1 }
     ensures rounds { result.rounds ≡ command.rounds }
 {
     Team {
         crew: Threaded::of(rt),
         alloc,
-        workers: command.workers,
+        workers: fitting_workers(a, command.workers),
         rounds: command.rounds,
         gate,
     }
@@ -84,7 +109,7 @@ fn find_rank<R: Threads + Sync, G: Gate>(
     requires some { 1 ≤ command.workers }
     ensures { ComesOf (asking task.Rank a.now.modulus command) (a.now.matrix ∷ []) result }
 {
-    let rank = spasm_lib::rank(team_of(rt, alloc, command, gate), a)?;
+    let rank = spasm_lib::rank(team_of(rt, alloc, a, command, gate), a)?;
     Ok(Answer::Rank(u64::from(rank)))
 }
 
@@ -101,7 +126,7 @@ fn find_pivots<R: Threads + Sync, G: Gate>(
     requires width { a.now.matrix.width < LARGEST_SIZE }
     ensures { ComesOf (asking task.Pivots a.now.modulus command) (a.now.matrix ∷ []) result }
 {
-    let pairs = spasm_lib::pivots(team_of(rt, alloc, command, gate), a)?;
+    let pairs = spasm_lib::pivots(team_of(rt, alloc, a, command, gate), a)?;
     Ok(Answer::Pivots(pairs))
 }
 
@@ -117,7 +142,7 @@ fn find_form<R: Threads + Sync, G: Gate>(
     requires width { a.now.matrix.width < LARGEST_SIZE }
     ensures { ComesOf (asking task.Rref a.now.modulus command) (a.now.matrix ∷ []) result }
 {
-    let form = spasm_lib::rref(team_of(rt, alloc, command, gate), a)?;
+    let form = spasm_lib::rref(team_of(rt, alloc, a, command, gate), a)?;
     Ok(Answer::Matrix(form))
 }
 
@@ -135,7 +160,7 @@ pub(crate) fn find_summary<R: Threads + Sync, G: Gate>(
     ensures { ComesOf (asking (task.Drill generator.now) p.now command) [] result }
 {
     let a = generator.matrix(alloc, p)?;
-    let form = spasm_lib::rref(team_of(rt, alloc, command, gate), &a)?;
+    let form = spasm_lib::rref(team_of(rt, alloc, &a, command, gate), &a)?;
     Ok(Answer::Summary(Summary::of(&form)))
 }
 
@@ -151,7 +176,7 @@ fn find_kernel<R: Threads + Sync, G: Gate>(
     requires width { a.now.matrix.width < LARGEST_SIZE }
     ensures { ComesOf (asking task.Kernel a.now.modulus command) (a.now.matrix ∷ []) result }
 {
-    let basis = spasm_lib::kernel(team_of(rt, alloc, command, gate), a)?;
+    let basis = spasm_lib::kernel(team_of(rt, alloc, a, command, gate), a)?;
     Ok(Answer::Matrix(basis))
 }
 
@@ -167,7 +192,7 @@ fn find_left_kernel<R: Threads + Sync, G: Gate>(
     requires height { a.now.matrix.height < LARGEST_SIZE }
     ensures { ComesOf (asking task.LeftKernel a.now.modulus command) (a.now.matrix ∷ []) result }
 {
-    let basis = spasm_lib::left_kernel(team_of(rt, alloc, command, gate), a)?;
+    let basis = spasm_lib::left_kernel(team_of(rt, alloc, a, command, gate), a)?;
     Ok(Answer::Matrix(basis))
 }
 
@@ -190,7 +215,7 @@ fn find_inverse<R: Threads + Sync, G: Gate>(
     if LARGEST_INVERTED < height {
         return Err(Status::Wide { height, width });
     }
-    match spasm_lib::inverse(team_of(rt, alloc, command, gate), a)? {
+    match spasm_lib::inverse(team_of(rt, alloc, a, command, gate), a)? {
         Inverse::Found(b) => Ok(Answer::Inverse(b)),
         Inverse::Singular(v) => Ok(Answer::Singular(v)),
     }
@@ -216,7 +241,7 @@ pub(crate) fn find_solution<R: Threads + Sync, G: Gate>(
     if height != a.height() || width != 1 {
         return Err(Status::Shape { height, width });
     }
-    match spasm_lib::solve(team_of(rt, alloc, command, gate), a, b)? {
+    match spasm_lib::solve(team_of(rt, alloc, a, command, gate), a, b)? {
         Solution::Found(x) => Ok(Answer::Solution(x)),
         Solution::Refuted(y) => Ok(Answer::Refutation(y)),
     }
@@ -236,7 +261,7 @@ fn find_certificate<R: Threads + Sync, G: Gate>(
     requires width { a.now.matrix.width < LARGEST_SIZE }
     ensures { ComesOf (asking (task.Certify kind) a.now.modulus command) (a.now.matrix ∷ []) result }
 {
-    let certificate = spasm_lib::certificate(team_of(rt, alloc, command, gate), a, kind)?;
+    let certificate = spasm_lib::certificate(team_of(rt, alloc, a, command, gate), a, kind)?;
     Ok(Answer::Certificate(certificate))
 }
 
@@ -268,7 +293,8 @@ fn find_trace<R: Threads + Sync, G: Gate>(
     requires width { a.now.matrix.width < LARGEST_SIZE }
     ensures { ComesOf (asking task.Trace a.now.modulus command) (a.now.matrix ∷ []) result }
 {
-    let trace = trace_of(rt, alloc, a, command.workers, gate)?;
+    let workers = fitting_workers(a, command.workers);
+    let trace = trace_of(rt, alloc, a, workers, gate)?;
     Ok(Answer::Trace(trace))
 }
 

@@ -25,9 +25,10 @@ use std::thread::Threads;
 ///
 /// Words that aren't accepted are refused before anything is read, and nothing is read for a matrix that is generated. A source is read no
 /// further than the pull, of at most 65536 bytes, in which the last line that is wanted ends. The lines may have `LARGEST_INPUT` bytes, and
-/// the first faulty one is named. Memory is wanted for the entries, at most 40 bytes each while they are read and 70 where most
+/// the first faulty one is named. Memory is wanted for the entries, at most 40 bytes each while they are read and 84 where most
 /// rows have none, for the rows, and for the echelon forms and what is made of them; none for writing.
-/// `rt` starts the threads of a command's workers, and `gate` serves their searches for pivots.
+/// `rt` starts the threads of a command's workers, no more of them than there is memory for beside the matrix, and `gate` serves
+/// their searches for pivots.
 pub fn run<'a, R: Threads + Sync, S: Source, K: Sink, E: Sink, G: Gate>(
     rt: &R,
     alloc: Global,

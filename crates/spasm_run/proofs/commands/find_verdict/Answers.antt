@@ -7,5 +7,5 @@ pub returns-clause-comes : goal.returns-clause-comes
 returns-clause-comes c = λ d said are.
     verdict_answers c.args.a.now.modulus c.args.a.now c.args.certificate.now said are d c.in_ok-valid.valid c.requires c.in_ok-valid.ensures
 
-pub valid-requires : goal.valid-requires
-valid-requires c = formed_modulo c.args.a.now.modulus c.args.certificate.now c.requires
+pub check-requires : goal.check-requires
+check-requires c = formed_modulo c.args.a.now.modulus c.args.certificate.now c.requires
