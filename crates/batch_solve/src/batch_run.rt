@@ -22,6 +22,7 @@ use residue_words::Modulus;
 use sms_text::{LARGEST_INPUT, Sink, Source};
 use sparse_rows::Rows;
 use spasm_lib::{Team, prepare};
+use spasm_run::fitting_workers;
 use std::alloc::{AllocError, Global};
 use std::sync::Wait;
 use std::thread::Threads;
@@ -214,6 +215,7 @@ fn replies_to<R: Threads + Wait + Sync, W: Watch>(
     let a = &texts[0];
     // The proof wants that A is a matrix of residues.
     let _ = a.height();
+    let workers = fitting_workers(a, workers);
     let team = Team {
         workers,
         ..Team::of(rt, alloc)

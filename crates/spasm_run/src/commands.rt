@@ -27,17 +27,17 @@ use std::thread::Threads;
 /// The most rows of a matrix that is inverted, 2^30.
 pub const LARGEST_INVERTED: u32 = 1_073_741_824;
 
-// What the workers of a command may take in bytes beside the matrix: as many an entry, and as many in any case.
+// What workers may take in bytes beside the matrix: as many an entry, and as many in any case.
 const ROOM_AN_ENTRY: u64 = 24;
 
 const ROOM_ANYWAY: u64 = 1_048_576;
 
-// What each of them takes a column, for rows that it reduces and for what it has seen of pivots.
+// What each of them takes a column: for a row that it reduces, and for what it has seen of the pivots.
 const BYTES_A_COLUMN: u64 = 20;
 
-// How many workers go at once where so many are asked for: several if several are, but no more than there is room for, so that a command
-// takes at most about twice the memory of one.
-fn fitting_workers(a: &Rows, asked: u32) -> u32
+/// How many workers go at once on a matrix if so many are asked for, at least one: several if several are, but no more than 64, nor
+/// than there is room for beside the matrix, so that they take at most about twice the memory of one.
+pub fn fitting_workers(a: &Rows, asked: u32) -> u32
     requires { 1 ≤ asked }
     ensures some { 1 ≤ result }
     ensures one_worker { asked ≡ 1 → result ≡ 1 }

@@ -13,7 +13,7 @@ mod summary;
 pub mod words;
 mod written_pivots;
 
-pub use commands::LARGEST_INVERTED;
+pub use commands::{LARGEST_INVERTED, fitting_workers};
 pub use generator::{Generator, LARGEST_GENERATED, MOST_PER_ROW, generated_example};
 pub use numbered_text::write_with_number;
 pub use optimistic_search::{Gate, Open, Point};
