@@ -2,8 +2,9 @@
 use Rattle.std.specs.Prelude.{◌≡◌, ◌<◌, ◌≤◌, ℕ, Option, None, Some, List, length, slice_index}
 use Rattle.residue_words.specs.Matrix.{Matrix}
 use Rattle.residue_words.specs.declared.plain.Pair.{Pair}
+use Rattle.pivot_table.specs.Board.{SeatState}
 use Rattle.pivot_table.specs.Closing.{Begun, start_at}
-use Rattle.pivot_table.specs.Core.{Carries, Chair, Core, Reached, StandsAt}
+use Rattle.pivot_table.specs.Core.{Carries, Core, Reached, StandsAt}
 use Rattle.pivot_table.specs.History.{StartsWith}
 use Rattle.pivot_table.specs.Last.{IsLast}
 use Rattle.pivot_table.specs.declared.closed.Closed.{Closed}
@@ -33,7 +34,7 @@ pub record TellsStarts (A : Matrix) (first history : List Pair) (versions : List
 
 -- the starts that are left of a board that began with the pairs `first`, with whose history this one begins
 pub record AreStartsOf (A : Matrix) (first history : List Pair) (starts : Begun) : Type 0 where
-  pub seat : Chair
+  pub seat : SeatState
   pub left : Closed
   pub last : IsLast A first seat left
   pub is : starts ≡ left.starts

@@ -1,6 +1,6 @@
 -- What follows of the last state of a board.
 use Rattle.std.proofs.Common.{◌≡◌, ℕ, zero, suc, ◌+◌, ◌-◌, ◌<◌, ◌≤◌, ◌⊎◌, Bool, true, false, cond, ltb, List, [], ◌∷◌, ◌++◌, length, map, drop, get_or, sym, refl, ap, ◌∙◌, ⊎_elim, subst, arith, length-append}
-use Rattle.std.specs.Prelude.{Option, None, Some}
+use Rattle.std.specs.Prelude.{Option, None, Some, replicate}
 use mathlib.Core.Option.{some}
 use Rattle.std.specs.List.{Contains}
 use Rattle.std.proofs.lemmas.Bool.{ltb-false, ltb-true, le-ltb, lt-ltb}
@@ -8,13 +8,15 @@ use Rattle.std.proofs.lemmas.List.{get_or-map, get_or-drop, length-map, length-d
 use Rattle.residue_words.specs.Matrix.{Matrix}
 use Rattle.residue_words.specs.declared.plain.Pair.{Pair}
 use Rattle.pivot_table.specs.History.{pair, HasRow, Dead, StartsWith}
-use Rattle.pivot_table.specs.Core.{Mark, free, held, done, Noted, Chair, HasMark, StandsAt, Carries}
+use Rattle.pivot_table.specs.Core.{Mark, free, held, done, Noted, Chair, Core, HasSeat, HasMark, StandsAt, Carries, opened, opening}
+use Rattle.pivot_table.specs.Board.{SeatState}
 use Rattle.pivot_table.specs.Lawful.{Lawful, After, Sound}
 use Rattle.pivot_table.specs.Closing.{Begun, start_at, IsDone, AreStartsFrom, is_done, start_of, start_in}
 use Rattle.pivot_table.specs.Last.{IsLast}
 use Rattle.pivot_table.specs.declared.closed.Closed.{Closed}
 use Rattle.pivot_table.proofs.Listed.{within, at_get, read_at}
-use Rattle.pivot_table.proofs.Runs.{reached_lawful, reached_after}
+use Rattle.pivot_table.proofs.Runs.{reached_lawful, reached_after, marked_cases, free_at}
+use Rattle.pivot_table.proofs.Untouched.{untouched}
 
 done_mark : (x : Mark) → is_done x ≡ true → (n : ℕ) × (x ≡ done n)
 done_mark free e = absurd (cc)
@@ -47,21 +49,21 @@ start_there : (b : Begun) (k : ℕ) → b.first ≤ k → k - b.first < length b
 start_there b k le lt = ap (λ (x : Bool). told x (ltb (k - b.first) (length b.starts)) (get_or b.starts (k - b.first) 0)) (le-ltb k b.first le)
     ∙ ap (λ (y : Bool). told false y (get_or b.starts (k - b.first) 0)) (lt-ltb (k - b.first) (length b.starts) lt)
 
-module _ (A : Matrix) (h0 : List Pair) (s : Chair) (left : Closed) (l : IsLast A h0 s left) where
+module _ (A : Matrix) (h0 : List Pair) (s : SeatState) (left : Closed) (l : IsLast A h0 s left) where
   law : Lawful A l.last
   law = reached_lawful A h0 l.last l.reached
 
   after : After h0 l.last
   after = reached_after A h0 l.last l.reached
 
-  it : Sound l.last.history l.last.rows s
-  it = law.each l.seat.0 s l.seat.1
+  it : Sound l.last.history l.last.rows s.chair
+  it = law.each s.number s.chair l.seat
 
   pub last_begins : StartsWith left.book.pairs h0
   last_begins = subst (λ (x : List Pair). StartsWith x h0) l.history after.begins
 
-  pub last_seen : StartsWith left.book.pairs s.seen
-  last_seen = subst (λ (x : List Pair). StartsWith x s.seen) l.history it.seen_first
+  pub last_seen : StartsWith left.book.pairs s.chair.seen
+  last_seen = subst (λ (x : List Pair). StartsWith x s.chair.seen) l.history it.seen_first
 
   pub last_tall : length left.done ≡ A.height
   last_tall = ap length l.done ∙ length-map l.last.rows is_done ∙ l.tall
@@ -73,8 +75,19 @@ module _ (A : Matrix) (h0 : List Pair) (s : Chair) (left : Closed) (l : IsLast A
   last_settled r d = let t = done_mark (get_or l.last.rows r free) (sym (done_is r) ∙ d) in
       subst (λ (x : List Pair). HasRow x r ⊎ Dead A x r) l.history (law.done_is_settled r t.0 (marked_of l.last.rows r t.0 t.1))
 
-  pub last_finished : (r : ℕ) → Contains s.finished r → IsDone left.done r
+  pub last_finished : (r : ℕ) → Contains s.chair.finished r → IsDone left.done r
   last_finished r c = let t = it.finished_done r c in done_is r ∙ ap is_done (read_at l.last.rows r (done t.0) free t.1)
+
+  -- where the first seat did nothing
+  pub last_untouched : s.number ≡ 0 → s.chair ≡ opened h0 → (r : ℕ) → IsDone left.done r → HasRow h0 r
+  last_untouched first same r d =
+      let seat : HasSeat l.last.seats 0 (opened h0) = subst (λ (c : Chair). HasSeat l.last.seats 0 c) same (subst (λ (n : ℕ). HasSeat l.last.seats n s.chair) first l.seat) in
+      let still : l.last ≡ opening A h0 = untouched A h0 l.last l.reached seat in
+      let t = done_mark (get_or l.last.rows r free) (sym (done_is r) ∙ d) in
+      let m = subst (λ (c : Core). HasMark c.rows r (done t.0)) still (marked_of l.last.rows r t.0 t.1) in
+      ⊎_elim (λ c. c.0)
+      (λ c. absurd (let e : free ≡ done t.0 = free_at A.height r (done t.0) c.1 in cc))
+      (marked_cases h0 (replicate A.height free) r (done t.0) m)
 
   long : length left.starts.starts + length h0 ≡ length left.book.pairs
   long = let n : length left.book.pairs ≡ length (h0 ++ last_begins.0) = ap length last_begins.1 in
@@ -98,9 +111,9 @@ module _ (A : Matrix) (h0 : List Pair) (s : Chair) (left : Closed) (l : IsLast A
       ∙ carried l.last.rows q.row n c in
       start_there left.starts k (omega arith) (omega arith) ∙ ap (λ (x : ℕ). Some x) one
 
-  pub last_noted : (x : Noted) → Contains s.places x → start_at left.starts x.place ≡ Some x.start
+  pub last_noted : (x : Noted) → Contains s.chair.places x → start_at left.starts x.place ≡ Some x.start
   last_noted x c = let t = it.places_start x c in
-      start_is x.place x.start t.0 (after.behind l.seat.0 s x l.seat.1 c) (subst (λ (y : List Pair). StandsAt y x.place t.0) l.history t.1) t.2
+      start_is x.place x.start t.0 (after.behind s.number s.chair x l.seat c) (subst (λ (y : List Pair). StandsAt y x.place t.0) l.history t.1) t.2
 
   pub last_starts : AreStartsFrom (length h0) (length left.book.pairs) left.starts
   last_starts = record {

@@ -4,10 +4,12 @@ use mathlib.Core.Option.{some}
 use lib.ListN.{get_elem?}
 use Rattle.std.specs.List.{Contains}
 use Rattle.atomic_table.specs.Table.{State}
+use Rattle.atomic_table.specs.Seated.{TableId}
 use Rattle.residue_words.specs.Matrix.{Matrix}
 use Rattle.residue_words.specs.declared.plain.Pair.{Pair}
 use Rattle.pivot_table.specs.History.{Grown}
-use Rattle.pivot_table.specs.Core.{Chair, core}
+use Rattle.pivot_table.specs.Board.{SeatState}
+use Rattle.pivot_table.specs.Core.{core}
 use Rattle.pivot_table.specs.Closing.{CellsSay, MarksSay, Begun, is_done, start_in}
 use Rattle.pivot_table.specs.Last.{IsLast}
 use Rattle.pivot_table.specs.Rule.{Kept, rows_at}
@@ -18,6 +20,10 @@ use Rattle.residue_words.proofs.Lists.{cut_at}
 use Rattle.pivot_table.proofs.Short.{grown_short}
 use Rattle.pivot_table.proofs.Allowed.{seats_of, seat_there, lawful}
 use Rattle.pivot_table.proofs.Runs.{reached_after}
+
+-- the seat of this number, by what it knows
+abbrev pub seat_state : TableId → ℕ → View → SeatState
+seat_state table id v = record { table = table; matrix = v.matrix; number = id; chair = v.chair }
 
 module _ (A : Matrix) (h0 : List Pair) (s : State (Unit {0}) View) (k : Kept A h0 s) where
   pub grown : Grown A k.history
@@ -39,14 +45,14 @@ module _ (A : Matrix) (h0 : List Pair) (s : State (Unit {0}) View) (k : Kept A h
   pub begun_short : length h0 ≤ length k.history
   begun_short = let b = (reached_after A h0 (core k.history k.rows (seats_of s)) k.reached).begins in let e : length k.history ≡ length (h0 ++ b.0) = ap length b.1 in omega (arith, length-append h0 b.0)
 
-  pub is_last : (id : ℕ) (v : View) → get_elem? s.views id ≡ some v → v.live ≡ true → (left : Closed)
+  pub is_last : (table : TableId) (id : ℕ) (v : View) → get_elem? s.views id ≡ some v → v.live ≡ true → (left : Closed)
       → left.book.pairs ≡ k.history → left.done ≡ map is_done k.rows
       → left.starts ≡ record { first = length h0; starts = map (start_in k.rows) (drop (length h0) k.history) }
-      → IsLast A h0 v.chair left
-  is_last id v at live left eh ed es = record {
+      → IsLast A h0 (seat_state table id v) left
+  is_last table id v at live left eh ed es = record {
     last = core k.history k.rows (seats_of s);
     reached = k.reached;
-    seat = (id, seat_there s.views id v live at);
+    seat = seat_there s.views id v live at;
     history = sym eh;
     tall = k.spells.height;
     done = ed;
@@ -54,11 +60,11 @@ module _ (A : Matrix) (h0 : List Pair) (s : State (Unit {0}) View) (k : Kept A h
     starts = ap (λ (b : Begun). b.starts) es ∙ ap (λ (h : List Pair). map (start_in k.rows) (drop (length h0) h)) (sym eh);
   }
 
-pub last_same : (A A' : Matrix) (h0 h0' : List Pair) (s s' : Chair) (left : Closed) → A ≡ A' → h0 ≡ h0' → s ≡ s' → IsLast A h0 s left → IsLast A' h0' s' left
+pub last_same : (A A' : Matrix) (h0 h0' : List Pair) (s s' : SeatState) (left : Closed) → A ≡ A' → h0 ≡ h0' → s ≡ s' → IsLast A h0 s left → IsLast A' h0' s' left
 last_same A A' h0 h0' s s' left ea e0 es l =
     subst (λ (x : Matrix). IsLast x h0' s' left) ea
     (subst (λ (x : List Pair). IsLast A x s' left) e0
-    (subst (λ (x : Chair). IsLast A h0 x left) es l))
+    (subst (λ (x : SeatState). IsLast A h0 x left) es l))
 
 pub begun_same : (f f' : ℕ) (l l' : List ℕ) → f ≡ f' → l ≡ l' → ◌≡◌ {A = Begun} (record { first = f; starts = l }) (record { first = f'; starts = l' })
 begun_same f f' l l' ef el = λ i. record { first = ef i; starts = el i }

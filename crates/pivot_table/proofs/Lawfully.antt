@@ -252,7 +252,7 @@ pub splits : (A : Matrix) (c : Core) → Lawful A c → (i : ℕ) (s : Chair) �
     → Lawful A (core c.history c.rows (set c.seats i (Some (parting s)) ++ Some (splitting s) ∷ []))
 splits A c law i s at = adds A (core c.history c.rows (set c.seats i (Some (parting s)))) (parts A c law i s at) i (parting s) (here_seat A c law i s at (parting s))
 
-longer_either : (n : ℕ) (xs ys : List Pair) → n ≡ length ys - length xs → (P : List Pair → Type 0) → P xs → P ys → P (longer_by n xs ys) × (length xs ≤ length (longer_by n xs ys)) × (length ys ≤ length (longer_by n xs ys))
+pub longer_either : (n : ℕ) (xs ys : List Pair) → n ≡ length ys - length xs → (P : List Pair → Type 0) → P xs → P ys → P (longer_by n xs ys) × (length xs ≤ length (longer_by n xs ys)) × (length ys ≤ length (longer_by n xs ys))
 longer_either zero xs ys e P p q = (p, omega arith, omega arith)
 longer_either (suc n) xs ys e P p q = (q, omega arith, omega arith)
 

@@ -35,7 +35,7 @@ row_split q qs r t = ⊎_elim
     (λ c. inr (t.0, c, t.2))
     (in_cases q qs t.0 t.1)
 
-marked_cases : (h : List Pair) (rows : List Mark) (r : ℕ) (x : Mark) → HasMark (with_done h rows) r x → (HasRow h r × (x ≡ done 0)) ⊎ ((¬ HasRow h r) × HasMark rows r x)
+pub marked_cases : (h : List Pair) (rows : List Mark) (r : ℕ) (x : Mark) → HasMark (with_done h rows) r x → (HasRow h r × (x ≡ done 0)) ⊎ ((¬ HasRow h r) × HasMark rows r x)
 marked_cases [] rows r x m = inr (nil_row r, m)
 marked_cases (q ∷ qs) rows r x m = ⊎_elim
     (λ t. inl (row_there q qs r t.0, t.1))
@@ -69,14 +69,14 @@ lone a b zero e = (refl, some-injective a b e)
 lone a b (suc i) e = absurd (some-ne-none b (sym e))
 
 module _ (A : Matrix) (h : List Pair) (grown : Grown A h) where
-  row_done : (r : ℕ) → HasRow h r → HasMark (opening_marks A h) r (done 0)
+  pub row_done : (r : ℕ) → HasRow h r → HasMark (opening_marks A h) r (done 0)
   row_done r t =
       let c = cut_at h t.0 t.1 in let al = (grown c.0 t.0 c.1 c.2).entry.0 in let e : t.0.row ≡ r = t.2 in
       let long = length-opening_marks A h in
       let m = at_within (opening_marks A h) r (omega arith) in
       ⊎_elim (λ d. subst (λ (x : Mark). HasMark (opening_marks A h) r x) d.1 m.1) (λ n. absurd (n.0 t)) (marked_cases h (replicate A.height free) r m.0 m.1)
 
-  the_one : (i : ℕ) (s : Chair) → HasSeat (opening A h).seats i s → (i ≡ 0) × (opened h ≡ s)
+  pub the_one : (i : ℕ) (s : Chair) → HasSeat (opening A h).seats i s → (i ≡ 0) × (opened h ≡ s)
   the_one i s at = let e = lone (Some (opened h)) (Some s) i at in (e.0, (let f : Some (opened h) ≡ Some s = e.1 in cc))
 
   pub opens : Lawful A (opening A h)

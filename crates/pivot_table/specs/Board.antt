@@ -1,5 +1,5 @@
 -- What callers see of a board and of a seat.
-use Rattle.std.specs.Prelude.{◌≡◌, List}
+use Rattle.std.specs.Prelude.{◌≡◌, ℕ, List}
 use Rattle.residue_words.specs.Matrix.{Matrix}
 use Rattle.residue_words.specs.declared.plain.Pair.{Pair}
 use Rattle.sparse_rows.specs.Rows.{ResidueMatrix}
@@ -12,10 +12,11 @@ pub record BoardState : Type 0 where
   pub rows : ResidueMatrix
   pub pairs : List Pair
 
--- a seat: the name of its board, the matrix, and what it knows
+-- a seat: the name of its board, the matrix, its number among the seats, and what it knows
 pub record SeatState : Type 0 where
   pub table : TableId
   pub matrix : Matrix
+  pub number : ℕ
   pub chair : Chair
 
 -- the seat is one of this board

@@ -76,7 +76,7 @@ impl<'a> Board<'a> {
     /// The shared history, which begins with the book's pairs: their rows are done, all others are free. Only this call takes memory.
     pub fn new(alloc: Global, book: &Book<'a>) -> Result<(Board<'a>, Seat), AllocError>
         ensures board { IfOk result (λ t. (t.0.rows ≡ book.now.rows) × (t.0.pairs ≡ book.now.pairs)) }
-        ensures seat { IfOk result (λ t. IsSeatOf t.0 t.1 × (t.1.chair ≡ opened book.now.pairs)) }
+        ensures seat { IfOk result (λ t. IsSeatOf t.0 t.1 × (t.1.number ≡ 0) × (t.1.chair ≡ opened book.now.pairs)) }
     {
         let rows = book.rows();
         let height = rows.height() as usize;
@@ -128,6 +128,7 @@ impl<'a> Board<'a> {
         requires row { row < self.now.rows.matrix.height }
         requires idle { seat.old.chair.hand ≡ None }
         ensures seat { IsSeatOf self.now seat.new }
+        ensures number { seat.new.number ≡ seat.old.number }
         ensures chair { MatchBool result (Claims seat.old.chair row seat.new.chair)
             (seat.new.chair ≡ meeting seat.old.chair row) }
     {
@@ -152,6 +153,7 @@ impl<'a> Board<'a> {
         requires unpublished { seat.old.chair.published ≡ false }
         requires alive { MayPublish self.now.rows.matrix seat.old.chair col }
         ensures seat { IsSeatOf self.now seat.new }
+        ensures number { seat.new.number ≡ seat.old.number }
         ensures chair { IsOutcome self.now.rows.matrix seat.old.chair col result seat.new.chair }
     {
         let Some(row) = seat.row else { unreachable!() };
@@ -177,6 +179,7 @@ impl<'a> Board<'a> {
         requires seat { IsSeatOf self.now seat.old }
         requires settled { MayFinish self.now.rows.matrix seat.old.chair }
         ensures seat { IsSeatOf self.now seat.new }
+        ensures number { seat.new.number ≡ seat.old.number }
         ensures chair { Finishes seat.old.chair seat.new.chair }
     {
         let Some(row) = seat.row else { unreachable!() };
@@ -192,6 +195,7 @@ impl<'a> Board<'a> {
     pub fn split(&self, seat: &mut Seat) -> Seat
         requires { IsSeatOf self.now seat.old }
         ensures old_seat { IsSeatOf self.now seat.new }
+        ensures old_number { seat.new.number ≡ seat.old.number }
         ensures old_chair { seat.new.chair ≡ parting seat.old.chair }
         ensures seat { IsSeatOf self.now result }
         ensures chair { result.chair ≡ splitting seat.old.chair }
@@ -211,6 +215,7 @@ impl<'a> Board<'a> {
         requires other { IsSeatOf self.now other }
         requires idle { other.chair.hand ≡ None }
         ensures seat { IsSeatOf self.now seat.new }
+        ensures number { seat.new.number ≡ seat.old.number }
         ensures chair { seat.new.chair ≡ joining seat.old.chair other.chair }
     {
         let Seat {
@@ -238,7 +243,7 @@ impl<'a> Board<'a> {
         ensures finished { (r : ℕ) → Contains seat.chair.finished r → IsDone result.done r }
         ensures starts { AreStartsFrom (length self.entry.pairs) (length result.book.pairs) result.starts }
         ensures noted { AreNoted seat.chair.places result.starts }
-        ensures last { IsLast self.entry.rows.matrix self.entry.pairs seat.chair result }
+        ensures last { IsLast self.entry.rows.matrix self.entry.pairs seat result }
     {
         let Board {
             table,

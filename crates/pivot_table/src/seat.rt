@@ -24,6 +24,7 @@ impl Model for Seat {
     ghost view = { λ s. record {
       table = s.token.table_id;
       matrix = s.token.me.0.matrix;
+      number = s.token.id;
       chair = s.token.me.0.chair;
     } };
 

@@ -6,10 +6,10 @@ use Rattle.residue_words.specs.declared.plain.Pair.{Pair}
 use Rattle.pivot_table.specs.History.{Grown}
 use Rattle.pivot_table.specs.Closing.{CellsSay, MarksSay, is_done, start_in}
 use Rattle.pivot_table.specs.Rule.{rows_at}
-use Rattle.pivot_table.specs.Board.{BoardState, SeatState}
+use Rattle.pivot_table.specs.Board.{BoardState}
 use Rattle.pivot_table.specs.Book.{BookState}
 use Rattle.pivot_table.specs.declared.closed.Closed.{Closed}
-use Rattle.pivot_table.proofs.Lasting.{grown, cells_say, marks_say, row_inside, begun_short, is_last, last_same, begun_same, cells_are}
+use Rattle.pivot_table.proofs.Lasting.{grown, cells_say, marks_say, row_inside, begun_short, seat_state, is_last, last_same, begun_same, cells_are}
 use Rattle.pivot_table.proofs.Ending.{last_begins, last_seen, last_tall, last_settled, last_finished, last_starts, last_noted}
 use Rattle.pivot_table.proofs.Fitting.{same_matrix}
 use Rattle.pivot_table.proofs.Short.{grown_short}
@@ -111,32 +111,32 @@ returns-clause-last c =
     let starts : c.read_starts.new.starts.items ≡ map (start_in k.rows) (drop (length key.pairs) k.history) =
     c.read_starts.ensures.read A.height k.rows say (omega arith) ∙ ap (λ (l : List Pair). map (start_in k.rows) (drop c.self.inside.first l)) slice ∙ ap (λ (n : ℕ). map (start_in k.rows) (drop n k.history)) first in
     let left : Closed = record { book = c.of.result; done = c.of-2.result; starts = c.of-3.result } in
-    last_same A c.args.self.rows.matrix key.pairs c.args.self.pairs it.me.0.chair c.args.seat.chair left
+    last_same A c.args.self.rows.matrix key.pairs c.args.self.pairs (seat_state it.table_id it.id it.me.0) c.args.seat left
     (sym same ∙ ap (λ (p : BoardState). p.rows.matrix) c.self.view_is)
     (ap (λ (p : BoardState). p.pairs) c.self.view_is)
-    (ap (λ (s : SeatState). s.chair) c.seat.view_is)
-    (is_last A key.pairs last.0 k it.id it.me.0 last.1.1 c.seat.invariant.3 left
+    c.seat.view_is
+    (is_last A key.pairs last.0 k it.table_id it.id it.me.0 last.1.1 c.seat.invariant.3 left
     (ap (λ (w : BookState). w.pairs) c.of.ensures ∙ read)
     (c.of-2.ensures ∙ marks)
     (c.of-3.ensures ∙ begun_same c.self.inside.first (length key.pairs) c.read_starts.new.starts.items (map (start_in k.rows) (drop (length key.pairs) k.history)) first starts))
 
 pub returns-clause-begins : goal.returns-clause-begins
-returns-clause-begins c = last_begins c.args.self.rows.matrix c.args.self.pairs c.args.seat.chair (record { book = c.of.result; done = c.of-2.result; starts = c.of-3.result }) (returns-clause-last c)
+returns-clause-begins c = last_begins c.args.self.rows.matrix c.args.self.pairs c.args.seat (record { book = c.of.result; done = c.of-2.result; starts = c.of-3.result }) (returns-clause-last c)
 
 pub returns-clause-seen : goal.returns-clause-seen
-returns-clause-seen c = last_seen c.args.self.rows.matrix c.args.self.pairs c.args.seat.chair (record { book = c.of.result; done = c.of-2.result; starts = c.of-3.result }) (returns-clause-last c)
+returns-clause-seen c = last_seen c.args.self.rows.matrix c.args.self.pairs c.args.seat (record { book = c.of.result; done = c.of-2.result; starts = c.of-3.result }) (returns-clause-last c)
 
 pub returns-clause-settled : goal.returns-clause-settled
-returns-clause-settled c = last_settled c.args.self.rows.matrix c.args.self.pairs c.args.seat.chair (record { book = c.of.result; done = c.of-2.result; starts = c.of-3.result }) (returns-clause-last c)
+returns-clause-settled c = last_settled c.args.self.rows.matrix c.args.self.pairs c.args.seat (record { book = c.of.result; done = c.of-2.result; starts = c.of-3.result }) (returns-clause-last c)
 
 pub returns-clause-finished : goal.returns-clause-finished
-returns-clause-finished c = last_finished c.args.self.rows.matrix c.args.self.pairs c.args.seat.chair (record { book = c.of.result; done = c.of-2.result; starts = c.of-3.result }) (returns-clause-last c)
+returns-clause-finished c = last_finished c.args.self.rows.matrix c.args.self.pairs c.args.seat (record { book = c.of.result; done = c.of-2.result; starts = c.of-3.result }) (returns-clause-last c)
 
 pub returns-clause-starts : goal.returns-clause-starts
-returns-clause-starts c = last_starts c.args.self.rows.matrix c.args.self.pairs c.args.seat.chair (record { book = c.of.result; done = c.of-2.result; starts = c.of-3.result }) (returns-clause-last c)
+returns-clause-starts c = last_starts c.args.self.rows.matrix c.args.self.pairs c.args.seat (record { book = c.of.result; done = c.of-2.result; starts = c.of-3.result }) (returns-clause-last c)
 
 pub returns-clause-noted : goal.returns-clause-noted
-returns-clause-noted c = last_noted c.args.self.rows.matrix c.args.self.pairs c.args.seat.chair (record { book = c.of.result; done = c.of-2.result; starts = c.of-3.result }) (returns-clause-last c)
+returns-clause-noted c = last_noted c.args.self.rows.matrix c.args.self.pairs c.args.seat (record { book = c.of.result; done = c.of-2.result; starts = c.of-3.result }) (returns-clause-last c)
 
 pub returns-clause-tall : goal.returns-clause-tall
-returns-clause-tall c = last_tall c.args.self.rows.matrix c.args.self.pairs c.args.seat.chair (record { book = c.of.result; done = c.of-2.result; starts = c.of-3.result }) (returns-clause-last c)
+returns-clause-tall c = last_tall c.args.self.rows.matrix c.args.self.pairs c.args.seat (record { book = c.of.result; done = c.of-2.result; starts = c.of-3.result }) (returns-clause-last c)
