@@ -1,6 +1,6 @@
 -- Each step of a seat keeps the rule: it is a turn of the core.
 use Rattle.std.proofs.Common.{◌≡◌, ◌≢◌, ℕ, ◌+◌, ◌-◌, ◌*◌, ◌<◌, ◌≤◌, ◌⊎◌, Bool, true, false, eqb, List, [], ◌∷◌, ◌++◌, length, map, get_or, set, sym, refl, ap, ◌∙◌, ⊎_elim, subst, arith, length-append, eq-eqb, ne_eqb, lt_of_not-le, append_assoc}
-use Rattle.std.specs.Prelude.{None, Some}
+use Rattle.std.specs.Prelude.{Option, None, Some}
 use mathlib.Core.Logic.{dite}
 use mathlib.Core.Option.{none, some}
 use native.Mathlib.Decide.{ℕ_discrete, dec_le}
@@ -15,9 +15,9 @@ use Rattle.residue_words.specs.declared.plain.Pair.{Pair}
 use Rattle.pivot_table.specs.History.{pair, HasRow, Alive, LeastAlive, Dead, StartsWith}
 use Rattle.pivot_table.specs.Core.{Mark, free, held, done, Chair, core, HasSeat, HasMark, Turn, claim, see, publish, finish, meet, Goes, Reached, claiming, meeting, seeing, publishing, finishing}
 use Rattle.pivot_table.specs.Lawful.{Lawful}
-use Rattle.pivot_table.specs.Rule.{Kept, TableSeat, Spells, seat_of, seat_by, with_chair, mark_word, pair_word, pair_of, rows_at, claimed, finished, published}
+use Rattle.pivot_table.specs.Rule.{Kept, TableSeat, Spells, seat_of, seat_by, with_chair, mark_word, pair_word, pair_of, rows_at, claimed, finished, published, looked}
 use Rattle.pivot_table.specs.declared.view.View.{View}
-use Rattle.pivot_table.proofs.Listed.{at_within, next_at}
+use Rattle.pivot_table.proofs.Listed.{at_within, next_at, read_at}
 use Rattle.pivot_table.proofs.Growth.{grown_push, row_later, row_push, next_alive, seen_whole}
 use Rattle.pivot_table.proofs.Short.{grown_short}
 use Rattle.pivot_table.proofs.Words.{mark_zero, pair_back, spells_mark, spells_push}
@@ -48,6 +48,9 @@ each_view P l i w here others j t at = ⊎_elim
     (λ n. others j t n.1)
     (Rattle.atomic_table.proofs.Lists.at_set l i j w t at)
 
+abbrev pub HasHeard : View → Type 0
+HasHeard v = StartsWith v.chair.seen v.heard
+
 module _ (A : Matrix) (h0 : List Pair) (s : St) (k : Kept A h0 s) where
   pub lawful : Lawful A (core k.history k.rows (seats_of s))
   lawful = reached_lawful A h0 (core k.history k.rows (seats_of s)) k.reached
@@ -69,8 +72,32 @@ module _ (A : Matrix) (h0 : List Pair) (id : ℕ) (me : TableSeat) (live : me.0.
     reached = subst (λ (l : Seats). Reached A h0 (core h rows l)) (sym (seats_set s.views id (with_chair me w).0 live)) (reached_next A h0 (core k.history k.rows (seats_of s)) (core h rows (set (seats_of s) id (Some w))) e k.reached goes);
     spells = sp;
     of_board = each_view (λ v. v.live ≡ true → v.matrix ≡ A) s.views id (with_chair me w).0 (λ l. matrix) (λ j v au. k.of_board j v au);
+    heard = each_view HasHeard s.views id (with_chair me w).0 (w.seen, refl) k.heard;
     narrow = k.narrow;
   }
+
+  -- a load, which changes nothing
+  pub look_allows : (slots i : ℕ) → Allows (Kept A h0) slots id me i (λ n. n) (looked (step slots i 0 0 none) me)
+  look_allows slots i s k _ at _ =
+      let c : Chair = me.0.chair in
+      let sat : HasSeat (seats_of s) id c = seat_there s.views id me.0 live at in
+      let same : map seat_of (set s.views id (with_chair me c).0) ≡ seats_of s = seats_set s.views id (with_chair me c).0 live
+      ∙ ap (λ (o : Option Chair). set (seats_of s) id o) (sym (read_at (seats_of s) id (Some c) None sat))
+      ∙ set-get_or (seats_of s) id None in (
+        (with_chair me c).0,
+        keeps,
+        tt,
+        record {
+          history = k.history;
+          rows = k.rows;
+          reached = subst (λ (l : Seats). Reached A h0 (core k.history k.rows l)) (sym same) k.reached;
+          spells = subst (λ (l : List ℕ). Spells A l k.history k.rows) (sym (set_here_again s.words i)) k.spells;
+          of_board = each_view (λ v. v.live ≡ true → v.matrix ≡ A) s.views id (with_chair me c).0 (λ l. matrix) (λ j v au. k.of_board j v au);
+          heard = each_view HasHeard s.views id (with_chair me c).0 (c.seen, refl) k.heard;
+          narrow = k.narrow;
+        },
+        (refl, k.heard id me.0 at),
+      )
 
   module _ (r : ℕ) (low : r < A.height) (slots : ℕ) where
     same_row : (rows_at A + r) - rows_at me.0.matrix ≡ r

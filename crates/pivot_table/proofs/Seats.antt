@@ -1,13 +1,14 @@
 -- The seats of a core, as one of them is written; marks, as one of them is written.
-use Rattle.std.proofs.Common.{◌≡◌, ◌≢◌, ℕ, ◌≤◌, ◌⊎◌, List, [], ◌∷◌, ◌++◌, length, set, sym, refl, ap, ◌∙◌, inl, inr, ⊎_elim, subst, arith, append_assoc, length-append}
+use Rattle.std.proofs.Common.{◌≡◌, ◌≢◌, ℕ, zero, suc, ◌-◌, ◌≤◌, ◌⊎◌, List, [], ◌∷◌, ◌++◌, length, set, sym, refl, ap, ◌∙◌, inl, inr, ⊎_elim, subst, arith, append_assoc, length-append}
 use Rattle.std.specs.Prelude.{Option, None, Some}
 use native.Mathlib.Decide.{ℕ_discrete}
 use Rattle.std.specs.List.{Contains}
+use Rattle.std.proofs.lemmas.List.{append-nil}
 use Rattle.std.proofs.lemmas.List.Elements.{Contains-push_cases, Contains-append_cases}
 use Rattle.atomic_table.proofs.Lists.{at_set, set_here, set_else, at_longer}
 use Rattle.residue_words.specs.declared.plain.Pair.{Pair}
 use Rattle.pivot_table.specs.History.{HasRow, StartsWith}
-use Rattle.pivot_table.specs.Core.{Mark, free, held, done, Noted, Chair, HasSeat, HasMark, StandsAt, Carries}
+use Rattle.pivot_table.specs.Core.{Mark, free, held, done, Noted, Chair, HasSeat, HasMark, StandsAt, Carries, longer, longer_by, shorter, shorter_by}
 use Rattle.pivot_table.specs.Lawful.{HaveDistinctPlaces, Sound, Apart}
 use Rattle.residue_words.proofs.Lists.{not_in_nil, in_head, in_tail}
 use Rattle.pivot_table.proofs.Listed.{within, same_at, at_contains}
@@ -132,3 +133,32 @@ distinct_append (x ∷ xs) ys d e apart = (
 
 pub seen_short : (h seen : List Pair) → StartsWith h seen → length seen ≤ length h
 seen_short h seen s = let e : length h ≡ length (seen ++ s.0) = ap length s.1 in omega (arith, length-append seen s.0)
+
+-- of two beginnings of one list, the longer begins with the shorter
+first_of : (h xs ys : List Pair) → StartsWith h xs → StartsWith h ys → length xs ≤ length ys → StartsWith ys xs
+first_of h [] ys s t le = (ys, refl)
+first_of h (x ∷ xs) [] s t le = absurd (omega arith)
+first_of [] (x ∷ xs) (y ∷ ys) s t le = absurd (cc)
+first_of (z ∷ zs) (x ∷ xs) (y ∷ ys) s t le =
+    let es : z ∷ zs ≡ x ∷ (xs ++ s.0) = s.1 in
+    let et : z ∷ zs ≡ y ∷ (ys ++ t.0) = t.1 in
+    let a : zs ≡ xs ++ s.0 = cc in
+    let b : zs ≡ ys ++ t.0 = cc in
+    let more = first_of zs xs ys (s.0, a) (t.0, b) (omega arith) in
+    let same : y ≡ x = cc in
+    (more.0, (let e = more.1 in cc))
+
+shorter_by_first : (n : ℕ) (h xs ys : List Pair) → n ≡ length ys - length xs → StartsWith h xs → StartsWith h ys → StartsWith (longer_by n xs ys) (shorter_by n xs ys)
+shorter_by_first zero h xs ys e s t = first_of h ys xs t s (omega arith)
+shorter_by_first (suc n) h xs ys e s t = first_of h xs ys s t (omega arith)
+
+pub shorter_first : (h xs ys : List Pair) → StartsWith h xs → StartsWith h ys → StartsWith (longer xs ys) (shorter xs ys)
+shorter_first h xs ys = shorter_by_first (length ys - length xs) h xs ys refl
+
+both_by_first : (n : ℕ) (xs ys : List Pair) → StartsWith (longer_by n xs ys) (shorter_by n xs ys) → StartsWith (longer_by n xs ys) xs × StartsWith (longer_by n xs ys) ys
+both_by_first zero xs ys s = (([], sym (append-nil xs)), s)
+both_by_first (suc n) xs ys s = (s, ([], sym (append-nil ys)))
+
+-- so the longer begins with each of them
+pub both_first : (xs ys : List Pair) → StartsWith (longer xs ys) (shorter xs ys) → StartsWith (longer xs ys) xs × StartsWith (longer xs ys) ys
+both_first xs ys = both_by_first (length ys - length xs) xs ys

@@ -9,12 +9,13 @@ use Rattle.atomic_table.specs.Table.{Splits, Joins}
 use Rattle.atomic_table.proofs.Lists.{set_else, at_snoc}
 use Rattle.residue_words.specs.Matrix.{Matrix}
 use Rattle.residue_words.specs.declared.plain.Pair.{Pair}
+use Rattle.pivot_table.specs.History.{StartsWith}
 use Rattle.pivot_table.specs.Core.{Chair, core, split, join, Reached, parting, splitting, joining}
 use Rattle.pivot_table.specs.Rule.{Kept, seat_of, seat_by, joined, old_part, new_part, spent_view}
 use Rattle.pivot_table.specs.declared.view.View.{View}
-use Rattle.pivot_table.proofs.Seats.{Seats}
+use Rattle.pivot_table.proofs.Seats.{Seats, shorter_first}
 use Rattle.pivot_table.proofs.Runs.{reached_next}
-use Rattle.pivot_table.proofs.Allowed.{seats_of, seat_there, seats_set, each_view}
+use Rattle.pivot_table.proofs.Allowed.{HasHeard, lawful, seats_of, seat_there, seats_set, each_view}
 
 module _ (A : Matrix) (h0 : List Pair) (id : ℕ) (v : View) (live : v.live ≡ true) where
   pub split_allowed : Splits (Kept A h0) id v (old_part v) (new_part v)
@@ -35,6 +36,10 @@ module _ (A : Matrix) (h0 : List Pair) (id : ℕ) (v : View) (live : v.live ≡ 
             (λ e. each_view (λ x. x.live ≡ true → x.matrix ≡ A) s.views id (old_part v) (λ l. k.of_board id v at live) (λ i x ai. k.of_board i x ai) j u e lives)
             (λ e. (let f : new_part v ≡ u = e in sym (ap (λ (x : View). x.matrix) f) ∙ k.of_board id v at live))
             (at_snoc views (new_part v) u j au);
+        heard = λ j u au. ⊎_elim
+            (λ e. each_view HasHeard s.views id (old_part v) (v.chair.seen, refl) k.heard j u e)
+            (λ e. subst (λ (x : View). StartsWith x.chair.seen x.heard) {x = new_part v} e (v.chair.seen, refl))
+            (at_snoc views (new_part v) u j au);
         narrow = k.narrow;
       }
 
@@ -46,6 +51,9 @@ module _ (A : Matrix) (h0 : List Pair) (id : ℕ) (v : View) (live : v.live ≡ 
       let after : Seats = set (set seats id (Some both)) other None in
       let goes = reached_next A h0 (core k.history k.rows seats) (core k.history k.rows after) (join id other) k.reached
       (v.chair, w.chair, seat_there s.views id v live at, seat_there s.views other w there av, ne, idle, refl) in
+      let law = lawful A h0 s k in
+      let so = law.each id v.chair (seat_there s.views id v live at) in
+      let to = law.each other w.chair (seat_there s.views other w there av) in
       let written : map seat_of (set (set s.views id (joined v w)) other spent_view) ≡ after = map-set seat_of (set s.views id (joined v w)) other spent_view ∙ ap (λ (l : Seats). set l other None) (seats_set s.views id (joined v w) live) in
       record {
         history = k.history;
@@ -54,5 +62,7 @@ module _ (A : Matrix) (h0 : List Pair) (id : ℕ) (v : View) (live : v.live ≡ 
         spells = k.spells;
         of_board = each_view (λ u. u.live ≡ true → u.matrix ≡ A) (set s.views id (joined v w)) other spent_view (λ l. absurd (cc))
             (each_view (λ u. u.live ≡ true → u.matrix ≡ A) s.views id (joined v w) (λ l. k.of_board id v at live) (λ j u aj. k.of_board j u aj));
+        heard = each_view HasHeard (set s.views id (joined v w)) other spent_view ([], refl)
+            (each_view HasHeard s.views id (joined v w) (shorter_first k.history v.chair.seen w.chair.seen so.seen_first to.seen_first) k.heard);
         narrow = k.narrow;
       }

@@ -1,16 +1,18 @@
 -- What stays, whatever a try to publish found.
-use Rattle.std.proofs.Common.{◌≡◌, ◌≢◌, ℕ, ◌+◌, ◌<◌, [], ◌∷◌, length, length-append, sym, subst, ap, ◌∙◌}
+use Rattle.std.proofs.Common.{◌≡◌, ◌≢◌, ℕ, ◌+◌, ◌<◌, List, [], ◌∷◌, length, length-append, sym, subst, ap, ◌∙◌}
 use Rattle.std.specs.Prelude.{Some}
 use mathlib.Core.Logic.{dite}
 use native.Mathlib.Decide.{ℕ_discrete}
 use Rattle.atomic_table.specs.Table.{Step}
 use Rattle.residue_words.specs.Matrix.{Matrix}
 use Rattle.residue_words.specs.declared.plain.Pair.{Pair}
-use Rattle.pivot_table.specs.History.{pair, Alive}
-use Rattle.pivot_table.specs.Core.{Chair, publishing, seeing}
+use Rattle.pivot_table.specs.History.{pair, Alive, StartsWith}
+use Rattle.pivot_table.specs.Core.{Chair, publishing, seeing, longer}
 use Rattle.pivot_table.specs.Calls.{IsOutcome}
 use Rattle.pivot_table.specs.declared.board.Outcome.TheVariants as told
-use Rattle.pivot_table.specs.Rule.{TableSeat, with_chair, published, rows_at, pair_of}
+use Rattle.pivot_table.specs.Rule.{TableSeat, with_chair, published, joined, rows_at, pair_of}
+use Rattle.pivot_table.specs.declared.view.View.{View}
+use Rattle.pivot_table.proofs.Seats.{both_first}
 
 pub record Stays (m m' : TableSeat) : Type 0 where
   pub one_more : length m'.0.chair.seen ≡ length m.0.chair.seen + 1
@@ -55,3 +57,11 @@ module _ (A : Matrix) (col r : ℕ) (st : Step (Unit {0})) (m : TableSeat) (n : 
         subst (λ (x : Chair). x.hand ≢ Some (pair_of n).row) is t.3,
         ap (λ (x : TableSeat). x.0.chair) t.0 ∙ ap (λ (x : Chair). seeing x (pair_of n)) is,
       )
+
+-- what a seat that was joined with another, and then looked, tells
+pub tells_begins : (m : TableSeat) (w : View) (j m' : TableSeat) → j ≡ (joined m.0 w, m.1) → m' ≡ with_chair j j.0.chair → StartsWith j.0.chair.seen j.0.heard
+    → StartsWith m'.0.chair.seen m.0.chair.seen × StartsWith m'.0.chair.seen w.chair.seen
+tells_begins m w j m' is looks heard =
+    let same : m'.0.chair.seen ≡ longer m.0.chair.seen w.chair.seen = ap (λ (x : TableSeat). x.0.chair.seen) looks ∙ ap (λ (x : TableSeat). x.0.chair.seen) is in
+    subst (λ (l : List Pair). StartsWith l m.0.chair.seen × StartsWith l w.chair.seen) (sym same)
+    (both_first m.0.chair.seen w.chair.seen (subst (λ (x : TableSeat). StartsWith x.0.chair.seen x.0.heard) is heard))

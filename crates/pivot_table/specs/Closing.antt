@@ -21,7 +21,7 @@ start_of (done n) = n
 abbrev pub start_in : List Mark → Pair → ℕ
 start_in rows q = start_of (slice_index_or rows q.row free)
 
--- the starts of the rows at the places from `first` on
+-- what callers see of starts: those of the rows at the places from `first` on
 pub record Begun : Type 0 where
   pub first : ℕ
   pub starts : List ℕ
@@ -39,7 +39,7 @@ pub record AreStartsFrom (from to : ℕ) (b : Begun) : Type 0 where
   pub long : b.first + length b.starts ≡ to
   pub low : (k n : ℕ) → start_at b k ≡ Some n → n ≤ k
 
--- the starts noted at places
+-- the places that a seat published are among them, with their starts
 abbrev pub AreNoted : List Noted → Begun → Type 0
 AreNoted places b = (x : Noted) → Contains places x → start_at b x.place ≡ Some x.start
 

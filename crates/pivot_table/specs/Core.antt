@@ -12,12 +12,13 @@ pub data Mark : Type 0 where
   held : ℕ → Mark
   done : ℕ → Mark
 
--- a place of the history that a seat published, with the start of the row there
+-- a place of the history at which a seat published, with the start of the row there
 pub record Noted : Type 0 where
   pub place : ℕ
   pub start : ℕ
 
--- what a seat knows: the pairs that it has seen, the row in hand with its start (0 where there is none) and a note whether it
+-- A `Seat` is what code steps with, and its chair is what it knows; the table keeps that in a `View`, and callers see it in a
+-- `SeatState`. A chair has the pairs that it has seen, the row in hand with its start (0 where there is none) and a note whether it
 -- is published, the row that it last met, the rows that it finished, the places that it published, and how often it was split
 pub record Chair : Type 0 where
   pub seen : List Pair
@@ -90,13 +91,20 @@ splitting s = record s {
   parted = 0;
 }
 
--- the longer of two lists, the first where they are as long
+-- the longer of two lists, the first where they are as long, and the other one
 abbrev pub longer_by : ℕ → List Pair → List Pair → List Pair
 longer_by zero xs ys = xs
 longer_by (suc n) xs ys = ys
 
 abbrev pub longer : List Pair → List Pair → List Pair
 longer xs ys = longer_by (length ys - length xs) xs ys
+
+abbrev pub shorter_by : ℕ → List Pair → List Pair → List Pair
+shorter_by zero xs ys = ys
+shorter_by (suc n) xs ys = xs
+
+abbrev pub shorter : List Pair → List Pair → List Pair
+shorter xs ys = shorter_by (length ys - length xs) xs ys
 
 abbrev pub joining : Chair → Chair → Chair
 joining s t = record s {

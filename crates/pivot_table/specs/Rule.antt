@@ -5,12 +5,12 @@ use lib.ListN.{get_elem?}
 use Rattle.atomic_table.specs.Table.{State, Me, Step}
 use Rattle.residue_words.specs.Matrix.{Matrix}
 use Rattle.residue_words.specs.declared.plain.Pair.{Pair}
-use Rattle.pivot_table.specs.History.{pair, HasRow, Alive}
-use Rattle.pivot_table.specs.Core.{Mark, free, held, done, Chair, core, Reached, claiming, meeting, seeing, publishing, finishing, parting, splitting, joining, opened, opening_marks}
+use Rattle.pivot_table.specs.History.{pair, HasRow, Alive, StartsWith}
+use Rattle.pivot_table.specs.Core.{Mark, free, held, done, Chair, core, Reached, claiming, meeting, seeing, publishing, finishing, parting, splitting, joining, shorter, opened, opening_marks}
 use Rattle.pivot_table.specs.declared.view.View.{View}
 
 abbrev pub view : Matrix → Bool → Chair → View
-view a live s = record { matrix = a; live = live; chair = s }
+view a live s = record { matrix = a; live = live; chair = s; heard = [] }
 
 -- the seat of a view; none where it is spent
 abbrev pub seat_by : Bool → Chair → Option Chair
@@ -50,6 +50,10 @@ SpellsOpening A words h = Spells A words h (opening_marks A h)
 abbrev pub OfBoard : Matrix → List View → Type 0
 OfBoard A views = (i : ℕ) (v : View) → get_elem? views i ≡ some v → v.live ≡ true → v.matrix ≡ A
 
+-- what a seat has heard of is a beginning of what it has seen
+abbrev pub HaveHeard : List View → Type 0
+HaveHeard views = (i : ℕ) (v : View) → get_elem? views i ≡ some v → StartsWith v.chair.seen v.heard
+
 -- The rule: the words and the views that are not spent spell a state of the core that a run reached from the opening
 pub record Kept (A : Matrix) (h0 : List Pair) (s : State (Unit {0}) View) : Type 0 where
   pub history : List Pair
@@ -57,6 +61,7 @@ pub record Kept (A : Matrix) (h0 : List Pair) (s : State (Unit {0}) View) : Type
   pub reached : Reached A h0 (core history rows (map seat_of s.views))
   pub spells : Spells A s.words history rows
   pub of_board : OfBoard A s.views
+  pub heard : HaveHeard s.views
   pub narrow : A.width ≤ 4294967296
 
 abbrev pub TableSeat : Type 0
@@ -86,12 +91,21 @@ published st m n m' = (length m'.0.chair.seen < rows_at m.0.matrix)
     × Alive m.0.matrix m.0.chair.seen (pair_of n).row (pair_of n).col
     × (m.0.chair.hand ≢ Some (pair_of n).row))
 
+-- a seat that only looks learns that what it heard of is a beginning of what it has seen
+abbrev pub looked : Step (Unit {0}) → TableSeat → ℕ → TableSeat → Type 0
+looked st m n m' = (m' ≡ with_chair m m.0.chair) × StartsWith m.0.chair.seen m.0.heard
+
 -- the second of two views is spent
 abbrev pub spent_view : View
 spent_view = view (record { height = 0; width = 0; rows = [] }) false (opened [])
 
 abbrev pub joined : View → View → View
-joined v w = view v.matrix v.live (joining v.chair w.chair)
+joined v w = record {
+  matrix = v.matrix;
+  live = v.live;
+  chair = joining v.chair w.chair;
+  heard = shorter v.chair.seen w.chair.seen;
+}
 
 -- the view of a seat that is split, and that of the new one
 abbrev pub old_part : View → View

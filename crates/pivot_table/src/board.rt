@@ -10,7 +10,7 @@ ghost use Rattle.pivot_table.specs.Core.{meeting, opened, parting, splitting, jo
 ghost use Rattle.pivot_table.specs.History.{StandsOrIsDead, StartsWith};
 ghost use Rattle.pivot_table.specs.Rule.{rows_at};
 
-use crate::board_rule::{Both, Claim, Finish, Law, Part, Publish};
+use crate::board_rule::{Both, Claim, Finish, Law, Look, Part, Publish};
 use crate::board_words::{pair_at, read_cells, read_marks, read_starts, spell, word_of_pair};
 use crate::book::Book;
 use crate::closed::Closed;
@@ -209,7 +209,8 @@ impl<'a> Board<'a> {
         }
     }
 
-    /// The seat takes over what the other has seen, published and finished.
+    /// The seat takes over what the other has seen, published and finished. What it has seen then begins with what each of the two
+    /// had seen.
     pub fn join(&self, seat: &mut Seat, other: Seat)
         requires seat { IsSeatOf self.now seat.old }
         requires other { IsSeatOf self.now other }
@@ -217,6 +218,8 @@ impl<'a> Board<'a> {
         ensures seat { IsSeatOf self.now seat.new }
         ensures number { seat.new.number ≡ seat.old.number }
         ensures chair { seat.new.chair ≡ joining seat.old.chair other.chair }
+        ensures begins { StartsWith seat.new.chair.seen seat.old.chair.seen
+            × StartsWith seat.new.chair.seen other.chair.seen }
     {
         let Seat {
             token,
@@ -225,6 +228,8 @@ impl<'a> Board<'a> {
             start: _,
         } = other;
         self.table.shared.join_seat::<Both>(&mut seat.token, token);
+        // It tells that of the two lists the longer begins with the shorter.
+        let _ = self.table.shared.load::<Look>(&mut seat.token, 0);
         if seat.seen < seen {
             seat.seen = seen;
         }

@@ -1,7 +1,7 @@
 // The rule of a board's table, and what its steps tell.
 ghost use Rattle.std.specs.Prelude.{true};
 ghost use Rattle.pivot_table.specs.Core.{opened};
-ghost use Rattle.pivot_table.specs.Rule.{Kept, claimed, finished, published, view, old_part, new_part, joined, spent_view};
+ghost use Rattle.pivot_table.specs.Rule.{Kept, claimed, finished, published, looked, view, old_part, new_part, joined, spent_view};
 
 use crate::book::Book;
 use crate::view::View;
@@ -32,6 +32,12 @@ pub(crate) struct Publish;
 
 impl Play<(), View> for Publish {
     ghost then = { published };
+}
+
+pub(crate) struct Look;
+
+impl Play<(), View> for Look {
+    ghost then = { looked };
 }
 
 pub(crate) struct Part;
