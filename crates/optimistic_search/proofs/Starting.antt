@@ -5,7 +5,7 @@ use Rattle.std.proofs.lemmas.Bool.{le-ltb, lt-ltb}
 use Rattle.std.proofs.lemmas.List.{get_or-map, get_or-drop, length-drop}
 use Rattle.residue_words.specs.Matrix.{Matrix}
 use Rattle.residue_words.specs.declared.plain.Pair.{Pair}
-use Rattle.pivot_table.specs.Closing.{AreStartsFrom, Begun, start_at, start_in, start_of}
+use Rattle.pivot_table.specs.Closing.{AreStartsFrom, StartsState, start_at, start_in, start_of}
 use Rattle.pivot_table.specs.Core.{Carries, Mark, StandsAt, done, free, held, opening}
 use Rattle.pivot_table.specs.History.{Grown, StartsWith, pair}
 use Rattle.pivot_table.proofs.Ending.{last_starts}
@@ -17,7 +17,7 @@ use Rattle.optimistic_search.specs.Versions.{AreOwnPlaces, AreStarted, AreStarts
 abbrev told : Bool → Bool → ℕ → Option ℕ
 told x y v = cond x None (cond y (Some v) None)
 
-module _ (b : Begun) (k : ℕ) where
+module _ (b : StartsState) (k : ℕ) where
   abbrev value : ℕ
   value = get_or b.starts (k - b.first) 0
 
@@ -51,7 +51,7 @@ start_low : (k : ℕ) (o : Option ℕ) → ((n : ℕ) → o ≡ Some n → n ≤
 start_low k None low = omega arith
 start_low k (Some n) low = low n refl
 
-pub tells_started : (A : Matrix) (first history : List Pair) (starts : Begun) (versions : List ℕ) → AreStartsOf A first history starts → AreStarted starts (length history) versions → TellsStarts A first history versions
+pub tells_started : (A : Matrix) (first history : List Pair) (starts : StartsState) (versions : List ℕ) → AreStartsOf A first history starts → AreStarted starts (length history) versions → TellsStarts A first history versions
 tells_started A first history starts versions s v =
     let l = s.last in
     let from : AreStartsFrom (length first) (length s.left.book.pairs) s.left.starts = last_starts A first s.seat s.left l in
@@ -60,7 +60,7 @@ tells_started A first history starts versions s v =
     let begun = from.first in
     let long = from.long in
     let at_place : (k : ℕ) → k < length history → slice_index versions k ≡ start_or k (start_at s.left.starts k) =
-    λ k lt. v.each k lt ∙ ap (λ (b : Begun). start_or k (start_at b k)) s.is in
+    λ k lt. v.each k lt ∙ ap (λ (b : StartsState). start_or k (start_at b k)) s.is in
     record {
       last = l.last;
       reached = l.reached;

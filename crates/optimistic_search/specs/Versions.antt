@@ -3,7 +3,7 @@ use Rattle.std.specs.Prelude.{◌≡◌, ◌<◌, ◌≤◌, ℕ, Option, None, 
 use Rattle.residue_words.specs.Matrix.{Matrix}
 use Rattle.residue_words.specs.declared.plain.Pair.{Pair}
 use Rattle.pivot_table.specs.Board.{SeatState}
-use Rattle.pivot_table.specs.Closing.{Begun, start_at}
+use Rattle.pivot_table.specs.Closing.{StartsState, start_at}
 use Rattle.pivot_table.specs.Core.{Carries, Core, Reached, StandsAt}
 use Rattle.pivot_table.specs.History.{StartsWith}
 use Rattle.pivot_table.specs.Last.{IsLast}
@@ -33,7 +33,7 @@ pub record TellsStarts (A : Matrix) (first history : List Pair) (versions : List
   pub swept : AreOwnBetween (length last.history) (length history) versions
 
 -- the starts that are left of a board that began with the pairs `first`, with whose history this one begins
-pub record AreStartsOf (A : Matrix) (first history : List Pair) (starts : Begun) : Type 0 where
+pub record AreStartsOf (A : Matrix) (first history : List Pair) (starts : StartsState) : Type 0 where
   pub seat : SeatState
   pub left : Closed
   pub last : IsLast A first seat left
@@ -45,6 +45,6 @@ abbrev pub start_or : ℕ → Option ℕ → ℕ
 start_or k None = k
 start_or k (Some n) = n
 
-pub record AreStarted (starts : Begun) (count : ℕ) (versions : List ℕ) : Type 0 where
+pub record AreStarted (starts : StartsState) (count : ℕ) (versions : List ℕ) : Type 0 where
   pub long : length versions ≡ count
   pub each : (k : ℕ) → k < count → slice_index versions k ≡ start_or k (start_at starts k)

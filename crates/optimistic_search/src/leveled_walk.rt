@@ -4,7 +4,7 @@ ghost use Rattle.std.specs.List.{Contains};
 ghost use Rattle.pivot_table.specs.History.{Alive, Dead, Grown, HasCol, HasRow, LeastAlive, row_weight};
 ghost use Rattle.optimistic_search.specs.Budget.{StaysUnbounded};
 ghost use Rattle.optimistic_search.specs.Indexed.{IsAliveAt, LeadsTo, support_of};
-ghost use Rattle.optimistic_search.specs.Levels.{AreLevels, FreeAreLow, IsLevel, IsLow, IsOut, LowAreBegun, LowAreTaken};
+ghost use Rattle.optimistic_search.specs.Levels.{AreLevels, FreeAreLow, IsLevel, IsLow, IsOut, LowPivotalAreMarked, LowAreTaken};
 ghost use Rattle.sparse_rows.specs.Rows.{AreBelow};
 ghost use Rattle.optimistic_search.specs.MarkedColumns.{AllBetween, Grows};
 ghost use Rattle.optimistic_search.specs.Reached.{AreReached};
@@ -106,7 +106,7 @@ fn begin_at(pivots: &IndexedPairs, levels: &Levels, marks: &mut MarkedColumns, r
     requires none { marks.old.list ≡ [] }
     ensures width { marks.new.width ≡ marks.old.width }
     ensures reached { AreReached pivots.now.rows.matrix pivots.now.pairs row marks.new.list }
-    ensures begun { LowAreBegun pivots.now row (IsLow levels.now bound) marks.new.list }
+    ensures begun { LowPivotalAreMarked pivots.now row (IsLow levels.now bound) marks.new.list }
 {
     let cols = pivots.rows().cols(row);
     for k in 0..cols.len() {
@@ -199,7 +199,7 @@ fn go_on(
     requires rises { IsLevel pivots.now.rows.matrix pivots.now.pairs (slice_index levels.now) }
     requires low { FreeAreLow pivots.now.pairs (IsLow levels.now bound) (support_of pivots.now row) sure }
     requires reached { AreReached pivots.now.rows.matrix pivots.now.pairs row marks.old.list }
-    requires begun { LowAreBegun pivots.now row (IsLow levels.now bound) marks.old.list }
+    requires begun { LowPivotalAreMarked pivots.now row (IsLow levels.now bound) marks.old.list }
     ensures width { marks.new.width ≡ marks.old.width }
     ensures before { (k : ℕ) → k < result → ¬ IsAliveAt pivots.now row k }
     ensures there { 0 < budget.new → result < sure → IsAliveAt pivots.now row result }

@@ -15,7 +15,7 @@ use Rattle.residue_words.specs.declared.plain.Pair.{Pair}
 use Rattle.pivot_table.specs.History.{pair, HasRow, Alive, LeastAlive, Dead, StartsWith}
 use Rattle.pivot_table.specs.Core.{Mark, free, held, done, Chair, core, HasSeat, HasMark, Turn, claim, see, publish, finish, meet, Goes, Reached, claiming, meeting, seeing, publishing, finishing}
 use Rattle.pivot_table.specs.Lawful.{Lawful}
-use Rattle.pivot_table.specs.Rule.{Kept, TableSeat, Spells, seat_of, seat_by, with_chair, mark_word, pair_word, pair_of, rows_at, claimed, finished, published, looked}
+use Rattle.pivot_table.specs.Rule.{SpellsRun, TableSeat, Spells, seat_of, seat_by, with_chair, mark_word, pair_word, pair_of, rows_at, claimed, finished, published, looked}
 use Rattle.pivot_table.specs.declared.view.View.{View}
 use Rattle.pivot_table.proofs.Listed.{at_within, next_at, read_at}
 use Rattle.pivot_table.proofs.Growth.{grown_push, row_later, row_push, next_alive, seen_whole}
@@ -51,7 +51,7 @@ each_view P l i w here others j t at = ⊎_elim
 abbrev pub HasHeard : View → Type 0
 HasHeard v = StartsWith v.chair.seen v.heard
 
-module _ (A : Matrix) (h0 : List Pair) (s : St) (k : Kept A h0 s) where
+module _ (A : Matrix) (h0 : List Pair) (s : St) (k : SpellsRun A h0 s) where
   pub lawful : Lawful A (core k.history k.rows (seats_of s))
   lawful = reached_lawful A h0 (core k.history k.rows (seats_of s)) k.reached
 
@@ -64,8 +64,8 @@ module _ (A : Matrix) (h0 : List Pair) (s : St) (k : Kept A h0 s) where
 
 module _ (A : Matrix) (h0 : List Pair) (id : ℕ) (me : TableSeat) (live : me.0.live ≡ true) (matrix : me.0.matrix ≡ A) where
   -- a turn of the seat, and the words that spell what comes of it
-  placed : (s : St) (k : Kept A h0 s) (i n : ℕ) (w : Chair) (h : List Pair) (rows : List Mark) (e : Turn) → get_elem? s.views id ≡ some me.0
-      → Goes A (core k.history k.rows (seats_of s)) e (core h rows (set (seats_of s) id (Some w))) → Spells A (set s.words i n) h rows → Kept A h0 (stepped s i n id me.1 (with_chair me w).0 keeps)
+  placed : (s : St) (k : SpellsRun A h0 s) (i n : ℕ) (w : Chair) (h : List Pair) (rows : List Mark) (e : Turn) → get_elem? s.views id ≡ some me.0
+      → Goes A (core k.history k.rows (seats_of s)) e (core h rows (set (seats_of s) id (Some w))) → Spells A (set s.words i n) h rows → SpellsRun A h0 (stepped s i n id me.1 (with_chair me w).0 keeps)
   placed s k i n w h rows e at goes sp = record {
     history = h;
     rows = rows;
@@ -77,7 +77,7 @@ module _ (A : Matrix) (h0 : List Pair) (id : ℕ) (me : TableSeat) (live : me.0.
   }
 
   -- a load, which changes nothing
-  pub look_allows : (slots i : ℕ) → Allows (Kept A h0) slots id me i (λ n. n) (looked (step slots i 0 0 none) me)
+  pub look_allows : (slots i : ℕ) → Allows (SpellsRun A h0) slots id me i (λ n. n) (looked (step slots i 0 0 none) me)
   look_allows slots i s k _ at _ =
       let c : Chair = me.0.chair in
       let sat : HasSeat (seats_of s) id c = seat_there s.views id me.0 live at in
@@ -104,7 +104,7 @@ module _ (A : Matrix) (h0 : List Pair) (id : ℕ) (me : TableSeat) (live : me.0.
     same_row = rw matrix (omega arith)
 
     pub claim_allows : me.0.chair.hand ≡ None → (new : ℕ) → new ≡ 2 * length me.0.chair.seen + 1
-        → Allows (Kept A h0) slots id me (rows_at A + r) (λ n. either (eqb n 0) new n) (claimed (step slots (rows_at A + r) 0 new none) me)
+        → Allows (SpellsRun A h0) slots id me (rows_at A + r) (λ n. either (eqb n 0) new n) (claimed (step slots (rows_at A + r) 0 new none) me)
     claim_allows idle new is s k _ at _ =
         let x : ℕ = get_or s.words (rows_at A + r) 0 in
         let c : Chair = me.0.chair in
@@ -120,7 +120,7 @@ module _ (A : Matrix) (h0 : List Pair) (id : ℕ) (me : TableSeat) (live : me.0.
           (with_chair me (claiming c r)).0,
           keeps,
           tt,
-          subst (λ (b : Bool). Kept A h0 (stepped s (rows_at A + r) (either b new x) id me.1 (with_chair me (claiming c r)).0 keeps)) (sym (eq-eqb x 0 hit))
+          subst (λ (b : Bool). SpellsRun A h0 (stepped s (rows_at A + r) (either b new x) id me.1 (with_chair me (claiming c r)).0 keeps)) (sym (eq-eqb x 0 hit))
               (placed s k (rows_at A + r) new (claiming c r) k.history (set k.rows r (held (length c.seen))) (claim id r) at
               (c, sat, idle, is_free, refl)
               (subst (λ (n : ℕ). Spells A (set s.words (rows_at A + r) n) k.history (set k.rows r (held (length c.seen)))) (sym is) (spells_mark A s.words k.history k.rows k.spells r free (held (length c.seen)) (room A h0 s k) is_free))),
@@ -131,7 +131,7 @@ module _ (A : Matrix) (h0 : List Pair) (id : ℕ) (me : TableSeat) (live : me.0.
           (with_chair me (meeting c r)).0,
           keeps,
           tt,
-          subst (λ (b : Bool). Kept A h0 (stepped s (rows_at A + r) (either b new x) id me.1 (with_chair me (meeting c r)).0 keeps)) (sym (ne_eqb x 0 miss))
+          subst (λ (b : Bool). SpellsRun A h0 (stepped s (rows_at A + r) (either b new x) id me.1 (with_chair me (meeting c r)).0 keeps)) (sym (ne_eqb x 0 miss))
               (placed s k (rows_at A + r) x (meeting c r) k.history k.rows (meet id r) at
               (c, sat, busy, refl)
               (subst (λ (l : List ℕ). Spells A l k.history k.rows) (sym (set_here_again s.words (rows_at A + r))) k.spells)),
@@ -139,7 +139,7 @@ module _ (A : Matrix) (h0 : List Pair) (id : ℕ) (me : TableSeat) (live : me.0.
         ))
 
     pub finish_allows : me.0.chair.hand ≡ Some r → (me.0.chair.published ≡ true) ⊎ Dead A me.0.chair.seen r → (new : ℕ) → new ≡ 2 * me.0.chair.start + 2
-        → Allows (Kept A h0) slots id me (rows_at A + r) (λ _. new) (λ _. finished (step slots (rows_at A + r) new 0 none) me new)
+        → Allows (SpellsRun A h0) slots id me (rows_at A + r) (λ _. new) (λ _. finished (step slots (rows_at A + r) new 0 none) me new)
     finish_allows mine why new is s k _ at _ =
         let c : Chair = me.0.chair in
         let sat : HasSeat (seats_of s) id c = seat_there s.views id me.0 live at in
@@ -155,7 +155,7 @@ module _ (A : Matrix) (h0 : List Pair) (id : ℕ) (me : TableSeat) (live : me.0.
 
   -- the cell after what was seen is filled with the pair, or the pair found there is seen
   pub publish_allows : (r j slots : ℕ) → me.0.chair.hand ≡ Some r → me.0.chair.published ≡ false → LeastAlive A me.0.chair.seen r j
-      → Allows (Kept A h0) slots id me (length me.0.chair.seen) (λ n. either (eqb n 0) (pair_word (pair r j)) n) (published (step slots (length me.0.chair.seen) 0 (pair_word (pair r j)) none) me)
+      → Allows (SpellsRun A h0) slots id me (length me.0.chair.seen) (λ n. either (eqb n 0) (pair_word (pair r j)) n) (published (step slots (length me.0.chair.seen) 0 (pair_word (pair r j)) none) me)
   publish_allows r j slots mine unpub least s k _ at _ =
       let c : Chair = me.0.chair in
       let cell : ℕ = length c.seen in
@@ -174,14 +174,14 @@ module _ (A : Matrix) (h0 : List Pair) (id : ℕ) (me : TableSeat) (live : me.0.
       let long : cell ≡ length k.history = ap length (sym whole) in
       let live_now : LeastAlive A k.history r j = subst (λ (l : List Pair). LeastAlive A l r j) (sym whole) least in
       let back : pair_of (pair_word (pair r j)) ≡ pair r j = pair_back (pair r j) (let wide = least.0.entry.1 in omega arith) in
-      let kept : Kept A h0 (stepped s cell (pair_word (pair r j)) id me.1 (with_chair me (publishing c (pair r j))).0 keeps) =
+      let kept : SpellsRun A h0 (stepped s cell (pair_word (pair r j)) id me.1 (with_chair me (publishing c (pair r j))).0 keeps) =
       placed s k cell (pair_word (pair r j)) (publishing c (pair r j)) (k.history ++ pair r j ∷ []) k.rows (publish id j) at
       (c, r, sat, mine, unpub, whole, live_now, refl)
       (subst (λ (n : ℕ). Spells A (set s.words n (pair_word (pair r j))) (k.history ++ pair r j ∷ []) k.rows) (sym long) (spells_push A s.words k.history k.rows k.spells (pair r j) here)) in (
         (with_chair me (publishing c (pair r j))).0,
         keeps,
         tt,
-        subst (λ (b : Bool). Kept A h0 (stepped s cell (either b (pair_word (pair r j)) x) id me.1 (with_chair me (publishing c (pair r j))).0 keeps)) (sym (eq-eqb x 0 hit)) kept,
+        subst (λ (b : Bool). SpellsRun A h0 (stepped s cell (either b (pair_word (pair r j)) x) id me.1 (with_chair me (publishing c (pair r j))).0 keeps)) (sym (eq-eqb x 0 hit)) kept,
         (
           (let l = grown_short A (k.history ++ pair r j ∷ []) (grown_push A k.history (pair r j) law.grown live_now.0) in let g : rows_at me.0.matrix ≡ rows_at A = ap rows_at matrix in omega (arith, length-append k.history (pair r j ∷ []), length-append c.seen (pair r j ∷ []))),
           (λ _. ap (λ (q : Pair). with_chair me (publishing c q)) (sym back)),
@@ -199,7 +199,7 @@ module _ (A : Matrix) (h0 : List Pair) (id : ℕ) (me : TableSeat) (live : me.0.
         (with_chair me (seeing c q)).0,
         keeps,
         tt,
-        subst (λ (b : Bool). Kept A h0 (stepped s cell (either b (pair_word (pair r j)) x) id me.1 (with_chair me (seeing c q)).0 keeps)) (sym (ne_eqb x 0 miss))
+        subst (λ (b : Bool). SpellsRun A h0 (stepped s cell (either b (pair_word (pair r j)) x) id me.1 (with_chair me (seeing c q)).0 keeps)) (sym (ne_eqb x 0 miss))
             (placed s k cell x (seeing c q) k.history k.rows (see id) at
             (c, q, sat, first, refl)
             (subst (λ (l : List ℕ). Spells A l k.history k.rows) (sym (set_here_again s.words cell)) k.spells)),

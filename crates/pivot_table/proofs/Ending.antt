@@ -8,10 +8,10 @@ use Rattle.std.proofs.lemmas.List.{get_or-map, get_or-drop, length-map, length-d
 use Rattle.residue_words.specs.Matrix.{Matrix}
 use Rattle.residue_words.specs.declared.plain.Pair.{Pair}
 use Rattle.pivot_table.specs.History.{pair, HasRow, Dead, StartsWith}
-use Rattle.pivot_table.specs.Core.{Mark, free, held, done, Noted, Chair, Core, HasSeat, HasMark, StandsAt, Carries, opened, opening}
+use Rattle.pivot_table.specs.Core.{Mark, free, held, done, PublishedPlace, Chair, Core, HasSeat, HasMark, StandsAt, Carries, opened, opening}
 use Rattle.pivot_table.specs.Board.{SeatState}
 use Rattle.pivot_table.specs.Lawful.{Lawful, After, Sound}
-use Rattle.pivot_table.specs.Closing.{Begun, start_at, IsDone, AreStartsFrom, is_done, start_of, start_in}
+use Rattle.pivot_table.specs.Closing.{StartsState, start_at, IsDone, AreStartsFrom, is_done, start_of, start_in}
 use Rattle.pivot_table.specs.Last.{IsLast}
 use Rattle.pivot_table.specs.declared.closed.Closed.{Closed}
 use Rattle.pivot_table.proofs.Listed.{within, at_get, read_at}
@@ -45,7 +45,7 @@ tells true y v n e = absurd (cc)
 tells false true v n e = (refl, refl, cc)
 tells false false v n e = absurd (cc)
 
-start_there : (b : Begun) (k : ℕ) → b.first ≤ k → k - b.first < length b.starts → start_at b k ≡ Some (get_or b.starts (k - b.first) 0)
+start_there : (b : StartsState) (k : ℕ) → b.first ≤ k → k - b.first < length b.starts → start_at b k ≡ Some (get_or b.starts (k - b.first) 0)
 start_there b k le lt = ap (λ (x : Bool). told x (ltb (k - b.first) (length b.starts)) (get_or b.starts (k - b.first) 0)) (le-ltb k b.first le)
     ∙ ap (λ (y : Bool). told false y (get_or b.starts (k - b.first) 0)) (lt-ltb (k - b.first) (length b.starts) lt)
 
@@ -111,8 +111,8 @@ module _ (A : Matrix) (h0 : List Pair) (s : SeatState) (left : Closed) (l : IsLa
       ∙ carried l.last.rows q.row n c in
       start_there left.starts k (omega arith) (omega arith) ∙ ap (λ (x : ℕ). Some x) one
 
-  pub last_noted : (x : Noted) → Contains s.chair.places x → start_at left.starts x.place ≡ Some x.start
-  last_noted x c = let t = it.places_start x c in
+  pub last_places : (x : PublishedPlace) → Contains s.chair.places x → start_at left.starts x.place ≡ Some x.start
+  last_places x c = let t = it.places_start x c in
       start_is x.place x.start t.0 (after.behind s.number s.chair x l.seat c) (subst (λ (y : List Pair). StandsAt y x.place t.0) l.history t.1) t.2
 
   pub last_starts : AreStartsFrom (length h0) (length left.book.pairs) left.starts

@@ -8,7 +8,7 @@ use Rattle.atomic_table.proofs.Lists.{at_set, set_here, set_else, at_longer, at_
 use Rattle.residue_words.specs.Matrix.{Matrix}
 use Rattle.residue_words.specs.declared.plain.Pair.{Pair}
 use Rattle.pivot_table.specs.History.{pair, HasRow, Alive, Dead, StartsWith}
-use Rattle.pivot_table.specs.Core.{Mark, free, held, done, Noted, noted, Chair, Core, core, HasSeat, HasMark, StandsAt, Carries, claiming, meeting, seeing, publishing, finishing, parting, splitting, joining, longer, longer_by}
+use Rattle.pivot_table.specs.Core.{Mark, free, held, done, PublishedPlace, published_place, Chair, Core, core, HasSeat, HasMark, StandsAt, Carries, claiming, meeting, seeing, publishing, finishing, parting, splitting, joining, longer, longer_by}
 use Rattle.pivot_table.specs.Lawful.{Sound, Apart, Lawful}
 use Rattle.residue_words.proofs.Lists.{not_in_nil}
 use Rattle.pivot_table.proofs.Listed.{within, same_at, at_push, set_swap}
@@ -173,21 +173,21 @@ module _ (A : Matrix) (c : Core) (law : Lawful A c) (i : ℕ) (s : Chair) (at : 
               finished_done = it.finished_done;
               places_below = λ x d. ⊎_elim
                   (λ d. let b : x.place < length s.seen = it.places_below x d in omega (arith, length-append s.seen (q ∷ [])))
-                  (λ e. let b : length s.seen ≡ x.place = ap (λ (z : Noted). z.place) e in omega (arith, length-append s.seen (q ∷ [])))
-                  (Contains-push_cases s.places (noted (length s.seen) s.start) x d);
-              places_distinct = distinct_push s.places (noted (length s.seen) s.start) it.places_distinct (λ y d e. let b : y.place < length s.seen = it.places_below y d in let f : y.place ≡ length s.seen = e in omega arith);
+                  (λ e. let b : length s.seen ≡ x.place = ap (λ (z : PublishedPlace). z.place) e in omega (arith, length-append s.seen (q ∷ [])))
+                  (Contains-push_cases s.places (published_place (length s.seen) s.start) x d);
+              places_distinct = distinct_push s.places (published_place (length s.seen) s.start) it.places_distinct (λ y d e. let b : y.place < length s.seen = it.places_below y d in let f : y.place ≡ length s.seen = e in omega arith);
               places_start = λ x d. ⊎_elim
                   (λ d. let t = it.places_start x d in (t.0, at_longer h (q ∷ []) x.place t.0 t.1, t.2))
-                  (λ e. subst (λ (z : Noted). (p : Pair) × StandsAt (h ++ q ∷ []) z.place p × Carries rows p.row z.start) e (q, last, inl is_held))
-                  (Contains-push_cases s.places (noted (length s.seen) s.start) x d);
+                  (λ e. subst (λ (z : PublishedPlace). (p : Pair) × StandsAt (h ++ q ∷ []) z.place p × Carries rows p.row z.start) e (q, last, inl is_held))
+                  (Contains-push_cases s.places (published_place (length s.seen) s.start) x d);
             })
             (λ k t au ne. sound_more h rows t q (law.each k t au) (no_other k t au ne r mine));
         apart = apart_set c.seats i (publishing s q) law.apart (λ k t au ne. let x = law.apart i k s t at au (λ f. ne (sym f)) in record {
           hands = x.hands;
           places = λ n m d u. ⊎_elim
               (λ d. x.places n m d u)
-              (λ e f. let so = law.each k t au in let b : m.place < length t.seen = so.places_below m u in let l : length t.seen ≤ length h = seen_short h t.seen so.seen_first in let g : length s.seen ≡ n.place = ap (λ (z : Noted). z.place) e in let f' : n.place ≡ m.place = f in omega arith)
-              (Contains-push_cases s.places (noted (length s.seen) s.start) n d);
+              (λ e f. let so = law.each k t au in let b : m.place < length t.seen = so.places_below m u in let l : length t.seen ≤ length h = seen_short h t.seen so.seen_first in let g : length s.seen ≡ n.place = ap (λ (z : PublishedPlace). z.place) e in let f' : n.place ≡ m.place = f in omega arith)
+              (Contains-push_cases s.places (published_place (length s.seen) s.start) n d);
         });
       }
 

@@ -5,12 +5,12 @@ use Rattle.residue_words.specs.Matrix.{Matrix}
 use Rattle.residue_words.specs.declared.plain.Pair.{Pair}
 use Rattle.pivot_table.specs.History.{Grown, StartsWith}
 use Rattle.pivot_table.specs.Core.{opening_marks, opened}
-use Rattle.pivot_table.specs.Rule.{Kept, Spells, view}
+use Rattle.pivot_table.specs.Rule.{SpellsRun, Spells, view}
 use Rattle.pivot_table.specs.declared.view.View.{View}
 use Rattle.pivot_table.proofs.Runs.{lone}
 
-pub kept_open : (A : Matrix) (h : List Pair) → Grown A h → (ws : List ℕ) → Spells A ws h (opening_marks A h) → A.width ≤ 4294967296 → Kept A h (opening ws [] (view A true (opened h)))
-kept_open A h grown ws sp narrow = record {
+pub opening_spells_run : (A : Matrix) (h : List Pair) → Grown A h → (ws : List ℕ) → Spells A ws h (opening_marks A h) → A.width ≤ 4294967296 → SpellsRun A h (opening ws [] (view A true (opened h)))
+opening_spells_run A h grown ws sp narrow = record {
   history = h;
   rows = opening_marks A h;
   reached = (grown, ([], refl));

@@ -10,7 +10,7 @@ use Rattle.atomic_table.proofs.Lists.{at_set, at_snoc}
 use Rattle.residue_words.specs.Matrix.{Matrix}
 use Rattle.residue_words.specs.declared.plain.Pair.{Pair}
 use Rattle.pivot_table.specs.History.{pair, HasRow, Grown, StartsWith}
-use Rattle.pivot_table.specs.Core.{Mark, free, held, done, Noted, noted, Chair, Core, HasSeat, HasMark, Turn, claim, see, publish, finish, meet, split, join, Goes, IsRun, Reached, opening, opened, rows_of, with_done, opening_marks, claiming, seeing, publishing, finishing, meeting, parting, splitting, joining}
+use Rattle.pivot_table.specs.Core.{Mark, free, held, done, PublishedPlace, published_place, Chair, Core, HasSeat, HasMark, Turn, claim, see, publish, finish, meet, split, join, Goes, IsRun, Reached, opening, opened, rows_of, with_done, opening_marks, claiming, seeing, publishing, finishing, meeting, parting, splitting, joining}
 use Rattle.pivot_table.specs.Lawful.{Sound, Lawful, After, IsSameOrOneMore}
 use Rattle.residue_words.proofs.Lists.{not_in_nil, in_head, in_tail, in_cases, cut_at}
 use Rattle.pivot_table.proofs.Listed.{at_within}
@@ -134,10 +134,10 @@ starts_more : (h g seen more : List Pair) → StartsWith g h → StartsWith (g +
 starts_more h g seen more s = (s.0 ++ more, ap (λ (l : List Pair). l ++ more) s.1 ∙ append_assoc h s.0 more)
 
 abbrev Behind : List Pair → Seats → Type 0
-Behind h seats = (i : ℕ) (s : Chair) (x : Noted) → HasSeat seats i s → Contains s.places x → length h ≤ x.place
+Behind h seats = (i : ℕ) (s : Chair) (x : PublishedPlace) → HasSeat seats i s → Contains s.places x → length h ≤ x.place
 
-behind_set : (h : List Pair) (seats : Seats) (i : ℕ) (s w : Chair) → HasSeat seats i s → Behind h seats → ((x : Noted) → Contains w.places x → Contains s.places x ⊎ (length h ≤ x.place)) → Behind h (set seats i (Some w))
-behind_set h seats i s w at b new j t x au c = each_seat (λ _ u. (y : Noted) → Contains u.places y → length h ≤ y.place) seats i w (λ y d. ⊎_elim (λ o. b i s y at o) (λ n. n) (new y d)) (λ k u av _ y d. b k u y av d) j t au x c
+behind_set : (h : List Pair) (seats : Seats) (i : ℕ) (s w : Chair) → HasSeat seats i s → Behind h seats → ((x : PublishedPlace) → Contains w.places x → Contains s.places x ⊎ (length h ≤ x.place)) → Behind h (set seats i (Some w))
+behind_set h seats i s w at b new j t x au c = each_seat (λ _ u. (y : PublishedPlace) → Contains u.places y → length h ≤ y.place) seats i w (λ y d. ⊎_elim (λ o. b i s y at o) (λ n. n) (new y d)) (λ k u av _ y d. b k u y av d) j t au x c
 
 pub goes_after : (A : Matrix) (h : List Pair) (c d : Core) (e : Turn) → After h c → Goes A c e d → After h d
 goes_after A h c d (claim i r) a g = subst (λ (x : Core). After h x) (sym g.4) (record { begins = a.begins; behind = behind_set h c.seats i g.0 (claiming g.0 r) g.1 a.behind (λ x m. inl m) })
@@ -150,8 +150,8 @@ goes_after A h c d (publish i j) a g =
     subst (λ (x : Core). After h x) (sym g.7) (record {
       begins = starts_more h c.history s.seen (pair g.1 j ∷ []) a.begins;
       behind = behind_set h c.seats i s (publishing s (pair g.1 j)) g.2 a.behind (λ x m. ⊎_elim (λ o. inl o)
-          (λ e. let f : length s.seen ≡ x.place = ap (λ (z : Noted). z.place) e in inr (omega (arith, length-append h a.begins.0)))
-          (Contains-push_cases s.places (noted (length s.seen) s.start) x m));
+          (λ e. let f : length s.seen ≡ x.place = ap (λ (z : PublishedPlace). z.place) e in inr (omega (arith, length-append h a.begins.0)))
+          (Contains-push_cases s.places (published_place (length s.seen) s.start) x m));
     })
 goes_after A h c d (finish i) a g = subst (λ (x : Core). After h x) (sym g.5) (record { begins = a.begins; behind = behind_set h c.seats i g.0 (finishing g.0 g.1) g.2 a.behind (λ x m. inl m) })
 goes_after A h c d (meet i r) a g = subst (λ (x : Core). After h x) (sym g.3) (record { begins = a.begins; behind = behind_set h c.seats i g.0 (meeting g.0 r) g.1 a.behind (λ x m. inl m) })

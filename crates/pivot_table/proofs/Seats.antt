@@ -8,7 +8,7 @@ use Rattle.std.proofs.lemmas.List.Elements.{Contains-push_cases, Contains-append
 use Rattle.atomic_table.proofs.Lists.{at_set, set_here, set_else, at_longer}
 use Rattle.residue_words.specs.declared.plain.Pair.{Pair}
 use Rattle.pivot_table.specs.History.{HasRow, StartsWith}
-use Rattle.pivot_table.specs.Core.{Mark, free, held, done, Noted, Chair, HasSeat, HasMark, StandsAt, Carries, longer, longer_by, shorter, shorter_by}
+use Rattle.pivot_table.specs.Core.{Mark, free, held, done, PublishedPlace, Chair, HasSeat, HasMark, StandsAt, Carries, longer, longer_by, shorter, shorter_by}
 use Rattle.pivot_table.specs.Lawful.{HaveDistinctPlaces, Sound, Apart}
 use Rattle.residue_words.proofs.Lists.{not_in_nil, in_head, in_tail}
 use Rattle.pivot_table.proofs.Listed.{within, same_at, at_contains}
@@ -117,14 +117,14 @@ sound_more h rows s q so not_mine = record {
   places_start = λ z c. let t = so.places_start z c in (t.0, at_longer h (q ∷ []) z.place t.0 t.1, t.2);
 }
 
-pub distinct_push : (xs : List Noted) (x : Noted) → HaveDistinctPlaces xs → ((y : Noted) → Contains xs y → y.place ≢ x.place) → HaveDistinctPlaces (xs ++ x ∷ [])
+pub distinct_push : (xs : List PublishedPlace) (x : PublishedPlace) → HaveDistinctPlaces xs → ((y : PublishedPlace) → Contains xs y → y.place ≢ x.place) → HaveDistinctPlaces (xs ++ x ∷ [])
 distinct_push [] x d n = ((λ y c. absurd (not_in_nil y c)), tt)
 distinct_push (y ∷ ys) x d n = (
-  (λ z c. ⊎_elim (d.0 z) (λ e. subst (λ (u : Noted). y.place ≢ u.place) e (n y (in_head y ys))) (Contains-push_cases ys x z c)),
+  (λ z c. ⊎_elim (d.0 z) (λ e. subst (λ (u : PublishedPlace). y.place ≢ u.place) e (n y (in_head y ys))) (Contains-push_cases ys x z c)),
   distinct_push ys x d.1 (λ z c. n z (in_tail y ys z c)),
 )
 
-pub distinct_append : (xs ys : List Noted) → HaveDistinctPlaces xs → HaveDistinctPlaces ys → ((x y : Noted) → Contains xs x → Contains ys y → x.place ≢ y.place) → HaveDistinctPlaces (xs ++ ys)
+pub distinct_append : (xs ys : List PublishedPlace) → HaveDistinctPlaces xs → HaveDistinctPlaces ys → ((x y : PublishedPlace) → Contains xs x → Contains ys y → x.place ≢ y.place) → HaveDistinctPlaces (xs ++ ys)
 distinct_append [] ys d e apart = e
 distinct_append (x ∷ xs) ys d e apart = (
   (λ z c. ⊎_elim (d.0 z) (λ t. apart x z (in_head x xs) t) (Contains-append_cases xs ys z c)),

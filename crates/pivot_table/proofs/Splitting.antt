@@ -11,14 +11,14 @@ use Rattle.residue_words.specs.Matrix.{Matrix}
 use Rattle.residue_words.specs.declared.plain.Pair.{Pair}
 use Rattle.pivot_table.specs.History.{StartsWith}
 use Rattle.pivot_table.specs.Core.{Chair, core, split, join, Reached, parting, splitting, joining}
-use Rattle.pivot_table.specs.Rule.{Kept, seat_of, seat_by, joined, old_part, new_part, spent_view}
+use Rattle.pivot_table.specs.Rule.{SpellsRun, seat_of, seat_by, joined, old_part, new_part, spent_view}
 use Rattle.pivot_table.specs.declared.view.View.{View}
 use Rattle.pivot_table.proofs.Seats.{Seats, shorter_first}
 use Rattle.pivot_table.proofs.Runs.{reached_next}
 use Rattle.pivot_table.proofs.Allowed.{HasHeard, lawful, seats_of, seat_there, seats_set, each_view}
 
 module _ (A : Matrix) (h0 : List Pair) (id : ℕ) (v : View) (live : v.live ≡ true) where
-  pub split_allowed : Splits (Kept A h0) id v (old_part v) (new_part v)
+  pub split_allowed : Splits (SpellsRun A h0) id v (old_part v) (new_part v)
   split_allowed s k at =
       let seats : Seats = seats_of s in
       let after : Seats = set seats id (Some (parting v.chair)) ++ Some (splitting v.chair) ∷ [] in
@@ -43,7 +43,7 @@ module _ (A : Matrix) (h0 : List Pair) (id : ℕ) (v : View) (live : v.live ≡ 
         narrow = k.narrow;
       }
 
-  pub join_allowed : (other : ℕ) (w : View) → w.live ≡ true → w.chair.hand ≡ None → Joins (Kept A h0) id v other w (joined v w) spent_view
+  pub join_allowed : (other : ℕ) (w : View) → w.live ≡ true → w.chair.hand ≡ None → Joins (SpellsRun A h0) id v other w (joined v w) spent_view
   join_allowed other w there idle s k at ne au =
       let seats : Seats = seats_of s in
       let both : Chair = joining v.chair w.chair in

@@ -3,7 +3,7 @@ use Rattle.std.specs.Prelude.{◌≡◌, ◌<◌, ◌≤◌, ◌+◌, ◌-◌, �
 use mathlib.Core.Option.{some}
 use lib.ListN.{get_elem?}
 use Rattle.residue_words.specs.declared.plain.Pair.{Pair}
-use Rattle.pivot_table.specs.Core.{Mark, free, held, done, Noted}
+use Rattle.pivot_table.specs.Core.{Mark, free, held, done, PublishedPlace}
 use Rattle.std.specs.List.{Contains}
 use Rattle.pivot_table.specs.Rule.{mark_word, pair_word}
 
@@ -22,11 +22,11 @@ abbrev pub start_in : List Mark → Pair → ℕ
 start_in rows q = start_of (slice_index_or rows q.row free)
 
 -- what callers see of starts: those of the rows at the places from `first` on
-pub record Begun : Type 0 where
+pub record StartsState : Type 0 where
   pub first : ℕ
   pub starts : List ℕ
 
-abbrev pub start_at : Begun → ℕ → Option ℕ
+abbrev pub start_at : StartsState → ℕ → Option ℕ
 start_at b k = if nat_lt k b.first then None
     else (if nat_lt (k - b.first) (length b.starts) then Some (slice_index b.starts (k - b.first)) else None)
 
@@ -34,14 +34,14 @@ abbrev pub IsDone : List Bool → ℕ → Type 0
 IsDone marks r = slice_index_or marks r false ≡ true
 
 -- the starts are those of the places from `from` up to `to`, and none is above its place
-pub record AreStartsFrom (from to : ℕ) (b : Begun) : Type 0 where
+pub record AreStartsFrom (from to : ℕ) (b : StartsState) : Type 0 where
   pub first : b.first ≡ from
   pub long : b.first + length b.starts ≡ to
   pub low : (k n : ℕ) → start_at b k ≡ Some n → n ≤ k
 
 -- the places that a seat published are among them, with their starts
-abbrev pub AreNoted : List Noted → Begun → Type 0
-AreNoted places b = (x : Noted) → Contains places x → start_at b x.place ≡ Some x.start
+abbrev pub AreAmongStarts : List PublishedPlace → StartsState → Type 0
+AreAmongStarts places b = (x : PublishedPlace) → Contains places x → start_at b x.place ≡ Some x.start
 
 -- what words say: the cells before c say the history, the words from c on the rows
 pub record CellsSay (words : List ℕ) (c : ℕ) (h : List Pair) : Type 0 where

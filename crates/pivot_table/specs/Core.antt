@@ -13,7 +13,7 @@ pub data Mark : Type 0 where
   done : ℕ → Mark
 
 -- a place of the history at which a seat published, with the start of the row there
-pub record Noted : Type 0 where
+pub record PublishedPlace : Type 0 where
   pub place : ℕ
   pub start : ℕ
 
@@ -27,7 +27,7 @@ pub record Chair : Type 0 where
   pub published : Bool
   pub met : Option ℕ
   pub finished : List ℕ
-  pub places : List Noted
+  pub places : List PublishedPlace
   pub parted : ℕ
 
 -- the seats by their numbers; None stands for one that is spent
@@ -60,14 +60,14 @@ claiming s r = record s { hand = Some r; start = length s.seen; published = fals
 abbrev pub seeing : Chair → Pair → Chair
 seeing s q = record s { seen = s.seen ++ q ∷ [] }
 
-abbrev pub noted : ℕ → ℕ → Noted
-noted k n = record { place = k; start = n }
+abbrev pub published_place : ℕ → ℕ → PublishedPlace
+published_place k n = record { place = k; start = n }
 
 abbrev pub publishing : Chair → Pair → Chair
 publishing s q = record s {
   seen = s.seen ++ q ∷ [];
   published = true;
-  places = s.places ++ noted (length s.seen) s.start ∷ [];
+  places = s.places ++ published_place (length s.seen) s.start ∷ [];
 }
 
 abbrev pub finishing : Chair → ℕ → Chair

@@ -4,11 +4,11 @@ use Rattle.std.specs.List.{Contains}
 use Rattle.residue_words.specs.Matrix.{Matrix}
 use Rattle.residue_words.specs.declared.plain.Pair.{Pair}
 use Rattle.pivot_table.specs.History.{HasRow, HasCol, Grown, StandsOrIsDead, StartsWith}
-use Rattle.pivot_table.specs.Core.{Mark, free, held, done, Noted, Chair, Core, HasSeat, HasMark, StandsAt, Carries, Turn, Goes, Reached}
+use Rattle.pivot_table.specs.Core.{Mark, free, held, done, PublishedPlace, Chair, Core, HasSeat, HasMark, StandsAt, Carries, Turn, Goes, Reached}
 
-abbrev pub HaveDistinctPlaces : List Noted → Type 0
+abbrev pub HaveDistinctPlaces : List PublishedPlace → Type 0
 HaveDistinctPlaces [] = Unit {0}
-HaveDistinctPlaces (x ∷ xs) = ((y : Noted) → Contains xs y → x.place ≢ y.place) × HaveDistinctPlaces xs
+HaveDistinctPlaces (x ∷ xs) = ((y : PublishedPlace) → Contains xs y → x.place ≢ y.place) × HaveDistinctPlaces xs
 
 -- what holds of each seat
 pub record Sound (h : List Pair) (rows : List Mark) (s : Chair) : Type 0 where
@@ -19,15 +19,15 @@ pub record Sound (h : List Pair) (rows : List Mark) (s : Chair) : Type 0 where
   pub hand_out : (r : ℕ) → s.hand ≡ Some r → s.published ≡ false → ¬ HasRow h r
   pub met_not_free : (r : ℕ) → s.met ≡ Some r → ¬ HasMark rows r free
   pub finished_done : (r : ℕ) → Contains s.finished r → (n : ℕ) × HasMark rows r (done n)
-  pub places_below : (x : Noted) → Contains s.places x → x.place < length s.seen
+  pub places_below : (x : PublishedPlace) → Contains s.places x → x.place < length s.seen
   pub places_distinct : HaveDistinctPlaces s.places
-  pub places_start : (x : Noted) → Contains s.places x →
+  pub places_start : (x : PublishedPlace) → Contains s.places x →
       (q : Pair) × StandsAt h x.place q × Carries rows q.row x.start
 
 -- what holds of two seats: they have no row in hand and no place in common
 pub record Apart (s t : Chair) : Type 0 where
   pub hands : (r : ℕ) → s.hand ≡ Some r → t.hand ≢ Some r
-  pub places : (x y : Noted) → Contains s.places x → Contains t.places y → x.place ≢ y.place
+  pub places : (x y : PublishedPlace) → Contains s.places x → Contains t.places y → x.place ≢ y.place
 
 pub record Lawful (A : Matrix) (c : Core) : Type 0 where
   pub grown : Grown A c.history
@@ -42,7 +42,7 @@ pub record Lawful (A : Matrix) (c : Core) : Type 0 where
 -- the history begins with the one of the opening, and each place that a seat published lies behind it
 pub record After (h : List Pair) (c : Core) : Type 0 where
   pub begins : StartsWith c.history h
-  pub behind : (i : ℕ) (s : Chair) (x : Noted) → HasSeat c.seats i s → Contains s.places x →
+  pub behind : (i : ℕ) (s : Chair) (x : PublishedPlace) → HasSeat c.seats i s → Contains s.places x →
       length h ≤ x.place
 
 -- the laws of runs

@@ -55,7 +55,7 @@ abbrev pub HaveHeard : List View → Type 0
 HaveHeard views = (i : ℕ) (v : View) → get_elem? views i ≡ some v → StartsWith v.chair.seen v.heard
 
 -- The rule: the words and the views that are not spent spell a state of the core that a run reached from the opening
-pub record Kept (A : Matrix) (h0 : List Pair) (s : State (Unit {0}) View) : Type 0 where
+pub record SpellsRun (A : Matrix) (h0 : List Pair) (s : State (Unit {0}) View) : Type 0 where
   pub history : List Pair
   pub rows : List Mark
   pub reached : Reached A h0 (core history rows (map seat_of s.views))

@@ -4,7 +4,7 @@ ghost use Rattle.std.specs.List.{Contains};
 ghost use Rattle.pivot_table.specs.Board.{IsSeatOf};
 ghost use Rattle.pivot_table.specs.Book.{HasRoom};
 ghost use Rattle.pivot_table.specs.Calls.{Claims, Finishes, IsOutcome, MayFinish, MayPublish};
-ghost use Rattle.pivot_table.specs.Closing.{AreNoted, AreStartsFrom, IsDone};
+ghost use Rattle.pivot_table.specs.Closing.{AreAmongStarts, AreStartsFrom, IsDone};
 ghost use Rattle.pivot_table.specs.Last.{IsLast};
 ghost use Rattle.pivot_table.specs.Core.{meeting, opened, parting, splitting, joining};
 ghost use Rattle.pivot_table.specs.History.{StandsOrIsDead, StartsWith};
@@ -247,7 +247,7 @@ impl<'a> Board<'a> {
             → StandsOrIsDead self.entry.rows.matrix result.book.pairs r }
         ensures finished { (r : ℕ) → Contains seat.chair.finished r → IsDone result.done r }
         ensures starts { AreStartsFrom (length self.entry.pairs) (length result.book.pairs) result.starts }
-        ensures noted { AreNoted seat.chair.places result.starts }
+        ensures places { AreAmongStarts seat.chair.places result.starts }
         ensures last { IsLast self.entry.rows.matrix self.entry.pairs seat result }
     {
         let Board {

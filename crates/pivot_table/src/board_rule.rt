@@ -1,7 +1,7 @@
 // The rule of a board's table, and what its steps tell.
 ghost use Rattle.std.specs.Prelude.{true};
 ghost use Rattle.pivot_table.specs.Core.{opened};
-ghost use Rattle.pivot_table.specs.Rule.{Kept, claimed, finished, published, looked, view, old_part, new_part, joined, spent_view};
+ghost use Rattle.pivot_table.specs.Rule.{SpellsRun, claimed, finished, published, looked, view, old_part, new_part, joined, spent_view};
 
 use crate::book::Book;
 use crate::view::View;
@@ -11,7 +11,7 @@ use atomic_table::{Join, Play, Split, TableRule};
 pub(crate) struct Law;
 
 impl<'a> TableRule<(), View, Book<'a>> for Law {
-    ghost holds = { λ b. Kept b.rows.matrix b.pairs };
+    ghost holds = { λ b. SpellsRun b.rows.matrix b.pairs };
 
     ghost first = { λ b. view b.rows.matrix true (opened b.pairs) };
 }

@@ -12,9 +12,9 @@ pub struct Starts {
 }
 
 impl Model for Starts {
-    ghost use Rattle.pivot_table.specs.Closing.{Begun};
+    ghost use Rattle.pivot_table.specs.Closing.{StartsState};
 
-    ghost Value = { Begun };
+    ghost Value = { StartsState };
 
     ghost view = { λ s. record { first = s.first; starts = s.starts.items } };
 }

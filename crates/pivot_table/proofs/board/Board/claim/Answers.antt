@@ -5,7 +5,7 @@ use prog.Atomic.{either}
 use Rattle.atomic_table.specs.Table.{step, Allows}
 use Rattle.residue_words.specs.Matrix.{Matrix}
 use Rattle.pivot_table.specs.Board.{BoardState, SeatState}
-use Rattle.pivot_table.specs.Rule.{Kept, claimed, rows_at}
+use Rattle.pivot_table.specs.Rule.{SpellsRun, claimed, rows_at}
 use Rattle.pivot_table.proofs.Allowed.{claim_allows}
 use Rattle.pivot_table.proofs.Fitting.{seat_fits, same_matrix}
 use Rattle.pivot_table.proofs.board.Board.claim.Goals as goal
@@ -28,6 +28,6 @@ compare_exchange-was-requires c =
     let is : new ≡ 2 * length it.me.0.chair.seen + 1 = ap (λ (n : ℕ). 2 * n + 1) c.seat.invariant.0 in (
       fits.0,
       omega arith,
-      subst (λ (n : ℕ). Allows (Kept A h0) z.slots it.id it.me n (λ x. either (eqb x 0) new x) (claimed (step z.slots n 0 new none) it.me)) (sym word)
+      subst (λ (n : ℕ). Allows (SpellsRun A h0) z.slots it.id it.me n (λ x. either (eqb x 0) new x) (claimed (step z.slots n 0 new none) it.me)) (sym word)
           (claim_allows A h0 it.id it.me c.seat.invariant.3 (fits.1 ∙ same) c.args.row low z.slots idle new is),
     )

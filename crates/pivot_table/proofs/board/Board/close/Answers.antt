@@ -9,8 +9,8 @@ use Rattle.pivot_table.specs.Rule.{rows_at}
 use Rattle.pivot_table.specs.Board.{BoardState}
 use Rattle.pivot_table.specs.Book.{BookState}
 use Rattle.pivot_table.specs.declared.closed.Closed.{Closed}
-use Rattle.pivot_table.proofs.Lasting.{grown, cells_say, marks_say, row_inside, begun_short, seat_state, is_last, last_same, begun_same, cells_are}
-use Rattle.pivot_table.proofs.Ending.{last_begins, last_seen, last_tall, last_settled, last_finished, last_starts, last_noted}
+use Rattle.pivot_table.proofs.Lasting.{grown, cells_say, marks_say, row_inside, first_short, seat_state, is_last, last_same, starts_same, cells_are}
+use Rattle.pivot_table.proofs.Ending.{last_begins, last_seen, last_tall, last_settled, last_finished, last_starts, last_places}
 use Rattle.pivot_table.proofs.Fitting.{same_matrix}
 use Rattle.pivot_table.proofs.Short.{grown_short}
 use Rattle.pivot_table.proofs.board.Board.close.Goals as goal
@@ -57,7 +57,7 @@ read_starts-requires-clause-from c =
     let read : c.read_cells.new.pairs.items ≡ k.history = c.read_cells.ensures.read k.history (subst (λ (n : ℕ). CellsSay ws n k.history) (sym sizes) (cells_say A key.pairs last.0 k ws last.2)) in
     let is : length c.as_slice.result.now ≡ length k.history = ap length (c.as_slice.ensures.value ∙ read) in
     let first = c.self.invariant.9 in
-    let short = begun_short A key.pairs last.0 k in
+    let short = first_short A key.pairs last.0 k in
     omega arith
 
 pub read_starts-requires-clause-inside : goal.read_starts-requires-clause-inside
@@ -118,7 +118,7 @@ returns-clause-last c =
     (is_last A key.pairs last.0 k it.table_id it.id it.me.0 last.1.1 c.seat.invariant.3 left
     (ap (λ (w : BookState). w.pairs) c.of.ensures ∙ read)
     (c.of-2.ensures ∙ marks)
-    (c.of-3.ensures ∙ begun_same c.self.inside.first (length key.pairs) c.read_starts.new.starts.items (map (start_in k.rows) (drop (length key.pairs) k.history)) first starts))
+    (c.of-3.ensures ∙ starts_same c.self.inside.first (length key.pairs) c.read_starts.new.starts.items (map (start_in k.rows) (drop (length key.pairs) k.history)) first starts))
 
 pub returns-clause-begins : goal.returns-clause-begins
 returns-clause-begins c = last_begins c.args.self.rows.matrix c.args.self.pairs c.args.seat (record { book = c.of.result; done = c.of-2.result; starts = c.of-3.result }) (returns-clause-last c)
@@ -135,8 +135,8 @@ returns-clause-finished c = last_finished c.args.self.rows.matrix c.args.self.pa
 pub returns-clause-starts : goal.returns-clause-starts
 returns-clause-starts c = last_starts c.args.self.rows.matrix c.args.self.pairs c.args.seat (record { book = c.of.result; done = c.of-2.result; starts = c.of-3.result }) (returns-clause-last c)
 
-pub returns-clause-noted : goal.returns-clause-noted
-returns-clause-noted c = last_noted c.args.self.rows.matrix c.args.self.pairs c.args.seat (record { book = c.of.result; done = c.of-2.result; starts = c.of-3.result }) (returns-clause-last c)
+pub returns-clause-places : goal.returns-clause-places
+returns-clause-places c = last_places c.args.self.rows.matrix c.args.self.pairs c.args.seat (record { book = c.of.result; done = c.of-2.result; starts = c.of-3.result }) (returns-clause-last c)
 
 pub returns-clause-tall : goal.returns-clause-tall
 returns-clause-tall c = last_tall c.args.self.rows.matrix c.args.self.pairs c.args.seat (record { book = c.of.result; done = c.of-2.result; starts = c.of-3.result }) (returns-clause-last c)

@@ -6,7 +6,7 @@ use Rattle.residue_words.specs.Matrix.{Matrix}
 use Rattle.pivot_table.specs.Core.{Chair}
 use Rattle.pivot_table.specs.History.{Dead}
 use Rattle.pivot_table.specs.Board.{BoardState, SeatState}
-use Rattle.pivot_table.specs.Rule.{Kept, finished, rows_at}
+use Rattle.pivot_table.specs.Rule.{SpellsRun, finished, rows_at}
 use Rattle.pivot_table.proofs.Allowed.{finish_allows}
 use Rattle.pivot_table.proofs.Fitting.{seat_fits, same_matrix}
 use Rattle.pivot_table.proofs.board.Board.finish_row.Goals as goal
@@ -50,6 +50,6 @@ store-requires c =
     let is : new ≡ 2 * it.me.0.chair.start + 2 = ap (λ (n : ℕ). 2 * n + 2) c.seat.invariant.2 in (
       fits.0,
       omega arith,
-      subst (λ (n : ℕ). Allows (Kept A h0) z.slots it.id it.me n (λ _. new) (λ _. finished (step z.slots n new 0 none) it.me new)) (sym word)
+      subst (λ (n : ℕ). Allows (SpellsRun A h0) z.slots it.id it.me n (λ _. new) (λ _. finished (step z.slots n new 0 none) it.me new)) (sym word)
           (finish_allows A h0 it.id it.me c.seat.invariant.3 (fits.1 ∙ same) r low z.slots mine why new is),
     )

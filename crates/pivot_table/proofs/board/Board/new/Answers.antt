@@ -3,7 +3,7 @@ use Rattle.residue_words.specs.Matrix.{Matrix}
 use Rattle.residue_words.specs.declared.plain.Pair.{Pair}
 use Rattle.pivot_table.specs.Rule.{SpellsOpening, TableSeat, rows_at}
 use Rattle.sparse_rows.specs.Rows.{ResidueMatrix}
-use Rattle.pivot_table.proofs.Openings.{kept_open}
+use Rattle.pivot_table.proofs.Openings.{opening_spells_run}
 use Rattle.pivot_table.proofs.Spellings.{take_front}
 use Rattle.pivot_table.proofs.Short.{grown_short}
 use Rattle.pivot_table.proofs.board.Board.new.Goals as goal
@@ -14,7 +14,7 @@ of_words-requires c =
     let h : List Pair = c.args.book.now.pairs in
     let size = c.spell.ensures.size in
     let is : c.as_slice.result.now ≡ c.spell.new.words = c.as_slice.ensures.value ∙ take_front c.spell.new.words _ c.in_ok-words.words.len (omega arith) in
-    kept_open A h c.pairs.ensures.grown c.as_slice.result.now (subst (λ (ws : List ℕ). SpellsOpening A ws h) (sym is) c.spell.ensures) (omega (arith, c.width.ensures.value, c.width.ensures.bound, ap (λ (r : ResidueMatrix). r.matrix.width) c.rows-rows.ensures))
+    opening_spells_run A h c.pairs.ensures.grown c.as_slice.result.now (subst (λ (ws : List ℕ). SpellsOpening A ws h) (sym is) c.spell.ensures) (omega (arith, c.width.ensures.value, c.width.ensures.bound, ap (λ (r : ResidueMatrix). r.matrix.width) c.rows-rows.ensures))
 
 pub invariant_of-result-2 : goal.invariant_of-result-2
 invariant_of-result-2 c =

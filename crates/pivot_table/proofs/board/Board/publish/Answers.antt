@@ -7,7 +7,7 @@ use Rattle.residue_words.specs.Matrix.{Matrix}
 use Rattle.pivot_table.specs.Core.{Chair}
 use Rattle.pivot_table.specs.History.{pair, LeastAlive}
 use Rattle.pivot_table.specs.Board.{BoardState, SeatState}
-use Rattle.pivot_table.specs.Rule.{Kept, published, rows_at, pair_of}
+use Rattle.pivot_table.specs.Rule.{SpellsRun, published, rows_at, pair_of}
 use Rattle.pivot_table.specs.Calls.{IsOutcome}
 use Rattle.pivot_table.specs.declared.board.Outcome.{Outcome}
 use Rattle.pivot_table.proofs.Telling.{tells_published, tells_newer}
@@ -55,8 +55,8 @@ compare_exchange-found-requires c =
     let cells : rows_at it.me.0.matrix ≡ rows_at A = ap rows_at (fits.1 ∙ same) in (
       fits.0,
       omega arith,
-      subst (λ (n : ℕ). Allows (Kept A h0) z.slots it.id it.me n (λ x. either (eqb x 0) c.word_of_pair.result x) (published (step z.slots n 0 c.word_of_pair.result none) it.me)) (sym at)
-          (subst (λ (w : ℕ). Allows (Kept A h0) z.slots it.id it.me (length it.me.0.chair.seen) (λ x. either (eqb x 0) w x) (published (step z.slots (length it.me.0.chair.seen) 0 w none) it.me)) (sym c.word_of_pair.ensures)
+      subst (λ (n : ℕ). Allows (SpellsRun A h0) z.slots it.id it.me n (λ x. either (eqb x 0) c.word_of_pair.result x) (published (step z.slots n 0 c.word_of_pair.result none) it.me)) (sym at)
+          (subst (λ (w : ℕ). Allows (SpellsRun A h0) z.slots it.id it.me (length it.me.0.chair.seen) (λ x. either (eqb x 0) w x) (published (step z.slots (length it.me.0.chair.seen) 0 w none) it.me)) (sym c.word_of_pair.ensures)
           (publish_allows A h0 it.id it.me c.seat.invariant.3 (fits.1 ∙ same) r col z.slots mine unpub least)),
     )
 
