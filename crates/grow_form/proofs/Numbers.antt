@@ -14,7 +14,7 @@ use Rattle.row_space.proofs.Counting.{pigeonhole}
 use Rattle.sparse_rows.specs.Rows.{FitsMatrix, ResidueMatrix, built, nonzeros, row_triples, sum_at, support, triple}
 use Rattle.sparse_rows.specs.Stored.{IsSparse, entry_at, spread}
 use Rattle.sparse_rows.proofs.Spread.{at_spread, entry_cover, entry_here, entry_support, spread_vector}
-use Rattle.triangular_solve.specs.Leads.{Appends, Inserts, IsSound, KeptRows, behind, behind_zeros}
+use Rattle.triangular_solve.specs.Leads.{Appends, Inserts, IsSound, KeptRows, behind_zeros, row_behind_zeros}
 use Rattle.triangular_solve.proofs.Behind.{behind_at}
 use Rattle.grow_form.specs.Numbering.{AreKeptByNumbers, AreUsed, ComesBehind, HasRoomFor, HaveCome, IsByNumbers, IsNumbering, IsRowAtColumns, IsRowByNumbers, NumberedColumns, arrival, at_columns, column_numbered, no_columns, number_of, numbered, seen_matrix, seen_rows, with_numbers}
 use Rattle.grow_form.proofs.Moved.{combination_back, combination_beyond, combination_there, map_equal}
@@ -328,16 +328,16 @@ numbers_added {N} h more l = record {
 }
 
 -- a row behind as many zeros stays where it was
-pub behind_added : {N : NumberedColumns} → IsNumbering N → (more : ℕ) (w : List ℕ) → at_columns (with_numbers N more) (behind more w) ≡ at_columns N w
-behind_added {N} h more w = list_of_equal (length N.arrivals) (λ j. slice_index (behind more w) (more + N.room - slice_index N.arrivals j)) (λ j. slice_index w (N.room - slice_index N.arrivals j)) (λ j l.
+pub behind_added : {N : NumberedColumns} → IsNumbering N → (more : ℕ) (w : List ℕ) → at_columns (with_numbers N more) (row_behind_zeros more w) ≡ at_columns N w
+behind_added {N} h more w = list_of_equal (length N.arrivals) (λ j. slice_index (row_behind_zeros more w) (more + N.room - slice_index N.arrivals j)) (λ j. slice_index w (N.room - slice_index N.arrivals j)) (λ j l.
     let few : slice_index N.arrivals j ≤ N.room = elim (cases_eq (slice_index N.arrivals j) 0) [
       | inl z ↦ omega (arith, z)
       | inr some ↦ omega (arith, (h.come j l some).0, h.few)
     ] in
     let at : more + N.room - slice_index N.arrivals j ≡ more + (N.room - slice_index N.arrivals j) = omega (arith, few) in
-    ap (slice_index (behind more w)) at ∙ behind_at more w (N.room - slice_index N.arrivals j))
+    ap (slice_index (row_behind_zeros more w)) at ∙ behind_at more w (N.room - slice_index N.arrivals j))
 
-all_behind : {N : NumberedColumns} → IsNumbering N → (more : ℕ) (rows : List (List ℕ)) → map (at_columns (with_numbers N more)) (map (behind more) rows) ≡ map (at_columns N) rows
+all_behind : {N : NumberedColumns} → IsNumbering N → (more : ℕ) (rows : List (List ℕ)) → map (at_columns (with_numbers N more)) (map (row_behind_zeros more) rows) ≡ map (at_columns N) rows
 all_behind h more [] = refl
 all_behind h more (w ∷ rows) = ap₂ ◌∷◌ (behind_added h more w) (all_behind h more rows)
 
