@@ -6,6 +6,7 @@ ghost use Rattle.pivot_table.specs.Selected.{Selected};
 use fl_pivots::leftmost;
 use optimistic_search::{Gate, search, search_alone, search_within};
 use pivot_table::{Book, Pair};
+use schur_rows::mean_reduced;
 use sparse_rows::Rows;
 use std::alloc::{AllocError, Global};
 use std::thread::Threads;
@@ -20,8 +21,39 @@ pub struct Plan {
     pub rounds: u32,
 }
 
-// The pivots of one round, in triangular order.
+// Matrices of fewer entries are not worth a second search.
+const WORTH_COMPARING: u64 = 1 << 12;
+
+// How many rows are reduced to see what two lists of pivots leave.
+const SAMPLES: u32 = 32;
+
+// The pivots of one round, in triangular order: those that the workers find. What several find depends on their turns; if it leaves
+// more than what one worker finds, that is taken, so that several need little more memory than one.
 pub(crate) fn select_pivots<'a, R: Threads + Sync, G: Gate>(
+    rt: &R,
+    alloc: Global,
+    rows: &'a Rows,
+    workers: u32,
+    gate: &G,
+) -> Result<Triangle<'a>, AllocError>
+    requires some { 1 ≤ workers }
+    ensures rows { IfOk result (λ t. t.rows ≡ rows.now) }
+    ensures selected { IfOk result (λ t. Selected rows.now.matrix workers t.pairs) }
+{
+    let found = found_by(rt, alloc, rows, workers, gate)?;
+    if workers == 1 || rows.entries() < WORTH_COMPARING {
+        return Ok(found);
+    }
+    let of_one = found_by(rt, alloc, rows, 1, gate)?;
+    if leaves_more(alloc, &found, &of_one)? {
+        Ok(of_one)
+    } else {
+        Ok(found)
+    }
+}
+
+// The pivots that so many workers find.
+fn found_by<'a, R: Threads + Sync, G: Gate>(
     rt: &R,
     alloc: Global,
     rows: &'a Rows,
@@ -35,6 +67,13 @@ pub(crate) fn select_pivots<'a, R: Threads + Sync, G: Gate>(
     let book = search(rt, alloc, leftmost(alloc, rows)?, workers, gate)?;
     let triangle = Triangle::of(alloc, &book)?;
     Ok(triangle)
+}
+
+// Whether these pivots leave more of the rows than others, with the coefficients, by samples.
+fn leaves_more(alloc: Global, pivots: &Triangle, others: &Triangle) -> Result<bool, AllocError> {
+    let left = mean_reduced(alloc, pivots, SAMPLES)?;
+    let by_others = mean_reduced(alloc, others, SAMPLES)?;
+    Ok(by_others < left)
 }
 
 // A search takes so many steps an entry at most: what takes more are long chains of pivots, which fill what they leave.

@@ -23,7 +23,7 @@ ghost use Rattle.schur_rows.specs.Laws.{ComplementIsOne, RoundJoins, RoundRank, 
 pub use dealing::Dealing;
 pub use round::{SchurRows, complement, schur};
 pub use row_reducer::RowReducer;
-pub use sampling::mean_rest;
+pub use sampling::{mean_reduced, mean_rest};
 pub use streamed::{ChunkSize, rest_basis, rest_basis_by};
 
 /// A matrix has at most one complement, for a prime modulus.

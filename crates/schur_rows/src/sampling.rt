@@ -1,7 +1,7 @@
 // How full what a round leaves is, by samples.
-ghost use Rattle.std.specs.Prelude.{◌≡◌, ◌≤◌, length};
+ghost use Rattle.std.specs.Prelude.{◌≡◌, ◌<◌, ◌≤◌, length};
 ghost use Rattle.triangular_solve.specs.PivotRows.{IsAlike};
-ghost use Rattle.triangular_solve.specs.Reduced.{workspace_of};
+ghost use Rattle.triangular_solve.specs.Reduced.{HasSizesOf, workspace_of};
 ghost use Rattle.schur_rows.specs.PivotNumbers.{HasNumbers};
 
 use crate::pivot_numbers::PivotNumbers;
@@ -9,7 +9,7 @@ use crate::row_ranges::next_left;
 use crate::row_reducer::RowReducer;
 use sparse_rows::Sparse;
 use std::alloc::{AllocError, Global};
-use triangular_solve::Work;
+use triangular_solve::{Reduced, Triangle, Work};
 
 // How many rows are reduced to see how much room they take.
 const SAMPLES: u32 = 16;
@@ -24,6 +24,67 @@ pub fn mean_rest(alloc: Global, reducer: &RowReducer, samples: u32) -> Result<u6
 {
     let pivot_rows = PivotNumbers::of(alloc, reducer)?;
     mean_of(alloc, reducer, &pivot_rows, samples)
+}
+
+/// How many entries the pivots leave of a row and how many coefficients it takes, together, on average of so many rows, chosen as for
+/// `mean_rest`. No clause covers the number.
+pub fn mean_reduced(alloc: Global, triangle: &Triangle, samples: u32) -> Result<u64, AllocError>
+    requires { 1 ≤ samples }
+{
+    let reducer = RowReducer::by_walks(triangle);
+    let pivot_rows = PivotNumbers::of(alloc, &reducer)?;
+    mean_with_coefficients(alloc, &reducer, &pivot_rows, samples)
+}
+
+// The same where the pivots' rows are known.
+fn mean_with_coefficients(
+    alloc: Global,
+    reducer: &RowReducer,
+    pivot_rows: &PivotNumbers,
+    samples: u32,
+) -> Result<u64, AllocError>
+    requires some { 1 ≤ samples }
+    requires numbers { HasNumbers reducer.now.pairs pivot_rows.now }
+{
+    let height = u64::from(reducer.rows().height());
+    let mut work = reducer.work(alloc)?;
+    let mut reduced = reducer.room(alloc);
+    let mut left: u64 = 0;
+    for k in 0..samples {
+        let from = (u64::from(k) * height / u64::from(samples)) as u32;
+        if let Some(i) = next_left(reducer, pivot_rows, from) {
+            let count = entries_reduced(alloc, reducer, i, &mut work, &mut reduced)?;
+            left = left.saturating_add(count as u64);
+        }
+    }
+    Ok(left / u64::from(samples))
+}
+
+// How many entries are left of row i, and with how many coefficients.
+fn entries_reduced(
+    alloc: Global,
+    reducer: &RowReducer,
+    i: u32,
+    work: &mut Work,
+    reduced: &mut Reduced,
+) -> Result<usize, AllocError>
+    requires row { i < reducer.now.rows.matrix.height }
+    requires work { work.old ≡ workspace_of reducer.now }
+    requires sizes { HasSizesOf reducer.now reduced.old }
+    ensures work { work.new ≡ work.old }
+    ensures sizes { HasSizesOf reducer.now reduced.new }
+{
+    let rows = reducer.rows();
+    // The call's contract tells that the entries are residues.
+    let _ = rows.modulus();
+    reducer.reduce(alloc, rows.cols(i), rows.vals(i), work, reduced)?;
+    Ok(
+        reduced
+            .rest
+            .cols()
+            .len()
+            .saturating_add(reduced.coefficients.cols().len()),
+    )
 }
 
 // Room for the entries that the pivots leave in all: for twice as many as samples tell, so that it is seldom too small and what is left

@@ -35,6 +35,9 @@ const ROOM_ANYWAY: u64 = 1_048_576;
 // What each of them takes a column: for a row that it reduces, and for what it has seen of the pivots.
 const BYTES_A_COLUMN: u64 = 20;
 
+// What each of them takes in any case: its stack, and what the allocator keeps for its thread.
+const BYTES_A_WORKER: u64 = 65_536;
+
 /// How many workers go at once on a matrix if so many are asked for, at least one: several if several are, but no more than 64, nor
 /// than there is room for beside the matrix, so that they take at most about twice the memory of one.
 pub fn fitting_workers(a: &Rows, asked: u32) -> u32
@@ -45,7 +48,7 @@ pub fn fitting_workers(a: &Rows, asked: u32) -> u32
     let room = ROOM_AN_ENTRY
         .saturating_mul(a.entries())
         .saturating_add(ROOM_ANYWAY);
-    let each = BYTES_A_COLUMN * u64::from(a.width()) + 1;
+    let each = BYTES_A_COLUMN * u64::from(a.width()) + BYTES_A_WORKER;
     asked.min((room / each).clamp(2, 64) as u32)
 }
 
