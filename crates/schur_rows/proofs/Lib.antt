@@ -3,6 +3,8 @@ pub mod Cuts
 pub mod Dealt
 pub mod Distinct
 pub mod FactorRows
+pub mod FullBasis
+pub mod FullRank
 pub mod Joining
 pub mod Numbers
 pub mod Parting

@@ -1,12 +1,14 @@
 -- The numbers of the pairs beside their rows.
-use Rattle.std.proofs.Common.{ℕ, ◌≡◌, ◌≢◌, ◌+◌, ◌<◌, ◌≤◌, ◌∙◌, inl, inr, List, length, replicate, slice_index, slice_index_or, slice_set, sym, ap, subst, arith}
+use Rattle.std.proofs.Common.{ℕ, ◌≡◌, ◌≢◌, ◌+◌, ◌<◌, ◌≤◌, ◌∙◌, Option, None, Some, true, false, inl, inr, List, length, replicate, slice_index, slice_index_or, slice_set, sym, ap, subst, arith}
 use Rattle.std.proofs.lemmas.Bool.{cases_eq, cases_lt}
 use Rattle.std.proofs.lemmas.List.{get_or_default, get_or-replicate, get_or-set_other, get_or-set_same, length-replicate, length-set}
 use Rattle.residue_words.specs.declared.plain.Pair.{Pair}
 use Rattle.residue_words.specs.Matrix.{Matrix, IsMatrix, row}
-use Rattle.residue_words.proofs.Lists.{place_in}
+use Rattle.residue_words.proofs.Lists.{contains_at, place_in}
 use Rattle.row_space.specs.Factors.{row_at, col_at}
 use Rattle.std.specs.List.{Contains}
+use Rattle.std.specs.Option.{MatchOption, is_some}
+use Rattle.sparse_rows.specs.Columns.{IsAbsent, IsAt}
 use Rattle.sparse_rows.specs.Rows.{AreFilled, AreRising, ResidueMatrix, support}
 use Rattle.sparse_rows.specs.declared.rows.TheConstants.{LARGEST_SIZE}
 use Rattle.sparse_rows.proofs.Supports.{in_support}
@@ -110,3 +112,12 @@ all_numbers {S} {T} {qs} {ps} {r} {xs} second filled value pairs few numbers = r
   rising = filled.rising;
   numbers = subst (λ qs. AreNumbersOf qs r.rows.items (length qs) r.numbers.items) pairs (subst (λ xs. AreNumbersOf ps xs (length ps) r.numbers.items) value numbers);
 }
+
+-- a number that was looked for, and found or not
+pub found_among : (xs : List ℕ) (x : ℕ) (place : Option ℕ) → MatchOption place (IsAbsent xs x) (IsAt xs x) → is_some place ≡ true → Contains xs x
+found_among xs x None at some = absurd cc
+found_among xs x (Some k) at some = contains_at xs k x at.0 at.1
+
+pub not_among : (xs : List ℕ) (x : ℕ) (place : Option ℕ) → MatchOption place (IsAbsent xs x) (IsAt xs x) → is_some place ≡ false → ¬ Contains xs x
+not_among xs x None absent none c = let w = place_in xs x c in absent w.0 w.1 w.2
+not_among xs x (Some k) at none c = absurd cc

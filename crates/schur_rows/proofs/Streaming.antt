@@ -3,7 +3,7 @@ use Rattle.std.proofs.Common.{ℕ, ◌≡◌, ◌+◌, ◌<◌, ◌≤◌, ◌�
 use Rattle.std.proofs.lemmas.Bool.{false≢true}
 use Rattle.std.proofs.lemmas.List.{nil_from_length}
 use Rattle.residue_words.specs.Residues.{IsPrime}
-use Rattle.residue_words.specs.Matrix.{Matrix, IsCombination, IsMatrix, row, zeros}
+use Rattle.residue_words.specs.Matrix.{Matrix, IsCombination, IsMatrix, IsVector, row, zeros}
 use Rattle.residue_words.proofs.Vectors.{combination_through, row_combination, vector_equal, zeros_vector}
 use Rattle.row_space.specs.Echelon.{HasRank, SameSpan}
 use Rattle.row_space.proofs.Counting.{span_height}
@@ -17,10 +17,11 @@ use Rattle.dense_finish.specs.Factors.{IsFactored, IsRightFactored}
 use Rattle.dense_finish.specs.declared.factors.Factors.{Factors}
 use Rattle.dense_finish.specs.declared.right_factor.RightFactor.{RightFactor}
 use Rattle.schur_rows.specs.Parts.{IsPartTo}
-use Rattle.schur_rows.specs.Streamed.{IsRestBasis, IsBasisUpTo}
+use Rattle.schur_rows.specs.Streamed.{IsRestBasis, IsBasisUpTo, IsFullFor, IsInColumns}
 use Rattle.schur_rows.specs.declared.round.SchurRows.{SchurRows}
 use Rattle.schur_rows.proofs.Above.{above_first, above_matrix, above_second, each_of}
 use Rattle.schur_rows.proofs.FactorRows.{factor_rows_independent, factor_rows_span, fit_few}
+use Rattle.schur_rows.proofs.FullRank.{full_rank_spans}
 use Rattle.schur_rows.proofs.Parting.{part_join, part_none}
 use Rattle.schur_rows.proofs.Spanning.{round_ranked}
 use Rattle.schur_rows.proofs.Whole.{whole_complement}
@@ -128,6 +129,44 @@ basis_more {t} {from} {to} {old} {stacked} {left} {f} h g modulus is factored =
       span = λ prime. same_span_chained p (above h.part.rows.matrix left.rows.matrix) N f.u.matrix
           (below_same prime.two_or_more h.is_part.0.rest h.matrix g.0.rest (h.width ∙ sym h.is_part.0.width) (g.0.width ∙ sym h.is_part.0.width) (h.span prime))
           (factor_rows_span prime mn (at.factors prime));
+    }
+
+-- a chunk whose entries stand in columns that the basis fills
+pub basis_kept : {t : TriangleState} {from to : ℕ} {old : ResidueMatrix} {left : SchurRows} → IsBasisUpTo t from old → IsPartTo t false from to left → IsFullFor left.rows.matrix old.matrix → IsBasisUpTo t to old
+basis_kept {t} {from} {to} {old} {left} h g full =
+    let p : ℕ = t.rows.modulus in
+    let P : Matrix = h.part.rows.matrix in
+    let L : Matrix = left.rows.matrix in
+    let mp : IsMatrix p P = h.is_part.0.rest in
+    let both : SchurRows = record {
+      rows = record { modulus = h.part.rows.modulus; matrix = above P L };
+      coefficients = record { modulus = h.part.coefficients.modulus; matrix = above h.part.coefficients.matrix left.coefficients.matrix };
+    } in
+    let narrow : L.width ≡ P.width = g.0.width ∙ sym h.is_part.0.width in
+    let wide : L.width ≡ old.matrix.width = g.0.width ∙ sym h.width in
+    let whole : IsMatrix p (above P L) = above_matrix mp g.0.rest narrow in
+    record {
+      modulus = h.modulus;
+      matrix = h.matrix;
+      width = h.width;
+      height = omega (arith, h.height, g.1);
+      part = both;
+      is_part = (
+        part_join t false 0 from h.part left both h.is_part.0 g.0 h.is_part.1 (record { modulus = refl; rows = refl; coefficient_modulus = refl; coefficients = refl }),
+        omega (arith, h.is_part.1, g.1),
+      );
+      independent = h.independent;
+      span = λ prime.
+          let two : 2 ≤ p = prime.two_or_more in
+          same_span_of_rows p (above P L) old.matrix (omega arith) (h.is_part.0.width ∙ sym h.width)
+          (each_of P.height L.height (λ k. IsCombination p old.matrix (row (above P L) k))
+          (λ k a. subst (IsCombination p old.matrix) (sym (above_first L mp k a)) ((h.span prime (row P k)).0 (row_combination p P k two mp a)))
+          (λ k a. subst (IsCombination p old.matrix) (sym (above_second L mp k))
+          (full_rank_spans p old.matrix full.0 (row L k) two (h.independent prime) full.2 full.1
+          (subst (λ n. IsVector p n (row L k)) wide (g.0.rest.each k a)) (subst (λ n. IsInColumns full.0 n (row L k)) wide (full.3 k a)))))
+          (λ k a. combination_through p P (above P L) (row old.matrix k) (omega arith) refl
+          (λ i l. subst (IsCombination p (above P L)) (above_first L mp i l) (row_combination p (above P L) i two whole (omega arith)))
+          ((h.span prime (row old.matrix k)).1 (row_combination p old.matrix k two h.matrix a)));
     }
 
 -- of all rows

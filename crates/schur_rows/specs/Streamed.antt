@@ -1,8 +1,10 @@
 -- A basis of what a round leaves, made chunk by chunk.
-use Rattle.std.specs.Prelude.{◌≡◌, ◌≤◌, ℕ, false}
+use Rattle.std.specs.Prelude.{◌≡◌, ◌≢◌, ◌<◌, ◌≤◌, ℕ, false, List, length, slice_index, Contains}
 use Rattle.residue_words.specs.Residues.{IsPrime}
-use Rattle.residue_words.specs.Matrix.{Matrix, IsMatrix}
+use Rattle.residue_words.specs.Matrix.{Matrix, IsMatrix, entry, row}
+use Rattle.residue_words.specs.declared.plain.Pair.{Pair}
 use Rattle.row_space.specs.Echelon.{IsIndependent, SameSpan}
+use Rattle.row_space.specs.Factors.{col_at}
 use Rattle.sparse_rows.specs.Rows.{ResidueMatrix}
 use Rattle.triangular_solve.specs.Reduced.{IsComplement}
 use Rattle.triangular_solve.specs.Triangle.{TriangleState}
@@ -33,3 +35,25 @@ pub record IsBasisUpTo (t : TriangleState) (to : ℕ) (U : ResidueMatrix) : Type
   pub is_part : IsPartTo t false 0 to part
   pub independent : IsPrime t.rows.modulus → IsIndependent t.rows.modulus U.matrix
   pub span : IsPrime t.rows.modulus → SameSpan t.rows.modulus part.rows.matrix U.matrix
+
+-- of the n entries of a row those other than 0 stand in these columns
+abbrev pub IsInColumns : List ℕ → ℕ → List ℕ → Type 0
+IsInColumns columns n v = (j : ℕ) → j < n → slice_index v j ≢ 0 → Contains columns j
+
+-- so do those of each row of A
+abbrev pub AreInColumns : List ℕ → Matrix → Type 0
+AreInColumns columns A = (i : ℕ) → i < A.height → IsInColumns columns A.width (row A i)
+
+-- U has at least as many rows as there are columns in which it or B has an entry
+abbrev pub IsFullFor : Matrix → Matrix → Type 0
+IsFullFor B U = (columns : List ℕ) × (length columns ≤ U.height) × AreInColumns columns U
+    × AreInColumns columns B
+
+-- column j is that of some pair
+abbrev pub IsPivotColumn : List Pair → ℕ → Type 0
+IsPivotColumn qs j = (k : ℕ) × (k < length qs) × (col_at qs k ≡ j)
+
+-- the entries of A in columns of no pair stand in n columns at most
+abbrev pub HasColumnsLeft : Matrix → List Pair → ℕ → Type 0
+HasColumnsLeft A qs n = (columns : List ℕ) × (length columns ≤ n) × ((i j : ℕ) → i < A.height → j < A.width →
+    entry A i j ≢ 0 → ¬ IsPivotColumn qs j → Contains columns j)

@@ -73,8 +73,9 @@ fn numbers_of(alloc: Global, rows: &[u32], pairs: &[Pair]) -> Result<Vec<u32>, A
     Ok(numbers)
 }
 
-// The place of a row among these ascending ones, if it is one of them. Where no row before it is missing it stands at its own number.
-fn place_of(rows: &[u32], i: u32) -> Option<usize>
+// The place of a row or column among these ascending ones, if it is one of them. Where none before it is missing it stands at its own
+// number.
+pub(crate) fn place_of(rows: &[u32], i: u32) -> Option<usize>
     requires { AreRising rows.now }
     ensures { MatchOption result (IsAbsent rows.now i) (IsAt rows.now i) }
 {

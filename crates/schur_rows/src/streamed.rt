@@ -1,13 +1,13 @@
 // A basis of what a round leaves, without storing it.
-ghost use Rattle.std.specs.Prelude.{◌≡◌, ◌<◌, ◌≤◌, ◌+◌, IfOk};
+ghost use Rattle.std.specs.Prelude.{◌≡◌, ◌<◌, ◌≤◌, ◌↔◌, ◌+◌, ℕ, length, slice_index, Contains, IfOk, IsTrue};
 ghost use Rattle.sparse_rows.specs.declared.rows.TheConstants.{LARGEST_SIZE};
-ghost use Rattle.sparse_rows.specs.Rows.{above};
+ghost use Rattle.sparse_rows.specs.Rows.{AreRising, above};
 ghost use Rattle.schur_rows.specs.PivotNumbers.{HasNumbers};
-ghost use Rattle.schur_rows.specs.Streamed.{IsRestBasis, IsBasisUpTo};
+ghost use Rattle.schur_rows.specs.Streamed.{IsRestBasis, IsBasisUpTo, IsFullFor};
 
 use crate::dealing::Dealing;
 use crate::pass::Pass;
-use crate::pivot_numbers::PivotNumbers;
+use crate::pivot_numbers::{PivotNumbers, place_of};
 use crate::round::SchurRows;
 use crate::row_ranges::end_of;
 use crate::row_reducer::RowReducer;
@@ -147,6 +147,33 @@ fn stacked(basis: Rows, below: Rows) -> Result<Rows, AllocError>
     Ok(rows)
 }
 
+// Whether independent rows are as many as the columns in which they or the rows below have an entry, so that these are combinations of
+// them; in time by the entries, and for those below only where the rows fill their own columns.
+fn is_full_for(alloc: Global, below: &Rows, basis: &Rows) -> Result<bool, AllocError>
+    ensures { IfOk result (λ full. IsTrue full → IsFullFor below.now.matrix basis.now.matrix) }
+{
+    let columns = basis.occupied(alloc)?;
+    if columns.len() > basis.height() as usize {
+        return Ok(false);
+    }
+    let others = below.occupied(alloc)?;
+    Ok(are_among(&others, &columns))
+}
+
+// Whether each of these columns is among the others, which ascend.
+fn are_among(columns: &[u32], others: &[u32]) -> bool
+    requires { AreRising others.now }
+    ensures { IsTrue result ↔ ((k : ℕ) → k < length columns.now →
+        Contains others.now (slice_index columns.now k)) }
+{
+    for k in 0..columns.len() {
+        if place_of(others, columns[k]).is_none() {
+            return false;
+        }
+    }
+    true
+}
+
 // A basis of what is left of the rows up to `to`, from one of what is left of those up to `from`.
 fn basis_with<C: Dealing + Finishing>(
     crew: &C,
@@ -169,6 +196,10 @@ fn basis_with<C: Dealing + Finishing>(
     let _ = pass.reducer.rows().height();
     let left = left_between(crew, alloc, pass, workers, from, to)?;
     let SchurRows { rows: below, .. } = left;
+    let full = is_full_for(alloc, &below, &basis)?;
+    if full {
+        return Ok(basis);
+    }
     let stacked = stacked(basis, below)?;
     let RightFactor { u, .. } = finish_right(crew, alloc, stacked, workers)?;
     Ok(u)
