@@ -1,6 +1,6 @@
 -- A basis of full column rank spans all that is left, also of the rows that are not reduced.
-use Rattle.std.proofs.Common.{ℕ, ◌≡◌, ◌≢◌, ◌+◌, ◌*◌, ◌-◌, ◌%◌, ◌<◌, ◌≤◌, ◌⊎◌, inl, inr, List, [], length, map, slice_index, sym, refl, ap, ap₂, subst, ◌∙◌, arith, mod-lt, mod-eq_of_lt, mul-zero}
-use native.Mathlib.Nat.{mod-mod, zero-mod}
+use Rattle.std.proofs.Common.{ℕ, ◌≡◌, ◌+◌, ◌*◌, ◌-◌, ◌%◌, ◌<◌, ◌≤◌, ◌⊎◌, inl, inr, List, [], length, map, slice_index, sym, refl, ap, ap₂, subst, ◌∙◌, arith, mod-lt, mod-eq_of_lt, mul-zero}
+use native.Mathlib.Nat.{mod-mod}
 use Rattle.std.specs.List.{Contains, range_with_len}
 use Rattle.std.proofs.lemmas.Bool.{cases_eq, cases_lt}
 use Rattle.std.proofs.lemmas.List.FromFn.{get_or-map-range_with_len, length-map-range_with_len}
@@ -10,15 +10,17 @@ use Rattle.residue_words.specs.Matrix.{Matrix, IsCombination, IsMatrix, IsVector
 use Rattle.residue_words.proofs.Lists.{place_in}
 use Rattle.residue_words.proofs.Residues.{add_same, mul_same, minus_one, right_zero}
 use Rattle.residue_words.proofs.Sums.{sum_equal, sum_has}
-use Rattle.residue_words.proofs.Vectors.{at_list_of, at_zeros, combination_through, entry_residue, row_combination, vector_equal, vector_of, zeros_vector}
+use Rattle.residue_words.proofs.Vectors.{at_list_of, at_zeros, combination_through, row_combination, vector_equal, vector_of, zeros_vector}
 use Rattle.row_space.specs.Echelon.{IsIndependent, SameSpan}
 use Rattle.row_space.specs.Factors.{row_at, col_at}
 use Rattle.row_space.proofs.Spans.{same_span_of_rows}
-use Rattle.sparse_rows.specs.Rows.{AreOccupied}
+use Rattle.sparse_rows.specs.Rows.{AreOccupied, ResidueMatrix}
 use Rattle.pivot_table.specs.Order.{Triangular}
-use Rattle.triangular_solve.specs.Reduced.{IsComplement, IsPivotRow, IsReduced, IsSchurRow, SchurRowIsOne}
-use Rattle.schur_rows.specs.Streamed.{AreInColumns, HasColumnsLeft, IsFullFor, IsInColumns, IsPivotColumn}
-use Rattle.schur_rows.proofs.FullRank.{combination_in_columns, full_rank_spans, triangular_solvable}
+use Rattle.triangular_solve.specs.Reduced.{IsComplement, IsPivotRow, IsSchurRow, SchurRowIsOne}
+use Rattle.triangular_solve.specs.Triangle.{TriangleState}
+use Rattle.schur_rows.specs.Streamed.{AreInColumns, HasColumnsLeft, IsBasisUpTo, IsFullFor, IsInColumns, IsPivotColumn, IsRestBasis}
+use Rattle.schur_rows.proofs.Distinct.{triangular_columns}
+use Rattle.schur_rows.proofs.FullRank.{combination_in_columns, full_rank_spans, left_out, triangular_solvable}
 use Rattle.schur_rows.proofs.Unique.{diagonal, pivot_or_not}
 
 module _ {p : ℕ} {A : Matrix} {qs : List Pair} (prime : IsPrime p) (m : IsMatrix p A) (tri : Triangular A qs) where
@@ -175,3 +177,26 @@ full_for L U columns others xs ys same equal own below few among = (
       let w = place_in xs j (subst (λ xs. Contains xs j) (sym equal) (below.enough.all i j l lj d)) in
       subst (λ ys. Contains ys j) same (subst (Contains ys) w.2 (among w.0 w.1)),
 )
+
+-- the occupied columns but the pivots'
+pub columns_left : {A : Matrix} {qs : List Pair} {columns : List ℕ} → Triangular A qs → AreOccupied A columns → HasColumnsLeft A qs (length columns - length qs)
+columns_left {A} {qs} {columns} tri o =
+    let rest = left_out (length qs) (col_at qs) columns (λ k l. let n = tri.nonzero k l in o.enough.all (row_at qs k) (col_at qs k) n.0 n.1 n.2) (triangular_columns tri) in (
+      rest.0,
+      omega (arith, rest.1),
+      λ i j li lj d other. rest.2 j (o.enough.all i j li lj d) (λ k l e. other (k, l, e)),
+    )
+
+-- a basis of what is left of the first rows, as high as columns are left
+pub basis_full : {t : TriangleState} {from n : ℕ} {b : ResidueMatrix} → SchurRowIsOne → IsMatrix t.rows.modulus t.rows.matrix → Triangular t.rows.matrix t.pairs → IsBasisUpTo t from b → from ≤ t.rows.matrix.height →
+    HasColumnsLeft t.rows.matrix t.pairs n → n ≤ b.matrix.height → IsRestBasis t b
+basis_full {t} {from} {n} {b} one m tri h inside left few = record {
+  fits = record { modulus = h.modulus; matrix = h.matrix; width = h.width; height = omega (arith, h.height) };
+  independent = h.independent;
+  span = λ prime. rest_spanned prime m tri left one h.part.rows.matrix b.matrix h.is_part.0.width (omega (arith, h.is_part.1))
+      (λ i l.
+      let plain : 0 + i ≡ i = omega arith in
+      let P : Matrix = h.part.rows.matrix in
+      subst (λ x. (IsPivotRow t.pairs x → row P i ≡ zeros t.rows.matrix.width) × (¬ IsPivotRow t.pairs x → IsSchurRow t.rows.modulus t.rows.matrix t.pairs (row t.rows.matrix x) (row P i))) plain
+      ((h.is_part.0.each i l).nothing, (h.is_part.0.each i l).left prime)) h.matrix h.width (h.independent prime) (h.span prime) few;
+}

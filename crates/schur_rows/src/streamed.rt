@@ -3,7 +3,7 @@ ghost use Rattle.std.specs.Prelude.{◌≡◌, ◌<◌, ◌≤◌, ◌↔◌, �
 ghost use Rattle.sparse_rows.specs.declared.rows.TheConstants.{LARGEST_SIZE};
 ghost use Rattle.sparse_rows.specs.Rows.{AreRising, above};
 ghost use Rattle.schur_rows.specs.PivotNumbers.{HasNumbers};
-ghost use Rattle.schur_rows.specs.Streamed.{IsRestBasis, IsBasisUpTo, IsFullFor};
+ghost use Rattle.schur_rows.specs.Streamed.{IsRestBasis, HasColumnsLeft, IsBasisUpTo, IsFullFor};
 
 use crate::dealing::Dealing;
 use crate::pass::Pass;
@@ -23,32 +23,46 @@ use std::alloc::{AllocError, Global};
 pub struct ChunkSize {
     /// At least so many rows, where so many are left; 0 is as 1.
     pub rows: u32,
-    /// As many rows as have about so many places in a dense block on the columns that are left, or up to eight times as many below a
-    /// basis of many rows.
+    /// As many rows as have about so many places in a dense block on the columns that are left, or up to four times as many below a
+    /// basis of many rows; while rows are independent, no more than the basis lacks, and some.
     pub places: u32,
 }
 
-// A block of 8 MB where the modulus is below 2^31.
+// A block of 16 MB where the modulus is below 2^31.
 const CHUNK: ChunkSize = ChunkSize {
     rows: 256,
-    places: 1 << 21,
+    places: 1 << 22,
 };
 
 // A chunk has so many times the rows of the basis, which is eliminated again with it.
 const TIMES_THE_BASIS: u32 = 4;
 
 // But so many times the places at most.
-const TIMES_THE_PLACES: u32 = 8;
+const TIMES_THE_PLACES: u32 = 4;
+
+// While rows are independent a chunk has so many more of them than the basis lacks, since a few may not be.
+const SPARE_ROWS: usize = 32;
 
 impl ChunkSize {
-    // How many rows the next chunk has on so many columns, below a basis of so many rows.
-    fn rows_below(&self, basis: u32, columns: usize) -> u32
+    // How many rows the next chunk has on so many columns, below a basis of so many rows; while rows are independent it is no more than
+    // the basis lacks, and some.
+    fn rows_below(&self, basis: u32, columns: usize, independent: bool) -> u32
         ensures { 1 ≤ result }
     {
+        let mut count = self.rows_by_places(basis, columns);
+        if independent {
+            let lacking = columns.saturating_sub(basis as usize);
+            count = lacking.saturating_add(SPARE_ROWS).min(count as usize) as u32;
+        }
+        count.max(self.rows).max(1)
+    }
+
+    // As many as have about so many places, or as are some times the rows of the basis.
+    fn rows_by_places(&self, basis: u32, columns: usize) -> u32 {
         let least = (self.places as usize / columns.max(1)) as u32;
         let wanted = basis.saturating_mul(TIMES_THE_BASIS);
         let most = least.saturating_mul(TIMES_THE_PLACES);
-        wanted.max(least).min(most).max(self.rows).max(1)
+        wanted.max(least).min(most)
     }
 }
 
@@ -56,9 +70,13 @@ impl ChunkSize {
 /// workers, at least one. For a modulus that is not prime they are some rows of its width, no more than it has.
 ///
 /// What is left is never stored whole. The rows are reduced chunk by chunk; each chunk is put below the basis of those before it,
-/// and both are eliminated densely (`dense_finish::finish_right`): the right factor is the next basis. The memory is that of a chunk,
-/// of some 2^21 to 2^24 places in the columns that are left. Where these are few a chunk has four times the rows of the basis, so that
-/// eliminating the basis again takes an eighth of the time.
+/// and both are eliminated densely (`dense_finish::finish_right`): the right factor is the next basis. Once it has a row for each column
+/// that is left, the rows behind are not reduced; a chunk is not eliminated if the basis has a row for each column in which one of the
+/// two has an entry.
+///
+/// The memory is that of the basis and of a chunk, which has some 2^22 to 2^24 places in the columns that are left. While rows are
+/// independent a chunk has little more rows than the basis lacks. After many that were not it has four times the rows of the basis, if
+/// the columns are few, so that eliminating the basis again takes an eighth of the time.
 pub fn rest_basis<C: Dealing + Finishing>(
     crew: &C,
     alloc: Global,
@@ -114,18 +132,24 @@ fn basis_of<C: Dealing + Finishing>(
     let _ = pass.reducer.pairs().len();
     let columns = columns_left(alloc, pass.reducer)?;
     let mut basis = Rows::with_room(alloc, rows.modulus(), rows.width(), 0, 0)?;
+    let mut independent = true;
     let mut from = 0;
-    while from < height {
-        let count = size.rows_below(basis.height(), columns);
+    // A basis with a row for each column that is left has the row space of all rows.
+    while from < height && (basis.height() as usize) < columns {
+        let before = basis.height();
+        let count = size.rows_below(before, columns, independent);
         let to = end_of(pass.reducer, pass.pivot_rows, from, count);
         basis = basis_with(crew, alloc, pass, workers, basis, from, to)?;
+        independent = basis.height().saturating_sub(before) >= count / 2;
         from = to;
     }
     Ok(basis)
 }
 
 // How many columns may have an entry in what is left.
-fn columns_left(alloc: Global, reducer: &RowReducer) -> Result<usize, AllocError> {
+fn columns_left(alloc: Global, reducer: &RowReducer) -> Result<usize, AllocError>
+    ensures { IfOk result (HasColumnsLeft reducer.now.rows.matrix reducer.now.pairs) }
+{
     let pivots = reducer.pairs().len();
     let occupied = reducer.rows().occupied(alloc)?.len();
     Ok(occupied.saturating_sub(pivots))

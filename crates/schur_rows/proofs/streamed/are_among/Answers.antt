@@ -1,4 +1,4 @@
-use Rattle.std.proofs.Common.{◌+◌, ◌<◌, ◌∙◌, ap, arith, inl, inr, not, subst, sym, slice_index}
+use Rattle.std.proofs.Common.{◌∙◌, ap, arith, inl, inr, not, subst, sym, slice_index}
 use Rattle.std.specs.List.{Contains}
 use Rattle.std.proofs.lemmas.Bool.{cases_eq, false≢true}
 use Rattle.schur_rows.proofs.Numbers.{found_among, not_among}
