@@ -5,15 +5,10 @@ use Rattle.residue_words.specs.Matrix.{Matrix}
 use Rattle.row_space.specs.Echelon.{IsIndependent, SameSpan}
 use Rattle.row_space.proofs.Spans.{same_span_chained}
 use Rattle.sparse_rows.specs.Rows.{ResidueMatrix}
-use Rattle.weight_order.proofs.Selecting.{selected_span}
+use Rattle.weight_order.proofs.Turning.{turned_span, turned_width}
 use Rattle.echelon_form.specs.Form.{Form, IsFormOf}
 use Rattle.pluq_factor.specs.Basis.{IsBasis}
-use Rattle.pluq_factor.specs.Turned.{HasFilledRows}
-
--- the rows that have an entry have the row space
-span_filled : {R T : ResidueMatrix} → HasFilledRows R T → IsPrime R.modulus → SameSpan R.modulus R.matrix T.matrix
-span_filled {R} {T} h prime =
-    subst (SameSpan R.modulus R.matrix) (sym h.matrix) (selected_span R.modulus R.matrix h.numbers h.sound h.filled prime.two_or_more)
+use Rattle.weight_order.specs.Turned.{HasFilledRows}
 
 -- the form of rows with the row space of A is the form of A
 pub form_chained : {p : ℕ} {A : Matrix} {U : ResidueMatrix} {f : Form} → U.modulus ≡ p → U.matrix.width ≡ A.width → (IsPrime p → SameSpan p A U.matrix) → IsFormOf U.modulus U.matrix f → IsFormOf p A f
@@ -34,7 +29,7 @@ form_chained {p} {A} {U} {f} modulus width span h =
     }
 
 pub form_turned : {R T : ResidueMatrix} {f : Form} → HasFilledRows R T → IsFormOf T.modulus T.matrix f → IsFormOf R.modulus R.matrix f
-form_turned {R} {T} {f} h = form_chained h.modulus (ap (λ (M : Matrix). M.width) h.matrix) (span_filled h)
+form_turned {R} {T} {f} h = form_chained h.modulus (turned_width h) (turned_span h)
 
 pub form_based : {p : ℕ} {A : Matrix} {U : ResidueMatrix} {f : Form} → IsBasis p A U → IsFormOf U.modulus U.matrix f → IsFormOf p A f
 form_based {p} {A} {U} {f} h = form_chained h.modulus h.width h.span
@@ -44,8 +39,8 @@ pub basis_turned : {R T U : ResidueMatrix} → HasFilledRows R T → IsBasis T.m
 basis_turned {R} {T} {U} h b =
     let back : IsPrime R.modulus → IsPrime T.modulus = subst IsPrime (sym h.modulus) in record {
       modulus = b.modulus ∙ h.modulus;
-      width = b.width ∙ ap (λ (M : Matrix). M.width) h.matrix;
+      width = b.width ∙ turned_width h;
       independent = λ prime. subst (λ p. IsIndependent p U.matrix) h.modulus (b.independent (back prime));
-      span = λ prime. same_span_chained R.modulus R.matrix T.matrix U.matrix (span_filled h prime)
+      span = λ prime. same_span_chained R.modulus R.matrix T.matrix U.matrix (turned_span h prime)
           (subst (λ p. SameSpan p T.matrix U.matrix) h.modulus (b.span (back prime)));
     }

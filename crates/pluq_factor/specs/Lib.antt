@@ -6,4 +6,3 @@ pub mod Laws
 pub mod Rounds
 pub mod Staged
 pub mod RoundPivots
-pub mod Turned

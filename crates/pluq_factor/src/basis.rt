@@ -8,11 +8,11 @@ use crate::eliminating::Eliminating;
 use crate::extent::Extent;
 use crate::plan::Plan;
 use crate::round_pivots::{Left, Rest, take_left};
-use crate::turned_rows::last_first;
 use dense_finish::{RightFactor, finish_right};
 use echelon_form::Echelon;
 use sparse_rows::{LARGEST_SIZE, Rows};
 use std::alloc::{AllocError, Global};
+use weight_order::last_first;
 
 /// Rows of a matrix's row space, by a plan of at least one worker: for a prime modulus they are independent and span it. They are the
 /// pivots' rows of each round, and those of the finish; no coefficients are kept. For a modulus that is not prime they are some

@@ -19,8 +19,11 @@ const MOST_STORED: u64 = 1 << 28;
 // Bytes of an entry that is stored.
 const ENTRY_BYTES: u64 = 12;
 
-// Bytes of a place of a dense basis: as it is kept, and as it is eliminated with a chunk.
-const BASIS_BYTES: u64 = 24;
+// Bytes of a place of a dense block.
+const BLOCK_BYTES: u64 = 4;
+
+// Bytes of a place of a dense basis: as it is kept, half full, and as it is eliminated with a chunk.
+const BASIS_BYTES: u64 = 12;
 
 // How many rows are reduced to see how full they are.
 const SAMPLES: u32 = 32;
@@ -44,8 +47,8 @@ impl Extent {
     }
 
     // Whether what pivots leave is better taken into a dense basis of its row space than stored: samples say that a round would be no
-    // gain, or that there is too much of it, and the basis takes less memory. A chunk stores all of its rows, so those without an
-    // entry must not be many.
+    // gain, so that all of it would become a block, or that there is too much of it, and the basis takes less memory. A chunk stores all
+    // of its rows, so those without an entry must not be many.
     pub(crate) fn is_streamed(alloc: Global, reducer: &RowReducer) -> Result<bool, AllocError> {
         let rows = reducer.rows();
         if has_few_entries(rows) {
@@ -56,9 +59,13 @@ impl Extent {
         let width = rows.occupied(alloc)?.len().saturating_sub(pivots) as u64;
         let mean = mean_rest(alloc, reducer, SAMPLES)?;
         let stored = mean.saturating_mul(height);
-        let basis = width.saturating_mul(width);
-        let is_smaller = basis.saturating_mul(BASIS_BYTES) <= stored.saturating_mul(ENTRY_BYTES);
-        Ok(is_smaller && (width / ROUND_SHARE <= mean || MOST_STORED < stored))
+        let is_dense = width / ROUND_SHARE <= mean;
+        let block = if is_dense { height } else { 0 };
+        let rest = stored
+            .saturating_mul(ENTRY_BYTES)
+            .saturating_add(block.saturating_mul(width).saturating_mul(BLOCK_BYTES));
+        let basis = width.saturating_mul(width).saturating_mul(BASIS_BYTES);
+        Ok(basis <= rest && (is_dense || MOST_STORED < stored))
     }
 
     // Whether a dense elimination is cheaper, in memory that is at most some constant times that of the entries.

@@ -6,10 +6,10 @@ use crate::basis::row_basis;
 use crate::eliminating::Eliminating;
 use crate::extent::Extent;
 use crate::plan::Plan;
-use crate::turned_rows::last_first;
 use echelon_form::{Echelon, Settling};
 use sparse_rows::Rows;
 use std::alloc::{AllocError, Global};
+use weight_order::last_first;
 
 /// The reduced row echelon form of a matrix, the same for every plan, of at least one worker. For a modulus that is not prime it is
 /// some rows of that width.

@@ -13,7 +13,6 @@ mod form_by_rounds;
 mod plan;
 mod rank_by_rounds;
 mod round_pivots;
-mod turned_rows;
 
 ghost use Rattle.pluq_factor.specs.Example.{AreWorkedFactors};
 ghost use Rattle.pluq_factor.specs.Laws.{FactorsKeepRows, SelectedIsOne, StagedGoesOn};

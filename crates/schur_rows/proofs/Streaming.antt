@@ -1,23 +1,23 @@
 -- A basis of what a round leaves, made chunk by chunk.
-use Rattle.std.proofs.Common.{ℕ, ◌≡◌, ◌+◌, ◌<◌, ◌≤◌, ◌∙◌, Bool, false, List, [], ◌++◌, length, sym, refl, ap, subst, arith}
+use Rattle.std.proofs.Common.{ℕ, ◌≡◌, ◌+◌, ◌<◌, ◌≤◌, ◌∙◌, Bool, false, List, [], ◌++◌, length, slice_index, sym, refl, ap, subst, arith}
 use Rattle.std.proofs.lemmas.Bool.{false≢true}
 use Rattle.std.proofs.lemmas.List.{nil_from_length}
 use Rattle.residue_words.specs.Residues.{IsPrime}
 use Rattle.residue_words.specs.Matrix.{Matrix, IsCombination, IsMatrix, IsVector, row, zeros}
 use Rattle.residue_words.proofs.Vectors.{combination_through, row_combination, vector_equal, zeros_vector}
-use Rattle.row_space.specs.Echelon.{HasRank, SameSpan}
-use Rattle.row_space.proofs.Counting.{span_height}
+use Rattle.row_space.specs.Echelon.{HasRank, IsIndependent, SameSpan}
+use Rattle.row_space.proofs.Counting.{independent_height, span_height}
 use Rattle.row_space.proofs.Exists.{rref_of_each}
 use Rattle.row_space.proofs.Rows.{rank_of_independent}
-use Rattle.row_space.proofs.Spans.{same_span_chained, same_span_of_rows}
+use Rattle.row_space.proofs.Spans.{places_independent, same_span_chained, same_span_of_rows}
 use Rattle.sparse_rows.specs.Rows.{ResidueMatrix, above}
 use Rattle.pivot_table.specs.Order.{Triangular}
 use Rattle.triangular_solve.specs.Triangle.{TriangleState}
-use Rattle.dense_finish.specs.Factors.{IsFactored, IsRightFactored}
-use Rattle.dense_finish.specs.declared.factors.Factors.{Factors}
+use Rattle.dense_finish.specs.Factors.{IsRightFactored}
 use Rattle.dense_finish.specs.declared.right_factor.RightFactor.{RightFactor}
+use Rattle.echelon_form.specs.Form.{Form, IsFormOf}
 use Rattle.schur_rows.specs.Parts.{IsPartTo}
-use Rattle.schur_rows.specs.Streamed.{IsRestBasis, IsBasisUpTo, IsFullFor, IsInColumns}
+use Rattle.schur_rows.specs.Streamed.{IsBasisOf, IsBasisUpTo, IsFullFor, IsInColumns, IsRestBasis}
 use Rattle.schur_rows.specs.declared.round.SchurRows.{SchurRows}
 use Rattle.schur_rows.proofs.Above.{above_first, above_matrix, above_second, each_of}
 use Rattle.schur_rows.proofs.FactorRows.{factor_rows_independent, factor_rows_span, fit_few}
@@ -102,34 +102,88 @@ without_coefficients {t} {kept} {from} {to} {s} h = (
   h.1,
 )
 
--- one chunk more
-pub basis_more : {t : TriangleState} {from to : ℕ} {old stacked : ResidueMatrix} {left : SchurRows} {f : RightFactor} → IsBasisUpTo t from old → IsPartTo t false from to left → stacked.modulus ≡ old.modulus →
-    stacked.matrix ≡ above old.matrix left.rows.matrix → IsRightFactored stacked.modulus stacked.matrix f → IsBasisUpTo t to f.u
-basis_more {t} {from} {to} {old} {stacked} {left} {f} h g modulus is factored =
-    let p : ℕ = t.rows.modulus in
-    let N : Matrix = above old.matrix left.rows.matrix in
-    let whole : Factors = record { pivots = f.pivots; l = factored.0; u = f.u } in
-    let at : IsFactored p N whole = subst (λ p. IsFactored p N whole) (modulus ∙ h.modulus) (subst (λ N. IsFactored stacked.modulus N whole) is factored.1) in
-    let mn : IsMatrix p N = above_matrix h.matrix g.0.rest (g.0.width ∙ sym h.width) in
-    let both : SchurRows = record {
-      rows = record { modulus = h.part.rows.modulus; matrix = above h.part.rows.matrix left.rows.matrix };
-      coefficients = record { modulus = h.part.coefficients.modulus; matrix = above h.part.coefficients.matrix left.coefficients.matrix };
-    } in
-    record {
-      modulus = at.right_modulus;
-      matrix = at.fit.right;
-      width = at.fit.right_width ∙ h.width;
-      height = omega (arith, fit_few at.fit, at.fit.right_height, h.height, g.1);
-      part = both;
-      is_part = (
-        part_join t false 0 from h.part left both h.is_part.0 g.0 h.is_part.1 (record { modulus = refl; rows = refl; coefficient_modulus = refl; coefficients = refl }),
-        omega (arith, h.is_part.1, g.1),
-      );
-      independent = λ prime. factor_rows_independent prime mn (at.factors prime);
-      span = λ prime. same_span_chained p (above h.part.rows.matrix left.rows.matrix) N f.u.matrix
-          (below_same prime.two_or_more h.is_part.0.rest h.matrix g.0.rest (h.width ∙ sym h.is_part.0.width) (g.0.width ∙ sym h.is_part.0.width) (h.span prime))
-          (factor_rows_span prime mn (at.factors prime));
-    }
+-- the right factor is a basis
+pub basis_factored : {A : ResidueMatrix} {f : RightFactor} → IsMatrix A.modulus A.matrix → IsRightFactored A.modulus A.matrix f → IsBasisOf A f.u
+basis_factored {A} {f} m factored = let h = factored.1 in record {
+  modulus = h.right_modulus;
+  matrix = h.fit.right;
+  width = h.fit.right_width;
+  height = omega (arith, fit_few h.fit, h.fit.right_height);
+  independent = λ prime. factor_rows_independent prime m (h.factors prime);
+  span = λ prime. factor_rows_span prime m (h.factors prime);
+}
+
+-- so are the rows of the form, of which there are no more
+module _ {A U : ResidueMatrix} {f : Form} (m : IsMatrix A.modulus A.matrix) (h : IsFormOf A.modulus A.matrix f) (modulus : U.modulus ≡ f.modulus) (same : U.matrix ≡ f.matrix) where
+  form_independent : IsPrime A.modulus → IsIndependent A.modulus U.matrix
+  form_independent prime = subst (IsIndependent A.modulus) (sym same) (let two = prime.two_or_more in
+      places_independent A.modulus (λ j lead. j < lead) f.matrix (slice_index f.leads) (omega arith) h.leads.1)
+
+  form_span : IsPrime A.modulus → SameSpan A.modulus A.matrix U.matrix
+  form_span prime = subst (SameSpan A.modulus A.matrix) (sym same) (h.rref prime).span
+
+  pub basis_form : U.matrix.height ≤ A.matrix.height → IsBasisOf A U
+  basis_form few = record {
+    modulus = modulus ∙ h.modulus;
+    matrix = subst (IsMatrix A.modulus) (sym same) h.matrix;
+    width = ap (λ (M : Matrix). M.width) same ∙ h.width;
+    height = few;
+    independent = form_independent;
+    span = form_span;
+  }
+
+  -- rows of which the form has more, which a prime modulus excludes, are a basis of themselves
+  pub basis_itself : A.matrix.height < U.matrix.height → IsBasisOf A A
+  basis_itself more = record {
+    modulus = refl;
+    matrix = m;
+    width = refl;
+    height = omega arith;
+    independent = λ prime. absurd (omega (arith, more, independent_height A.modulus U.matrix A.matrix prime.two_or_more (form_independent prime) (λ v. (form_span prime v).1)));
+    span = λ prime v. ((λ y. y), (λ y. y));
+  }
+
+pub span_itself : (p : ℕ) (A : Matrix) → SameSpan p A A
+span_itself p A = λ v. ((λ y. y), (λ y. y))
+
+-- one chunk more below rows Q with the row space of the basis
+module _ {t : TriangleState} {from to : ℕ} {old Q : ResidueMatrix} {left : SchurRows} (h : IsBasisUpTo t from old) (g : IsPartTo t false from to left) (modulus : Q.modulus ≡ t.rows.modulus) (mq : IsMatrix t.rows.modulus Q.matrix)
+    (wide : Q.matrix.width ≡ t.rows.matrix.width) (few : Q.matrix.height ≤ from) (span : IsPrime t.rows.modulus → SameSpan t.rows.modulus old.matrix Q.matrix) where
+  abbrev p : ℕ
+  p = t.rows.modulus
+
+  pub both_sound : {both : ResidueMatrix} → both.modulus ≡ Q.modulus → both.matrix ≡ above Q.matrix left.rows.matrix → IsMatrix both.modulus both.matrix
+  both_sound {both} stacked is =
+      subst (λ M. IsMatrix both.modulus M) (sym is) (subst (λ q. IsMatrix q (above Q.matrix left.rows.matrix)) (sym (stacked ∙ modulus)) (above_matrix mq g.0.rest (g.0.width ∙ sym wide)))
+
+  both : SchurRows
+  both = record {
+    rows = record { modulus = h.part.rows.modulus; matrix = above h.part.rows.matrix left.rows.matrix };
+    coefficients = record { modulus = h.part.coefficients.modulus; matrix = above h.part.coefficients.matrix left.coefficients.matrix };
+  }
+
+  whole : {next : ResidueMatrix} → IsBasisOf (record { modulus = p; matrix = above Q.matrix left.rows.matrix }) next → IsBasisUpTo t to next
+  unfolding both
+  whole {next} b = record {
+    modulus = b.modulus;
+    matrix = b.matrix;
+    width = b.width ∙ wide;
+    height = omega (arith, b.height, few, g.0.height, g.1);
+    part = both;
+    is_part = (
+      part_join t false 0 from h.part left both h.is_part.0 g.0 h.is_part.1 (record { modulus = refl; rows = refl; coefficient_modulus = refl; coefficients = refl }),
+      omega (arith, h.is_part.1, g.1),
+    );
+    independent = b.independent;
+    span = λ prime. same_span_chained p (above h.part.rows.matrix left.rows.matrix) (above Q.matrix left.rows.matrix) next.matrix
+        (below_same prime.two_or_more h.is_part.0.rest mq g.0.rest (wide ∙ sym h.is_part.0.width) (g.0.width ∙ sym h.is_part.0.width)
+        (same_span_chained p h.part.rows.matrix old.matrix Q.matrix (h.span prime) (span prime)))
+        (b.span prime);
+  }
+
+  pub basis_more : {both next : ResidueMatrix} → both.modulus ≡ Q.modulus → both.matrix ≡ above Q.matrix left.rows.matrix → IsBasisOf both next → IsBasisUpTo t to next
+  basis_more {both} {next} stacked is b =
+      whole (subst (λ M. IsBasisOf (record { modulus = p; matrix = M }) next) is (subst (λ q. IsBasisOf (record { modulus = q; matrix = both.matrix }) next) (stacked ∙ modulus) b))
 
 -- a chunk whose entries stand in columns that the basis fills
 pub basis_kept : {t : TriangleState} {from to : ℕ} {old : ResidueMatrix} {left : SchurRows} → IsBasisUpTo t from old → IsPartTo t false from to left → IsFullFor left.rows.matrix old.matrix → IsBasisUpTo t to old

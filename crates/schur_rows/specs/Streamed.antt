@@ -25,6 +25,15 @@ pub record IsRestBasis (t : TriangleState) (U : ResidueMatrix) : Type 0 where
   pub span : IsPrime t.rows.modulus → (B : Matrix) × IsComplement t.rows.modulus t.rows.matrix t.pairs B
       × SameSpan t.rows.modulus B U.matrix
 
+-- rows of A's width, no more than it has, which for a prime modulus are independent and have its row space
+pub record IsBasisOf (A U : ResidueMatrix) : Type 0 where
+  pub modulus : U.modulus ≡ A.modulus
+  pub matrix : IsMatrix A.modulus U.matrix
+  pub width : U.matrix.width ≡ A.matrix.width
+  pub height : U.matrix.height ≤ A.matrix.height
+  pub independent : IsPrime A.modulus → IsIndependent A.modulus U.matrix
+  pub span : IsPrime A.modulus → SameSpan A.modulus A.matrix U.matrix
+
 -- the same for what is left of the rows up to `to`
 pub record IsBasisUpTo (t : TriangleState) (to : ℕ) (U : ResidueMatrix) : Type 0 where
   pub modulus : U.modulus ≡ t.rows.modulus

@@ -3,7 +3,7 @@ ghost use Rattle.std.specs.Prelude.{◌≡◌, ◌<◌, ◌≤◌, ◌↔◌, �
 ghost use Rattle.sparse_rows.specs.declared.rows.TheConstants.{LARGEST_SIZE};
 ghost use Rattle.sparse_rows.specs.Rows.{AreRising, above};
 ghost use Rattle.schur_rows.specs.PivotNumbers.{HasNumbers};
-ghost use Rattle.schur_rows.specs.Streamed.{IsRestBasis, HasColumnsLeft, IsBasisUpTo, IsFullFor};
+ghost use Rattle.schur_rows.specs.Streamed.{IsBasisOf, IsBasisUpTo, IsFullFor, IsRestBasis, HasColumnsLeft};
 
 use crate::dealing::Dealing;
 use crate::pass::Pass;
@@ -13,9 +13,12 @@ use crate::row_ranges::end_of;
 use crate::row_reducer::RowReducer;
 use crate::sampling::total_left;
 use crate::workers::left_between;
+use crew::Alone;
 use dense_finish::{Finishing, RightFactor, finish_right};
+use echelon_form::Echelon;
 use sparse_rows::Rows;
 use std::alloc::{AllocError, Global};
+use weight_order::last_first;
 
 /// How many rows a chunk has, of those that have an entry and are no pivot's. Any two numbers will do: they decide about time and
 /// memory alone.
@@ -40,29 +43,28 @@ const TIMES_THE_BASIS: u32 = 4;
 // But so many times the places at most.
 const TIMES_THE_PLACES: u32 = 4;
 
+// A basis lacks few rows if they are no more than one in so many of those that it has.
+const FEW_LACKING: usize = 16;
+
 // While rows are independent a chunk has so many more of them than the basis lacks, since a few may not be.
 const SPARE_ROWS: usize = 32;
 
 impl ChunkSize {
-    // How many rows the next chunk has on so many columns, below a basis of so many rows; while rows are independent it is no more than
-    // the basis lacks, and some.
+    // How many rows the next chunk has on so many columns, below a basis of so many rows: some times as many after rows that were not
+    // independent. While rows are independent, and if the basis lacks few, it is no more than the basis lacks, and some.
     fn rows_below(&self, basis: u32, columns: usize, independent: bool) -> u32
         ensures { 1 ≤ result }
     {
-        let mut count = self.rows_by_places(basis, columns);
-        if independent {
+        let least = (self.places as usize / columns.max(1)) as u32;
+        let most = least.saturating_mul(TIMES_THE_PLACES);
+        let mut count = basis.saturating_mul(TIMES_THE_BASIS).min(most);
+        if independent || lacks_few(basis, columns) {
             let lacking = columns.saturating_sub(basis as usize);
-            count = lacking.saturating_add(SPARE_ROWS).min(count as usize) as u32;
+            count = lacking
+                .saturating_add(SPARE_ROWS)
+                .min(count.max(least) as usize) as u32;
         }
         count.max(self.rows).max(1)
-    }
-
-    // As many as have about so many places, or as are some times the rows of the basis.
-    fn rows_by_places(&self, basis: u32, columns: usize) -> u32 {
-        let least = (self.places as usize / columns.max(1)) as u32;
-        let wanted = basis.saturating_mul(TIMES_THE_BASIS);
-        let most = least.saturating_mul(TIMES_THE_PLACES);
-        wanted.max(least).min(most)
     }
 }
 
@@ -224,7 +226,34 @@ fn basis_with<C: Dealing + Finishing>(
     if full {
         return Ok(basis);
     }
-    let stacked = stacked(basis, below)?;
-    let RightFactor { u, .. } = finish_right(crew, alloc, stacked, workers)?;
+    if lacks_few(basis.height(), basis.occupied(alloc)?.len()) {
+        // From the last to the first, so that each is reduced by rows that are.
+        let turned = last_first(alloc, &basis)?;
+        drop(basis);
+        let both = stacked(turned, below)?;
+        let next = reduced_basis(alloc, both)?;
+        return Ok(next);
+    }
+    let both = stacked(basis, below)?;
+    let RightFactor { u, .. } = finish_right(crew, alloc, both, workers)?;
     Ok(u)
+}
+
+// Whether a basis of so many rows has nearly one for each of so many columns, so that its reduced form has few entries.
+fn lacks_few(basis: u32, columns: usize) -> bool {
+    0 < basis && columns.saturating_sub(basis as usize) <= basis as usize / FEW_LACKING
+}
+
+// The reduced echelon form of these rows, by their entries: a row whose columns are those of leads costs no more than the form has
+// entries in these rows.
+fn reduced_basis(alloc: Global, rows: Rows) -> Result<Rows, AllocError>
+    ensures { IfOk result (IsBasisOf rows) }
+{
+    let form = Echelon::made_by(&Alone, alloc, &rows, 1)?;
+    let basis = form.into_rows();
+    // It has no more rows, but if the modulus isn't prime.
+    if basis.height() > rows.height() {
+        return Ok(rows);
+    }
+    Ok(basis)
 }

@@ -3,4 +3,5 @@ pub mod Keeping
 pub mod Selecting
 pub mod Shape
 pub mod Transposing
+pub mod Turning
 pub mod Weights

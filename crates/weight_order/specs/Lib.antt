@@ -2,3 +2,4 @@ pub mod Example
 pub mod Keeping
 pub mod Laws
 pub mod Shape
+pub mod Turned

@@ -9,6 +9,7 @@ ghost use Rattle.weight_order.specs.Example.{IsTurnedExample};
 ghost use Rattle.weight_order.specs.Keeping.{AreFilledInSomeOrder, KeepsRank};
 ghost use Rattle.weight_order.specs.Laws.{SelectingKeepsRank, SelectingKeepsSpan, TransposingKeepsRank};
 ghost use Rattle.weight_order.specs.Shape.{HasFewRisingRows, HasRarestFirst, HasRowsByWeight};
+ghost use Rattle.weight_order.specs.Turned.{HasFilledRows};
 
 pub use filled_rows::RowOrder;
 use filled_rows::rarest_first;
@@ -29,6 +30,17 @@ pub fn by_weight(alloc: Global, rows: &Rows, order: RowOrder) -> Result<Rows, Al
 {
     let columns = columns_by_weight(alloc, rows)?;
     from_columns(alloc, columns, order)
+}
+
+/// The rows that have an entry, from the last to the first. They have the same row space.
+pub fn last_first(alloc: Global, rows: &Rows) -> Result<Rows, AllocError>
+    ensures { IfOk result (HasFilledRows rows.now) }
+{
+    // The contracts of these calls tell that the rows are a matrix of residues, and bound their number.
+    let _ = (rows.height(), rows.modulus());
+    let order = RowOrder::LastFirst.of_filled(alloc, rows)?;
+    let turned = rows.select(alloc, &order)?;
+    Ok(turned)
 }
 
 /// For a prime modulus a matrix and its transpose have the same rank.

@@ -1,7 +1,7 @@
 use Rattle.std.proofs.Common.{subst, sym, arith}
 use Rattle.weight_order.specs.Keeping.{AreFilledInSomeOrder}
 use Rattle.weight_order.proofs.Keeping.{each_filled, no_more}
-use Rattle.pluq_factor.proofs.turned_rows.last_first.Goals as goal
+use Rattle.weight_order.proofs.last_first.Goals as goal
 
 pub select-requires-clause-many : goal.select-requires-clause-many
 select-requires-clause-many c =
@@ -18,5 +18,6 @@ returns c = record {
   modulus = c.in_ok-turned.ensures.modulus;
   numbers = c.deref.result.now;
   filled = each_filled (subst (AreFilledInSomeOrder c.args.rows.now.matrix) (sym c.deref.ensures.value) c.in_ok-order.ensures);
+  few = no_more (subst (AreFilledInSomeOrder c.args.rows.now.matrix) (sym c.deref.ensures.value) c.in_ok-order.ensures);
   matrix = c.in_ok-turned.ensures.matrix;
 }
