@@ -19,8 +19,9 @@ use std::alloc::{AllocError, Global};
 /// then on. After want of memory it does so too, if it was the reader that wanted memory; if it was the matrix, the reader stands
 /// behind the last line that it took, where `open_text` says whether the text is still open.
 ///
-/// Memory is wanted for 16 KB of entries that are taken together, for all entries, 16 bytes each and 36 for a moment where their room grows,
-/// and then for the matrix beside them; the time is that of reading the lines and of sorting each row.
+/// Memory is wanted for 16 KB of entries that are taken together, and for all entries as a `RowsBuilder` takes it: where they stand row after
+/// row by ascending columns, and none is 0, that is the matrix with room for a quarter more, or twice that for a moment where it grows. Else it
+/// is 16 bytes an entry, 36 for a moment, and then the matrix beside them, and each row is sorted.
 pub fn read_rows<S: Source>(
     reader: &mut Reader,
     alloc: Global,

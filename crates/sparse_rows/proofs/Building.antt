@@ -1,18 +1,20 @@
 -- The matrix of what was pushed is that of the cells' sums.
-use Rattle.std.proofs.Common.{ℕ, ◌≡◌, ◌+◌, ◌%◌, ◌<◌, ◌≤◌, ◌&&◌, true, inl, inr, List, [], ◌∷◌, map, cond, eqb, sym, refl, ap, ap₂, ◌∙◌, arith}
+use Rattle.std.proofs.Common.{ℕ, ◌≡◌, ◌+◌, ◌%◌, ◌<◌, ◌≤◌, ◌&&◌, true, inl, inr, List, [], ◌∷◌, ◌++◌, append_assoc, map, cond, eqb, get_or, subst, sym, refl, ap, ap₂, ◌∙◌, arith}
 use Rattle.std.specs.List.{All}
 use Rattle.std.specs.List.Sorted.{IsPermutation}
 use Rattle.std.proofs.lemmas.Bool.{cases_eq, cond-true, cond-false, eq-eqb, ne_eqb}
-use Rattle.std.proofs.lemmas.List.Elements.{All-weaker}
-use Rattle.std.proofs.lemmas.List.Sorted.{All-permutation, sum_by-IsPermutation}
+use Rattle.std.proofs.lemmas.List.Elements.{All-get_or, All-push, All-weaker}
+use Rattle.std.proofs.lemmas.List.Sorted.{All-permutation, IsPermutation-refl, sum_by-IsPermutation}
 use Rattle.std.proofs.lemmas.List.Sums.{sum_by-cons}
+use native.Mathlib.Nat.{mod-eq_of_lt, zero-mod}
 use Rattle.residue_words.specs.Matrix.{list_of}
 use Rattle.residue_words.proofs.Vectors.{list_of_equal}
 use Rattle.sparse_rows.specs.declared.cells.Cell.{Cell}
-use Rattle.sparse_rows.specs.Cells.{AreSums, IsWithin, column_of, place_of, row_of, triple_of, weight}
+use Rattle.sparse_rows.specs.Cells.{AreEntries, ArePushed, AreSums, IsWithin, column_of, place_of, row_of, triple_of, weight}
 use Rattle.sparse_rows.specs.Rows.{built, matrix_by, sum_at}
+use Rattle.sparse_rows.proofs.Cuts.{cell_at}
 use Rattle.sparse_rows.proofs.Spread.{map_range_equal}
-use Rattle.sparse_rows.proofs.Summing.{kept_places}
+use Rattle.sparse_rows.proofs.Summing.{kept_places, weight_here, weight_none}
 
 -- equal entries make equal matrices
 pub matrix_by_equal : (m n : ℕ) (f g : ℕ → ℕ → ℕ) → ((i j : ℕ) → i < m → j < n → f i j ≡ g i j) → matrix_by m n f ≡ matrix_by m n g
@@ -50,3 +52,32 @@ pub sums_built : (p m n : ℕ) (pushed sorted kept : List Cell) → n ≤ 214748
     matrix_by m n (λ i j. weight (place_of i j) kept) ≡ built p m n (map triple_of pushed)
 sums_built p m n pushed sorted kept small same sums = matrix_by_equal m n _ _ (λ i j a b.
     sums.sums (place_of i j) ∙ ap (λ t. t % p) (sum_by-IsPermutation (λ c. cond (eqb c.place (place_of i j)) c.val 0) pushed sorted same ∙ sym (sum_at_weight i j pushed (omega arith))))
+
+-- entries are their own sums
+entries_sums : (p : ℕ) (cells : List Cell) → AreEntries p cells → AreSums p cells cells
+entries_sums p cells e = record {
+  entries = e;
+  sums = λ t. elim (cell_at t cells) [
+    | inl none ↦ weight_none t cells none ∙ sym (ap (λ w. w % p) (weight_none t cells none) ∙ zero-mod p)
+    | inr k ↦
+        let d : Cell = record { place = 0; val = 0 } in
+        let here : weight t cells ≡ (get_or cells k.0 d).val = ap (λ t. weight t cells) (sym (k.2 d)) ∙ weight_here p cells k.0 d e k.1 in
+        let low : weight t cells < p = subst (λ w. w < p) (sym here) (All-get_or (λ c. c.val < p) cells k.0 d k.1 e.residues) in
+        sym (mod-eq_of_lt low)
+  ];
+}
+
+-- so they make the matrix that is built of them
+pub entries_built : (p m n : ℕ) (cells : List Cell) → n ≤ 2147483648 → AreEntries p cells → matrix_by m n (λ i j. weight (place_of i j) cells) ≡ built p m n (map triple_of cells)
+entries_built p m n cells small e = sums_built p m n cells cells cells small (IsPermutation-refl cells) (entries_sums p cells e)
+
+-- one cell more behind others
+pub pushed_more : (p m n : ℕ) (first cells : List Cell) (c : Cell) → ArePushed p m n (first ++ cells) → IsWithin m n c → c.val < p → ArePushed p m n (first ++ (cells ++ c ∷ []))
+pushed_more p m n first cells c h within residue = subst (ArePushed p m n) (append_assoc first cells (c ∷ [])) (record {
+  height_small = h.height_small;
+  width_small = h.width_small;
+  two_or_more = h.two_or_more;
+  in_range = h.in_range;
+  within = All-push (IsWithin m n) (first ++ cells) c h.within within;
+  residues = All-push (λ c. c.val < p) (first ++ cells) c h.residues residue;
+})

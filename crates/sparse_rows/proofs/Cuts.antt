@@ -14,7 +14,7 @@ use Rattle.sparse_rows.proofs.Spread.{entry_cover, entry_here, map_range_equal}
 use Rattle.sparse_rows.proofs.Summing.{weight_here, weight_none}
 
 -- what holds of each item of a list, and of x at the places behind it, holds of the list with n times x more
-each_resized : (P : ℕ → ℕ → Type 0) (xs : List ℕ) (n x : ℕ) → ((i : ℕ) → i < length xs → P i (slice_index xs i)) → ((i : ℕ) → length xs ≤ i → i < length xs + n → P i x) →
+pub each_resized : (P : ℕ → ℕ → Type 0) (xs : List ℕ) (n x : ℕ) → ((i : ℕ) → i < length xs → P i (slice_index xs i)) → ((i : ℕ) → length xs ≤ i → i < length xs + n → P i x) →
     (i : ℕ) → i < length xs + n → P i (slice_index (xs ++ replicate n x) i)
 each_resized P xs n x old new i l = elim (cases_lt i (length xs)) [
   | inl b ↦ rw (get_or_append_left xs (replicate n x) 0 i b) (old i b)
@@ -79,7 +79,7 @@ length_range : {X : Type 0} (xs : List X) (a b : ℕ) → b ≤ length xs → le
 length_range {X} xs a b l = length-take-le (b - a) (drop a xs) (omega (arith, length-drop a xs))
 
 -- there is no cell at the place, or one
-cell_at : (t : ℕ) (cells : List Cell) → All (λ c. c.place ≢ t) cells ⊎ ((k : ℕ) × (k < length cells) × ((d : Cell) → (get_or cells k d).place ≡ t))
+pub cell_at : (t : ℕ) (cells : List Cell) → All (λ c. c.place ≢ t) cells ⊎ ((k : ℕ) × (k < length cells) × ((d : Cell) → (get_or cells k d).place ≡ t))
 cell_at t [] = inl (All-nil (λ c. c.place ≢ t))
 cell_at t (c ∷ cells) = elim (cases_eq c.place t) [
   | inl e ↦ inr (0, omega arith, λ d. e)

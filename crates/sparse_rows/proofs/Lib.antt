@@ -10,6 +10,7 @@ pub mod Joining
 pub mod Loops
 pub mod Marking
 pub mod Occurring
+pub mod Ordered
 pub mod Renaming
 pub mod Renumbering
 pub mod Spread

@@ -1,8 +1,8 @@
 -- Cells: values at places, where a matrix has 2^32 places a row.
-use Rattle.std.specs.Prelude.{◌≡◌, ◌<◌, ◌≤◌, ◌+◌, ◌*◌, ◌/◌, ◌%◌, ◌==◌, if◌then◌else◌, ℕ, List, [], ◌∷◌, length, slice_index, slice_index_or, slice_range, All}
+use Rattle.std.specs.Prelude.{◌≡◌, ◌<◌, ◌≤◌, ◌+◌, ◌*◌, ◌-◌, ◌/◌, ◌%◌, ◌==◌, leb, if◌then◌else◌, Bool, true, ℕ, List, [], ◌∷◌, length, map, slice_index, slice_index_or, slice_range, All}
 use Rattle.residue_words.specs.declared.modulus.TheConstants.{MODULUS_BOUND}
 use Rattle.sparse_rows.specs.declared.rows.TheConstants.{LARGEST_SIZE}
-use Rattle.std.specs.List.{sum_by}
+use Rattle.std.specs.List.{range_with_len, sum_by}
 use Rattle.sparse_rows.specs.declared.cells.Cell.{Cell}
 use Rattle.sparse_rows.specs.Rows.{Triple, matrix_by}
 use Rattle.residue_words.specs.Matrix.{Matrix}
@@ -81,3 +81,40 @@ abbrev pub renumbered : List ℕ → List Cell → List Cell
 renumbered [] cs = []
 renumbered (k ∷ ks) [] = []
 renumbered (k ∷ ks) (c ∷ cs) = record { place = place_of k (column_of c); val = c.val } ∷ renumbered ks cs
+
+-- how many of the rows that begin at these places begin at k or before
+abbrev pub begun : ℕ → List ℕ → ℕ
+begun k [] = 0
+begun k (s ∷ starts) = (if leb s k then 1 else 0) + begun k starts
+
+-- the cells with these columns and values, where rows begin at `starts`
+abbrev pub ordered_cell : List ℕ → List ℕ → List ℕ → ℕ → Cell
+ordered_cell starts cols vals k =
+    record { place = place_of (begun k starts - 1) (slice_index cols k); val = slice_index vals k }
+
+unfoldable pub ordered_cells : List ℕ → List ℕ → List ℕ → List Cell
+ordered_cells starts cols vals = map (ordered_cell starts cols vals) (range_with_len 0 (length cols))
+
+-- the places of cells ascend strictly
+abbrev pub AreAscending : List Cell → Type 0
+AreAscending cells = (i k : ℕ) (d : Cell) → i < k → k < length cells →
+    (slice_index_or cells i d).place < (slice_index_or cells k d).place
+
+-- columns and values of cells that ascend strictly by places and lie before `next`, where the rows begin up to that of the last, and
+-- whether no value is 0
+pub record AreOrdered (starts cols vals : List ℕ) (next : ℕ) (nonzero : Bool) : Type 0 where
+  pub long : length cols ≡ length vals
+  pub narrow : All (λ j. j < 4294967296) cols
+  pub ascending : AreAscending (ordered_cells starts cols vals)
+  pub before : All (λ c. c.place < next) (ordered_cells starts cols vals)
+  pub short : length starts ≤ 4294967296
+  pub few : (m : ℕ) → All (λ c. row_of c < m) (ordered_cells starts cols vals) → length starts ≤ m
+  pub passed : All (λ c. row_of c < length starts) (ordered_cells starts cols vals)
+  pub each : (i : ℕ) → i < length starts → IsCut (ordered_cells starts cols vals) i (slice_index starts i)
+  pub positive : nonzero ≡ true → All (λ c. 0 < c.val) (ordered_cells starts cols vals)
+
+-- item k belongs to this one of the parts that begin at `starts`
+pub record IsRowOfPart (starts : List ℕ) (k row : ℕ) : Type 0 where
+  pub begun : row < length starts
+  pub before : slice_index starts row ≤ k
+  pub behind : row + 1 < length starts → k < slice_index starts (row + 1)

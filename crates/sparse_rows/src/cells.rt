@@ -15,13 +15,21 @@ pub(crate) struct Cell {
     pub val: u64,
 }
 
+// The place of row i and column j.
+#[inline(always)]
+pub(crate) fn place_of(i: u32, j: u32) -> u64
+    ensures { result ≡ place_of i j }
+{
+    i as u64 * PLACES + j as u64
+}
+
 impl Cell {
     pub(crate) fn new(i: u32, j: u32, val: u64) -> Cell
         ensures place { result.place ≡ place_of i j }
         ensures val { result.val ≡ val }
     {
         Cell {
-            place: i as u64 * PLACES + j as u64,
+            place: place_of(i, j),
             val,
         }
     }

@@ -14,6 +14,7 @@ mod entry_room;
 mod filled_in_either;
 mod list;
 mod order;
+mod ordered_cells;
 mod rows;
 mod sparse;
 mod stored_rows;

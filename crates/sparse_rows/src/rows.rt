@@ -16,6 +16,7 @@ use crate::cells::{Cell, renumbered, row_numbers};
 use crate::column_lists::{first_from, occurring, place_of, places_among};
 use crate::entry_room::EntryRoom;
 use crate::filled_in_either::FilledInEither;
+use crate::ordered_cells::OrderedCells;
 use crate::sparse::Sparse;
 use crate::stored_rows::StoredRows;
 use residue_words::Modulus;
@@ -284,6 +285,29 @@ impl Rows {
             stored: StoredRows::from_cells(alloc, modulus, rows.len() as u32, width, &cells)?,
             every_row: false,
             rows,
+        })
+    }
+
+    // The same of entries that are kept as rows, none of which is copied. Each row is stored.
+    pub(crate) fn from_ordered(
+        alloc: Global,
+        modulus: Modulus,
+        height: u32,
+        width: u32,
+        cells: OrderedCells,
+    ) -> Result<Rows, AllocError>
+        requires height_small { height ≤ LARGEST_SIZE }
+        requires width_small { width ≤ LARGEST_SIZE }
+        requires within { All (IsWithin height width) cells }
+        requires entries { AreEntries modulus cells }
+        ensures modulus { IfOk result (λ rows. rows.modulus ≡ modulus) }
+        ensures matrix { IfOk result (λ rows. rows.matrix ≡ matrix_of_cells height width cells) }
+    {
+        Ok(Rows {
+            height,
+            stored: StoredRows::from_ordered(modulus, height, width, cells)?,
+            every_row: true,
+            rows: Vec::new(alloc),
         })
     }
 

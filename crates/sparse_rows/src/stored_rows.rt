@@ -13,6 +13,7 @@ use crate::column_lists::{named_columns, occurring, places_among};
 use crate::consecutive_parts::{append_starts, part, part_numbers};
 use crate::counting_sort::group;
 use crate::entry_room::{EntryRoom, write_behind};
+use crate::ordered_cells::OrderedCells;
 use residue_words::Modulus;
 use std::alloc::{AllocError, Global};
 use std::marker::Model;
@@ -147,6 +148,32 @@ impl StoredRows {
             starts: row_starts(alloc, height, cells)?,
             cols: columns(alloc, cells)?,
             vals: values(alloc, cells)?,
+        })
+    }
+
+    // The same of entries that are kept as rows, none of which is copied.
+    pub(crate) fn from_ordered(
+        modulus: Modulus,
+        height: u32,
+        width: u32,
+        cells: OrderedCells,
+    ) -> Result<StoredRows, AllocError>
+        requires height_small { height ≤ LARGEST_SIZE }
+        requires width_small { width ≤ LARGEST_SIZE }
+        requires within { All (IsWithin height width) cells }
+        requires entries { AreEntries modulus cells }
+        ensures modulus { IfOk result (λ rows. rows.modulus ≡ modulus) }
+        ensures matrix { IfOk result (λ rows. rows.matrix ≡ matrix_of_cells height width cells) }
+    {
+        // The call tells the range of the modulus.
+        let _ = modulus.p();
+        let parts = cells.into_rows(height)?;
+        Ok(StoredRows {
+            modulus,
+            width,
+            starts: parts.starts,
+            cols: parts.cols,
+            vals: parts.vals,
         })
     }
 

@@ -120,6 +120,43 @@ fn what_is_pushed_in_any_order_is_summed(rt: HostRuntime) -> Result<(), Fail> {
     Ok(())
 }
 
+// In order up to the ninth, the sixth of which is 0; then one at the place of the last, one in an earlier row, and one behind all.
+const MOSTLY_IN_ORDER: &[(u32, u32, u64)] = &[
+    (0, 1, 3),
+    (0, 4, 1),
+    (3, 0, 2),
+    (3, 5, 6),
+    (4, 2, 1),
+    (4, 3, 0),
+    (4, 4, 3),
+    (7, 0, 2),
+    (7, 1, 5),
+    (7, 1, 2),
+    (2, 2, 2),
+    (8, 5, 1),
+];
+
+// Whether the first of them are summed, in as many rows.
+fn is_built_of_first(alloc: Global, height: u32, count: usize) -> Result<bool, Fail>
+    requires { count ≤ 12 }
+{
+    let pushed = &MOSTLY_IN_ORDER[..count];
+    let wanted = sums(alloc, 9, 6, pushed)?;
+    let rows = built(alloc, height, 6, pushed)?;
+    Ok(lists(alloc, &rows, &wanted)?)
+}
+
+#[test]
+fn what_is_pushed_in_order_is_the_matrix(rt: HostRuntime) -> Result<(), Fail> {
+    let alloc = rt.alloc();
+    for count in 0..=12 {
+        let near = is_built_of_first(alloc, 9, count)?;
+        let far = is_built_of_first(alloc, LARGEST_SIZE, count)?;
+        assert_eq!(rt; (near, far), (true, true), "{count} pushed");
+    }
+    Ok(())
+}
+
 const SMALL: &[(u32, u32, u64)] = &[
     (2, 1, 5),
     (0, 1, 4),

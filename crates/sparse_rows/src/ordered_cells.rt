@@ -1,0 +1,162 @@
+// Cells that ascend by places, as the rows that they will be.
+ghost use Rattle.std.specs.Prelude.{◌≡◌, ◌<◌, ◌≤◌, ◌+◌, ◌-◌, ◌++◌, ◌∷◌, [], true, length, map, replicate, slice_index, All, IfOk, OnErr, OnOk};
+ghost use Rattle.sparse_rows.specs.declared.rows.TheConstants.{LARGEST_SIZE};
+ghost use Rattle.sparse_rows.specs.Cells.{AreAscending, AreCuts, IsRowOfPart, column_of, place_of, row_of};
+
+use crate::cells::{Cell, place_of};
+use crate::entry_room::make_room;
+use crate::rows::stores_every_row;
+use std::alloc::{AllocError, Global};
+use std::marker::Model;
+
+// Cells that ascend strictly by places: of each its column and its value, and where the rows begin up to that of the last cell. It takes
+// 12 bytes a cell and 8 bytes a row, and has room for a quarter more cells. Contracts see the list of the cells.
+#[derive(Debug, Drop)]
+pub(crate) struct OrderedCells {
+    starts: Vec<usize>,
+    cols: Vec<u32>,
+    vals: Vec<u64>,
+    // Each cell lies before this place.
+    next: u64,
+    // Whether no value is 0.
+    nonzero: bool,
+}
+
+impl Model for OrderedCells {
+    ghost use Rattle.std.specs.Prelude.{List};
+    ghost use Rattle.sparse_rows.specs.declared.cells.Cell.{Cell};
+    ghost use Rattle.sparse_rows.specs.Cells.{AreOrdered, ordered_cells};
+
+    ghost Value = { List Cell };
+
+    ghost view = { λ o. ordered_cells o.starts.items o.cols.items o.vals.items };
+
+    ghost invariant = { λ o. AreOrdered o.starts.items o.cols.items o.vals.items o.next o.nonzero };
+}
+
+// Where rows begin, and the columns and values of all.
+#[derive(Drop)]
+pub(crate) struct RowParts {
+    pub starts: Vec<usize>,
+    pub cols: Vec<u32>,
+    pub vals: Vec<u64>,
+}
+
+impl OrderedCells {
+    // No cell. It takes no memory.
+    pub(crate) fn new(alloc: Global) -> OrderedCells
+        ensures { result ≡ [] }
+    {
+        OrderedCells {
+            starts: Vec::new(alloc),
+            cols: Vec::new(alloc),
+            vals: Vec::new(alloc),
+            next: 0,
+            nonzero: true,
+        }
+    }
+
+    // Whether the place lies behind all cells, and not so far down that the rows up to it would take more memory than the cells.
+    #[inline(always)]
+    pub(crate) fn takes(&self, i: u32, j: u32) -> bool
+        ensures { result ≡ true → All (λ c. c.place < place_of i j) self.now }
+    {
+        self.next <= place_of(i, j) && stores_every_row(i, self.cols.len())
+    }
+
+    // Appends a cell at row i and column j, in constant time on average. Where memory is wanted the cells are as before.
+    #[inline(always)]
+    pub(crate) fn push(&mut self, i: u32, j: u32, v: u64) -> Result<(), AllocError>
+        requires row { i < LARGEST_SIZE }
+        requires behind { All (λ c. c.place < place_of i j) self.old }
+        ensures ok { OnOk result (self.new ≡ self.old ++ record { place = place_of i j; val = v } ∷ []) }
+        ensures err { OnErr result (self.new ≡ self.old) }
+    {
+        let next = place_of(i, j) + 1;
+        let nonzero = self.nonzero && v != 0;
+        make_room(&mut self.cols)?;
+        make_room(&mut self.vals)?;
+        begin_rows(&mut self.starts, i, self.cols.len())?;
+        self.cols.push(j)?;
+        self.vals.push(v)?;
+        self.next = next;
+        self.nonzero = nonzero;
+        Ok(())
+    }
+
+    // Whether they can be stored as a matrix of this height is: none is 0, and the rows are few enough for each to be stored.
+    pub(crate) fn are_stored(&self, height: u32) -> bool
+        ensures positive { result ≡ true → All (λ c. 0 < c.val) self.now }
+        ensures ascending { AreAscending self.now }
+    {
+        self.nonzero && stores_every_row(height, self.cols.len())
+    }
+
+    // Their columns and values, without room for more, and where rows 0, 1, .., height - 1 begin.
+    pub(crate) fn into_rows(self, height: u32) -> Result<RowParts, AllocError>
+        requires { All (λ c. row_of c < height) self }
+        ensures starts { IfOk result (λ parts. AreCuts height self parts.starts.items) }
+        ensures cols { IfOk result (λ parts. parts.cols.items ≡ map column_of self) }
+        ensures vals { IfOk result (λ parts. parts.vals.items ≡ map (λ c. c.val) self) }
+    {
+        let OrderedCells {
+            mut starts,
+            mut cols,
+            mut vals,
+            next: _,
+            nonzero: _,
+        } = self;
+        starts.resize(height as usize + 1, cols.len())?;
+        cols.shrink_to_fit();
+        vals.shrink_to_fit();
+        Ok(RowParts { starts, cols, vals })
+    }
+
+    // These cells one by one, and others behind them.
+    pub(crate) fn into_cells(
+        self,
+        alloc: Global,
+        others: Vec<Cell>,
+    ) -> Result<Vec<Cell>, AllocError>
+        ensures { IfOk result (λ cells. cells.items ≡ self ++ others.items) }
+    {
+        if self.cols.is_empty() {
+            return Ok(others);
+        }
+        let mut cells = Vec::with_capacity(alloc, self.cols.len().saturating_add(others.len()))?;
+        let mut row = 0;
+        for k in 0..self.cols.len() {
+            row = row_at(&self.starts, row, k);
+            cells.push(Cell::new(row as u32, self.cols[k], self.vals[k]))?;
+        }
+        cells.extend_from_slice(&others)?;
+        Ok(cells)
+    }
+}
+
+// Lets the rows up to row i begin at this place, as far as they haven't begun.
+#[inline(always)]
+fn begin_rows(starts: &mut Vec<usize>, i: u32, at: usize) -> Result<(), AllocError>
+    requires { length starts.old.items ≤ i + 1 }
+    ensures ok { OnOk result (starts.new.items
+        ≡ starts.old.items ++ replicate (i + 1 - length starts.old.items) at) }
+    ensures err { OnErr result (starts.new.items ≡ starts.old.items) }
+{
+    if starts.len() <= i as usize {
+        starts.resize(i as usize + 1, at)?;
+    }
+    Ok(())
+}
+
+// The row of item k, where an earlier row or this one is known to begin before it.
+fn row_at(starts: &[usize], from: usize, k: usize) -> usize
+    requires begun { from < length starts.now }
+    requires before { slice_index starts.now from ≤ k }
+    ensures { IsRowOfPart starts.now k result }
+{
+    let mut row = from;
+    while row + 1 < starts.len() && starts[row + 1] <= k {
+        row += 1;
+    }
+    row
+}
