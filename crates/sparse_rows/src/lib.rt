@@ -15,6 +15,7 @@ mod filled_in_either;
 mod list;
 mod order;
 mod ordered_cells;
+mod rough_order;
 mod rows;
 mod sparse;
 mod stored_rows;

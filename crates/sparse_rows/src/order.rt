@@ -7,11 +7,12 @@ ghost use Rattle.sparse_rows.specs.Stored.{AreStarts, IsFilling, count_of};
 
 use crate::cells::Cell;
 use crate::counting_sort::running_sums;
+use crate::rough_order::bring_near;
 use crate::rows::stores_every_row;
 use std::alloc::{AllocError, Global};
 
 // Sorts cells by their places. Where the rows are about as many as the cells, one pass counts the cells of each row, one moves
-// each to its row's part, and each part is sorted: that takes 16 bytes a row. Else all are sorted at once, without memory.
+// each to its row's part, and each part is sorted: that takes 16 bytes a row. Many cells are brought near to their rows before. Else all are sorted at once, without memory.
 pub(crate) fn sort_cells(alloc: Global, height: u32, cells: &mut [Cell]) -> Result<(), AllocError>
     requires rows { All (λ c. row_of c < height) cells.old }
     ensures sorted { OnOk result (IsNonDecreasingBy (λ c. c.place) cells.new) }
@@ -21,6 +22,7 @@ pub(crate) fn sort_cells(alloc: Global, height: u32, cells: &mut [Cell]) -> Resu
         cells.sort_unstable_by_key(|c| c.place);
         return Ok(());
     }
+    bring_near(alloc, height, cells)?;
     let starts = group_by_rows(alloc, height, cells)?;
     sort_rows(&starts, cells);
     Ok(())

@@ -157,6 +157,36 @@ fn what_is_pushed_in_order_is_the_matrix(rt: HostRuntime) -> Result<(), Fail> {
     Ok(())
 }
 
+// The column and the value in a row that was pushed as the k-th.
+fn pushed_as(k: u32) -> (u32, u64) {
+    (k % 3, u64::from(k % 6) + 1)
+}
+
+// A matrix of one entry in each of 32768 rows, pushed in no order of the rows.
+fn permuted(alloc: Global) -> Result<Rows, AllocError> {
+    let mut builder = RowsBuilder::new(alloc, 32_768, 3, Modulus::new(7))?;
+    for k in 0..32_768u32 {
+        let (j, v) = pushed_as(k);
+        builder.push(k.wrapping_mul(20_021) % 32_768, j, v)?;
+    }
+    builder.finish()
+}
+
+#[test]
+fn many_rows_come_to_their_places(rt: HostRuntime) -> Result<(), Fail> {
+    let alloc = rt.alloc();
+    let triples = permuted(alloc)?.triples(alloc)?;
+    let mut found = 0u32;
+    for (i, j, v) in &triples {
+        // 5149 undoes the multiplication by 20021.
+        if pushed_as(i.wrapping_mul(5_149) % 32_768) == (*j, *v) {
+            found = found.wrapping_add(1);
+        }
+    }
+    assert_eq!(rt; (found, triples.len()), (32_768, 32_768));
+    Ok(())
+}
+
 const SMALL: &[(u32, u32, u64)] = &[
     (2, 1, 5),
     (0, 1, 4),
