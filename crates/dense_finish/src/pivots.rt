@@ -141,8 +141,7 @@ fn append_scattered<W: Residue>(
 {
     let mut entries = Sparse::with_room(alloc, u.width(), *p, columns.len() - from)?;
     row.scatter(columns, from, &mut entries)?;
-    u.append(&entries)?;
-    Ok(())
+    u.append(&entries)
 }
 
 // The same at once, since none from `from` on is 0.
@@ -158,6 +157,5 @@ fn append_full<W: Residue>(
     ensures { OnOk result (AppendsScattered columns.now row.now u.old u.new) }
 {
     let entries = row.entries_from(alloc, from)?;
-    u.append_entries(&columns[from..], &entries)?;
-    Ok(())
+    u.append_entries(&columns[from..], &entries)
 }

@@ -58,8 +58,7 @@ impl RowRoom {
         if write_coefficients(row, columns, &self.places[..count], &mut self.values) {
             return append_gathered(&mut self.sparse, left, row, columns);
         }
-        left.append_entries(&self.places[..count], &self.values[..count])?;
-        Ok(())
+        left.append_entries(&self.places[..count], &self.values[..count])
     }
 }
 
@@ -83,8 +82,7 @@ fn append_gathered<W: Residue>(
 {
     sparse.clear();
     row.gather(columns, sparse)?;
-    left.append(sparse)?;
-    Ok(())
+    left.append(sparse)
 }
 
 // Writes the row's entries at these columns to the first values, and tells whether one of them is 0. The columns are often the

@@ -1,6 +1,6 @@
 use Rattle.std.proofs.Common.{ℕ, ◌≡◌, ◌<◌, ◌≤◌, ◌-◌, ◌∙◌, inl, inr, List, ap, arith, length, slice_index, slice_index_or, subst, sym}
 use Rattle.std.proofs.lemmas.Bool.{cases_eq}
-use Rattle.std.proofs.lemmas.List.{get_or-take, get_or_default, length-take}
+use Rattle.std.proofs.lemmas.List.{get_or-take, get_or_default, length-take, length-take-le}
 use Rattle.sparse_rows.specs.Rows.{AreRising}
 use Rattle.residue_words.specs.Matrix.{IsVector}
 use Rattle.dense_finish.specs.Block.{DenseBlock, block_row, entry_of}
@@ -160,3 +160,29 @@ returns-clause-left g c =
 
 pub count_up_to-count-requires-clause-rising : goal.count_up_to-count-requires-clause-rising
 count_up_to-count-requires-clause-rising g c = rw c.deref.ensures.value c.requires.pivots.rising
+
+pub in_room-requires-clause-width_small : goal.in_room-requires-clause-width_small
+in_room-requires-clause-width_small g c = omega (arith, c.requires.pivots.few, c.requires.dense.rows_few, c.args.pivots.now.columns.ok.0)
+
+pub in_room-requires-clause-height_small : goal.in_room-requires-clause-height_small
+in_room-requires-clause-height_small g c = omega (arith, ap (λ (b : DenseBlock). b.height) c.block.view_is, c.requires.dense.low)
+
+pub count_up_to-count-requires-clause-inside : goal.count_up_to-count-requires-clause-inside
+count_up_to-count-requires-clause-inside g c = omega (arith, c.loop-t.invariant.inside, ap length c.deref.ensures.value)
+
+pub count_up_to-count-requires-clause-rest : goal.count_up_to-count-requires-clause-rest
+count_up_to-count-requires-clause-rest g c = rw c.deref.ensures.value c.loop-t.invariant.rest
+
+pub index-requires-in-loop-t : goal.index-requires-in-loop-t
+index-requires-in-loop-t g c =
+    omega (arith, c.block.inside.rows.ok.0, c.block.inside.entries.ok.0, ap (λ (b : DenseBlock). length b.rows) c.block.view_is, ap (λ (b : DenseBlock). length b.entries) c.block.view_is, c.requires.dense.long)
+
+pub slice_bounds-append_to-end : goal.slice_bounds-append_to-end
+slice_bounds-append_to-end g c =
+    let count = c.count_up_to-count in
+    let few : count.result ≤ length c.deref-in-loop-t.result.now =
+    omega (arith, count.ensures.inside, ap length c.deref.ensures.value, c.requires.pivots.long, ap length c.deref-in-loop-t.ensures.value) in
+    sym (length-take-le count.result c.deref-in-loop-t.result.now few)
+
+pub returns-clause-modulus : goal.returns-clause-modulus
+returns-clause-modulus g c = c.pad-2.ensures.modulus ∙ c.loop-t.invariant.left.modulus

@@ -1,4 +1,5 @@
 use Rattle.std.proofs.Common.{◌∙◌, ap, arith, length, subst, sym}
+use Rattle.std.proofs.lemmas.Result.{on_ok_weaker}
 use Rattle.residue_words.specs.Matrix.{zeros}
 use Rattle.sparse_rows.proofs.Loops.{length_zeros}
 use Rattle.dense_finish.specs.Dense.{Scatters}
@@ -19,10 +20,11 @@ append-requires-clause-width g c =
     c.in_ok-scatter.ensures.row.long ∙ ap length c.in_ok-entries.ensures.row ∙ length_zeros c.width.result ∙ c.width.ensures.value
 
 pub returns : goal.returns
-returns g c = record {
-  modulus = c.append.ensures.modulus;
-  row = c.scatter.new.to.row;
-  put = subst (λ n. Scatters n c.args.columns.now c.args.row.now c.scatter.new.to.row)
-      (ap length c.in_ok-entries.ensures.row ∙ length_zeros c.width.result ∙ c.width.ensures.value) c.in_ok-scatter.ensures.row;
-  matrix = c.in_ok-append.ensures.matrix;
-}
+returns g c =
+    on_ok_weaker c.append.result (λ matrix. record {
+      modulus = c.append.ensures.modulus;
+      row = c.scatter.new.to.row;
+      put = subst (λ n. Scatters n c.args.columns.now c.args.row.now c.scatter.new.to.row)
+          (ap length c.in_ok-entries.ensures.row ∙ length_zeros c.width.result ∙ c.width.ensures.value) c.in_ok-scatter.ensures.row;
+      matrix = matrix;
+    }) c.append.ensures.matrix

@@ -30,3 +30,28 @@ loop-k-preserved g c =
       vectors = appended (λ t u. IsVector c.args.p.now panel.width u) units v vector c.loop-k.invariant.vectors;
       each = appended (λ t u. u ≡ unit_row panel.width (slice_index panel.columns t)) units v there c.loop-k.invariant.each;
     }
+
+pub loop-k-init : goal.loop-k-init
+loop-k-init g c =
+    let none : length c.in_ok-units.units.items ≡ 0 = ap length c.in_ok-units.ensures.items in
+    record { long = none; vectors = λ t l. absurd (omega arith); each = λ t l. absurd (omega arith) }
+
+pub set-requires-clause-inside : goal.set-requires-clause-inside
+set-requires-clause-inside g c κs within =
+    let panel = c.args.self.now in
+    let fields = c.self.inside in
+    let k = c.loop-k.k in
+    let same : fields.columns.items ≡ panel.columns = ap (λ (m : PanelRows). m.columns) c.self.view_is in
+    let inside : k < length panel.columns = omega (arith, fields.columns.ok.0, ap length same) in
+    let column : c.index.result.now ≡ slice_index panel.columns k = c.index.ensures ∙ get_or_default fields.columns.items k _ 0 (omega (arith, fields.columns.ok.0)) ∙ ap (λ l. slice_index l k) same in
+    omega (arith, column, c.requires.pivots.inside k inside, c.in_ok-row.ensures.vector.len, ap (λ (m : PanelRows). m.width) c.self.view_is)
+
+pub returns : goal.returns
+returns g c =
+    let panel = c.args.self.now in
+    let all : c.loop-k.k ≡ length panel.columns = omega (arith, c.self.inside.columns.ok.0, ap (λ (m : PanelRows). length m.columns) c.self.view_is) in
+    record {
+      long = c.loop-k.invariant.long ∙ all;
+      vectors = c.loop-k.invariant.vectors;
+      each = λ k l. c.loop-k.invariant.each k (omega (arith, l, all, c.loop-k.invariant.long));
+    }

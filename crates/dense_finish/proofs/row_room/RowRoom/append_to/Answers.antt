@@ -1,5 +1,6 @@
 use Rattle.std.proofs.Common.{ℕ, ◌≡◌, ◌≤◌, ◌∙◌, List, ◌++◌, ap, arith, drop, length, sym, take}
 use Rattle.std.specs.List.{range_with_len}
+use Rattle.std.proofs.lemmas.Result.{on_ok_weaker}
 use Rattle.dense_finish.proofs.FullRows.{AreFullAt, at_places, gathered_appended, gathered_sparse, length_places}
 use Rattle.dense_finish.proofs.Parts.{refilled}
 use Rattle.dense_finish.proofs.row_room.RowRoom.append_to.Goals as goal
@@ -56,15 +57,15 @@ append_entries-requires-clause-sparse g c =
 pub returns-clause-room : goal.returns-clause-room
 returns-clause-room g c =
     let w = (goal.at.returns-clause-room g c).After-deref-3 in
-    record {
+    on_ok_weaker c.append_entries.result (λ matrix. record {
       places = c.requires.room.places;
       values = ap length (values_are g w) ∙ written_long g w ∙ c.args.self.now.values.ok.0 ∙ c.requires.room.values;
       modulus = c.requires.room.modulus;
       long = c.requires.room.long;
-    }
+    }) c.append_entries.ensures.matrix
 
 pub returns-clause-row : goal.returns-clause-row
 returns-clause-row g c =
     let w = (goal.at.returns-clause-row g c).After-deref-3 in
-    gathered_appended (full g w) c.append_entries.ensures.modulus
-    (rw (c.deref-2.ensures.value ∙ c.requires.room.places, c.deref-3.ensures.value ∙ values_are g w) at c.in_ok-append_entries.ensures.matrix)
+    on_ok_weaker c.append_entries.result
+    (λ matrix. gathered_appended (full g w) c.append_entries.ensures.modulus (rw (c.deref-2.ensures.value ∙ c.requires.room.places, c.deref-3.ensures.value ∙ values_are g w) at matrix)) c.append_entries.ensures.matrix
