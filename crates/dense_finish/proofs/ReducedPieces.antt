@@ -1,5 +1,5 @@
 -- Pieces of rows, reduced and put in their places.
-use Rattle.std.proofs.Common.{ℕ, ◌≡◌, ◌+◌, ◌-◌, ◌<◌, ◌≤◌, ◌∙◌, Bool, true, false, cond, inl, inr, IfOk, List, ◌++◌, All, Err, Ok, Result, Contains, drop, length, length-drop, take, ap, arith, refl, subst, sym}
+use Rattle.std.proofs.Common.{ℕ, ◌≡◌, ◌+◌, ◌-◌, ◌<◌, ◌≤◌, ◌∙◌, Bool, true, false, cond, inl, inr, IfOk, List, ◌++◌, All, Err, Ok, Result, Vec, Global, Contains, drop, length, length-drop, take, ap, arith, refl, subst, sym}
 use Rattle.std.proofs.lemmas.Bool.{cases_lt}
 use Rattle.std.proofs.lemmas.List.{length-take-le}
 use Rattle.std.proofs.lemmas.List.Elements.{All-append, All-contains, All-drop, All-nil, All-take, All-weaker}
@@ -7,7 +7,7 @@ use borrow.Rule.Slice.PartMut.{put_mid}
 use Rattle.residue_words.specs.Matrix.{IsVector}
 use Rattle.dense_finish.specs.Block.{block_row}
 use Rattle.dense_finish.specs.Panel.{PanelReduces, PanelReducesEach, PanelRows}
-use Rattle.dense_finish.specs.Pieces.{ArePut, AreReducible, AreSharesOf, IsInPieces, IsPieceOf, HasReducible, IsReducedPiece, IsShareOf, KeepShares, LiesIn, RowsFrom, ShareOf, new_share}
+use Rattle.dense_finish.specs.Pieces.{AreNewShares, ArePut, AreReducedBy, AreReducedByAll, AreReducedPieces, AreReducible, AreSharesOf, HaveReducible, IsInPieces, IsPieceOf, HasReducible, IsReducedPiece, IsShareOf, KeepShares, LiesIn, RowsFrom, ShareOf, SharesOf, new_share}
 use Rattle.dense_finish.specs.Units.{FoundPanel}
 use Rattle.dense_finish.proofs.BlockRows.{put_row_at, put_row_below}
 
@@ -74,19 +74,26 @@ pub both_clauses : {T E : Type 0} (r : Result T E) (P Q R : T → Type 0) → ((
 both_clauses (Ok x) P Q R f first second = f x first second
 both_clauses (Err y) P Q R f first second = tt
 
--- what holds of new shares: the rows that they know are reducible where those are, and they are shares of them
-pub new_ready : {p : ℕ} {found : FoundPanel} (rows : List (List ℕ)) (shares : List ShareOf) → AreReducible p found rows → All (λ share. share ≡ new_share rows) shares → All (HasReducible p found) shares
-new_ready {p} {found} rows shares ready new =
-    All-weaker (λ share. share ≡ new_share rows) (HasReducible p found) (λ share e. subst (HasReducible p found) (sym e) ready) shares new
+-- what holds of new shares: the rows that they know are reducible where those are
+pub new_reducible : {p : ℕ} {found : FoundPanel} {rows : List (List ℕ)} {shares : SharesOf} → AreReducible p found rows → AreNewShares rows shares → HaveReducible p found shares
+new_reducible {p} {found} {rows} {shares} ready new =
+    let each : (list : List ShareOf) → All (λ share. share ≡ new_share rows) list → All (HasReducible p found) list =
+    λ list. All-weaker (λ share. share ≡ new_share rows) (HasReducible p found) (λ share e. subst (HasReducible p found) (sym e) ready) list in
+    record { own = each shares.own new.own; others = each shares.others new.others }
 
-pub new_shares : (p : ℕ) (panel : PanelRows) (rows : List (List ℕ)) (shares : List ShareOf) → All (λ share. share ≡ new_share rows) shares → AreSharesOf p panel rows shares
-new_shares p panel rows shares new =
-    All-weaker (λ share. share ≡ new_share rows) (IsShareOf p panel rows)
-    (λ share e. subst (IsShareOf p panel rows) (sym e) (record { known = refl; pieces = All-nil (IsReducedPiece p panel rows) })) shares new
+-- and the pieces of these shares are those of the rows
+pub new_made : {p : ℕ} {panel : PanelRows} {rows : List (List ℕ)} {shares : SharesOf} (pieces : Vec RowsFrom Global) → AreNewShares rows shares → AreReducedByAll p panel shares pieces → AreReducedPieces p panel rows pieces
+new_made {p} {panel} {rows} {shares} pieces new made =
+    let each : (list : List ShareOf) → All (λ share. share ≡ new_share rows) list → AreSharesOf p panel rows list =
+    λ list. All-weaker (λ share. share ≡ new_share rows) (IsShareOf p panel rows)
+    (λ share e. subst (IsShareOf p panel rows) (sym e) (record { known = refl; pieces = All-nil (IsReducedPiece p panel rows) })) list in
+    made rows (each shares.own new.own) (each shares.others new.others)
 
--- the same where they know what is equal to these rows
-pub new_from : (others rows : List (List ℕ)) (shares : List ShareOf) → others ≡ rows → All (λ share. share ≡ new_share others) shares → All (λ share. share ≡ new_share rows) shares
-new_from others rows shares e = subst (λ r. All (λ share. share ≡ new_share r) shares) e
+-- pieces of two lists in one
+pub all_made : (p : ℕ) (panel : PanelRows) (shares : SharesOf) (own others pieces : Vec RowsFrom Global) → pieces.items ≡ own.items ++ others.items →
+    AreReducedBy p panel shares.own own → AreReducedBy p panel shares.others others → AreReducedByAll p panel shares pieces
+all_made p panel shares own others pieces e first second = λ block of_own of_others.
+    subst (All (IsReducedPiece p panel block)) (sym e) (All-append (IsReducedPiece p panel block) own.items others.items (first block of_own) (second block of_others))
 
 -- shares that were lent, and lent as a slice and put back
 pub kept_from : (p : ℕ) (panel : PanelRows) (given olds news : List ShareOf) → given ≡ olds → KeepShares p panel given news → KeepShares p panel olds news

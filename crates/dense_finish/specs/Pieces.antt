@@ -62,6 +62,21 @@ new_share known = record { known = known; pieces = [] }
 abbrev pub HasReducible : ℕ → FoundPanel → ShareOf → Type 0
 HasReducible p found share = AreReducible p found share.known
 
+-- the share of a worker that has other work first, and those of the workers that help it
+pub record SharesOf : Type 0 where
+  pub own : List ShareOf
+  pub others : List ShareOf
+
+-- each of them
+pub record HaveReducible (p : ℕ) (found : FoundPanel) (shares : SharesOf) : Type 0 where
+  pub own : All (HasReducible p found) shares.own
+  pub others : All (HasReducible p found) shares.others
+
+-- shares of these rows without a piece
+pub record AreNewShares (rows : List (List ℕ)) (shares : SharesOf) : Type 0 where
+  pub own : All (λ share. share ≡ new_share rows) shares.own
+  pub others : All (λ share. share ≡ new_share rows) shares.others
+
 -- a share of the block: its pieces are what the panel leaves of some
 pub record IsShareOf (p : ℕ) (panel : PanelRows) (block : List (List ℕ)) (share : ShareOf) : Type 0 where
   pub known : share.known ≡ block
@@ -82,6 +97,10 @@ KeepShares p panel olds news = (block : List (List ℕ)) → AreSharesOf p panel
 abbrev pub AreReducedBy : ℕ → PanelRows → List ShareOf → Vec RowsFrom Global → Type 0
 AreReducedBy p panel shares pieces = (block : List (List ℕ)) → AreSharesOf p panel block shares →
     AreReducedPieces p panel block pieces
+
+abbrev pub AreReducedByAll : ℕ → PanelRows → SharesOf → Vec RowsFrom Global → Type 0
+AreReducedByAll p panel shares pieces = (block : List (List ℕ)) → AreSharesOf p panel block shares.own →
+    AreSharesOf p panel block shares.others → AreReducedPieces p panel block pieces
 
 -- the pieces of shares of a block are made of it
 abbrev pub ArePiecesOf : List ShareOf → List RowsFrom → Type 0

@@ -6,7 +6,7 @@ ghost use Rattle.sparse_rows.specs.Rows.{AreRising};
 ghost use Rattle.sparse_rows.specs.declared.rows.TheConstants.{LARGEST_SIZE};
 ghost use Rattle.dense_finish.specs.Block.{AreLastRowsOf, AreRowsOf, AreVectors, IsDense};
 ghost use Rattle.dense_finish.specs.Panel.{PanelReducesEach};
-ghost use Rattle.dense_finish.specs.Pieces.{AreReducedBy, AreReducible, AreReducedPieces, HasReducible};
+ghost use Rattle.dense_finish.specs.Pieces.{AreNewShares, AreReducedBy, AreReducedByAll, HasReducible, HaveReducible};
 ghost use Rattle.dense_finish.specs.Dense.{IsFirstFree, IsPivotOf, KeepsCoefficients};
 ghost use Rattle.dense_finish.specs.Factors.{IsFactored};
 ghost use Rattle.sparse_rows.specs.Rows.{AreBelow};
@@ -18,12 +18,12 @@ use crate::factors::{Factors, left_factor};
 use crate::found::Found;
 use crate::left_room::LeftRoom;
 use crate::panel::{PANEL, Panel, zeros_before};
-use crate::pieces::{Piece, put_pieces};
+use crate::pieces::{Piece, put_pieces, with_pieces};
 use crate::pivots::Pivots;
 use crate::reducing::Reducing;
 use crate::residue::Residue;
 use crate::right_factor::RightFactor;
-use crate::share::Share;
+use crate::share::{Share, Shares};
 use crate::shared_pieces::queue_of;
 use crate::split_work::Helping;
 use crate::taker::Taker;
@@ -258,13 +258,28 @@ impl<'a> Elimination<'a> {
             PanelReducesEach self.now.p found.now.panel others.old others.new) }
     {
         let (queue, pass) = queue_of(self.alloc, others)?;
-        let taker = Taker::new(&queue, pass);
-        let (next, pieces) = self.find_and_reduce(rt, found, rows, pivots, own, taker, left)?;
+        let shares = self.shares_of(Taker::new(&queue, pass))?;
+        let (next, pieces) = self.find_and_reduce(rt, found, rows, pivots, own, shares, left)?;
         put_pieces(pieces, others)?;
         Ok(next)
     }
 
-    // The same where the other rows are in a queue, at which the taker stands: what is left of them are the pieces.
+    // A share for the worker that finds pivots, and one for each that helps, of the rows in the queue at which the taker stands.
+    fn shares_of<'q, W: Residue>(
+        &self,
+        mut taker: Taker<'q, W>,
+    ) -> Result<Shares<'q, W>, AllocError>
+        requires { 2 ≤ self.now.workers }
+        ensures { IfOk result (AreNewShares taker.entry) }
+    {
+        // In a list too, as the borrow checker covers no closure that is lent a share itself.
+        let own = Share::several(self.alloc, &mut taker, 1)?;
+        let helpers = (self.workers - 1).min(taker.count());
+        let others = Share::several(self.alloc, &mut taker, helpers)?;
+        Ok(Shares { own, others })
+    }
+
+    // The same where the workers have shares of the other rows: what is left of these are the pieces.
     fn find_and_reduce<R: Threads + Sync, W: Reducing>(
         &self,
         rt: &R,
@@ -272,25 +287,24 @@ impl<'a> Elimination<'a> {
         rows: RowRange,
         pivots: &mut Pivots,
         own: &mut [Dense<W>],
-        mut taker: Taker<W>,
+        shares: Shares<W>,
         left: &mut LeftRoom,
     ) -> Result<(Found<W>, Vec<Piece<W>>), AllocError>
         requires modulus { W.serves self.now.p }
-        requires several { 2 ≤ self.now.workers }
         requires rows { AreLastRowsOf own.old rows }
         requires ready { CanGoOn self.now.p self.now.columns.now
             (panel_stage pivots.old found.now own.old rows.start) }
-        requires others { AreReducible self.now.p found.now taker }
+        requires others { HaveReducible self.now.p found.now shares }
         ensures own { IfOk result (λ made. FindsPanel self.now.p self.now.columns.now
             (panel_stage pivots.old found.now own.old rows.start)
             (panel_stage pivots.new made.0 own.new rows.end)) }
         ensures others { IfOk result (λ made.
-            AreReducedPieces self.now.p found.now.panel taker.entry made.1) }
+            AreReducedByAll self.now.p found.now.panel shares.entry made.1) }
     {
-        // In a list too, as the borrow checker covers no closure that is lent a share itself.
-        let mut own_share = Share::several(self.alloc, &mut taker, 1)?;
-        let helpers = (self.workers - 1).min(taker.count());
-        let mut shares = Share::several(self.alloc, &mut taker, helpers)?;
+        let Shares {
+            own: mut own_share,
+            mut others,
+        } = shares;
         let mut find = || -> (Result<Found<W>, AllocError>, Vec<Piece<W>>)
             requires { W.serves self.now.p × All (HasReducible self.now.p found.now) own_share.items
                 × AreLastRowsOf own.now rows × CanGoOn self.now.p self.now.columns.now
@@ -304,12 +318,11 @@ impl<'a> Elimination<'a> {
             (next, self.pieces_by(rt, found, &mut own_share))
         };
         let mut help = || -> Vec<Piece<W>>
-            requires { W.serves self.now.p × All (HasReducible self.now.p found.now) shares.items }
-            ensures { AreReducedBy self.entry.now.p found.entry.now.panel shares.entry.items result }
-        { self.pieces_and_left(rt, found, &mut shares, left) };
-        let (mut more, (next, mut pieces)) = join_mut(rt, &mut help, &mut find);
-        pieces.append(&mut more)?;
-        Ok((next?, pieces))
+            requires { W.serves self.now.p × All (HasReducible self.now.p found.now) others.items }
+            ensures { AreReducedBy self.entry.now.p found.entry.now.panel others.entry.items result }
+        { self.pieces_and_left(rt, found, &mut others, left) };
+        let (more, (next, pieces)) = join_mut(rt, &mut help, &mut find);
+        with_pieces(next, pieces, more)
     }
 
     // Takes a panel's pivots out of the last rows, and finds those of these rows.

@@ -1,5 +1,5 @@
 // The rows behind a panel, reduced by several workers: piece by piece, as they become free.
-ghost use Rattle.std.specs.Prelude.{◌≡◌, ◌<◌, ◌≤◌, All, length, IfSome, OnOk};
+ghost use Rattle.std.specs.Prelude.{◌≡◌, ◌<◌, ◌≤◌, ◌++◌, All, Ok, length, IfOk, IfSome, OnOk};
 ghost use Rattle.dense_finish.specs.Panel.{PanelReducesEach};
 ghost use Rattle.dense_finish.specs.Pieces.{ArePut, AreReducedBy, AreReducible, HasReducible, IsReducedPiece, KeepShares, KeepsShare, LiesIn};
 
@@ -67,6 +67,20 @@ pub(crate) fn count_of_pieces(height: usize) -> usize
         count += 1;
     }
     count
+}
+
+// What was found, if anything, with these pieces and more in one list.
+pub(crate) fn with_pieces<W: Residue>(
+    found: Result<Found<W>, AllocError>,
+    mut pieces: Vec<Piece<W>>,
+    mut more: Vec<Piece<W>>,
+) -> Result<(Found<W>, Vec<Piece<W>>), AllocError>
+    ensures found { IfOk result (λ made. found ≡ Ok made.0) }
+    ensures pieces { IfOk result (λ made. made.1.items ≡ pieces.items ++ more.items) }
+{
+    let found = found?;
+    pieces.append(&mut more)?;
+    Ok((found, pieces))
 }
 
 // Puts the rows of these pieces in their places. A piece is missing only where memory was wanted.

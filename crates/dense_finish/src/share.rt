@@ -53,6 +53,21 @@ impl<'q, W: Residue> Share<'q, W> {
     }
 }
 
+// The share of a worker that has other work first, and those of the workers that help it. Contracts see them as `SharesOf`.
+#[derive(Drop)]
+pub(crate) struct Shares<'q, W: Residue> {
+    pub(crate) own: Vec<Share<'q, W>>,
+    pub(crate) others: Vec<Share<'q, W>>,
+}
+
+impl<'q, W: Residue> Model for Shares<'q, W> {
+    ghost use Rattle.dense_finish.specs.Pieces.{SharesOf};
+
+    ghost Value = { SharesOf };
+
+    ghost view = { λ shares. record { own = shares.own.items; others = shares.others.items } };
+}
+
 // The pieces of all these shares, as far as there is memory for a list of them.
 pub(crate) fn gathered<W: Residue>(alloc: Global, shares: Vec<Share<W>>) -> Vec<Piece<W>>
     ensures { ArePiecesOf shares.entry.items result.items }
