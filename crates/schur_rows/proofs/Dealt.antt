@@ -15,16 +15,16 @@ cut_none {deal} h = h.cuts.first
 pub cut_all : {deal : Deal} → IsDeal deal → cut_at deal deal.count ≡ deal.to
 cut_all {deal} h = h.cuts.last
 
-pub joined_part : (t : TriangleState) (deal : Deal) (j : ℕ) {made part new : SchurRows} → IsPartTo t deal.pass.kept deal.from (cut_at deal j) made → IsPartOf t deal j part → Joins part made new →
-    IsPartTo t deal.pass.kept deal.from (cut_at deal (j + 1)) new
+pub joined_part : (t : TriangleState) (deal : Deal) (j : ℕ) {made part new : SchurRows} → IsPartTo t deal.pass.with_coefficients deal.from (cut_at deal j) made → IsPartOf t deal j part → Joins part made new →
+    IsPartTo t deal.pass.with_coefficients deal.from (cut_at deal (j + 1)) new
 joined_part t deal j {made} {part} {new} h g join = (
-  part_join t deal.pass.kept deal.from (cut_at deal j) made part new h.0 g.0 h.1 join,
+  part_join t deal.pass.with_coefficients deal.from (cut_at deal j) made part new h.0 g.0 h.1 join,
   omega (arith, h.1, g.1, ap (λ (M : Matrix). M.height) join.rows),
 )
 
 -- a part as it is cut, and as it is read
-pub part_at : {t : TriangleState} (deal : Deal) (j : ℕ) {from to : ℕ} {s : SchurRows} → from ≡ cut_at deal j → to ≡ cut_at deal (j + 1) → IsPartTo t deal.pass.kept from to s → IsPartOf t deal j s
-part_at {t} deal j {from} {to} {s} a b part = subst (λ a. IsPartTo t deal.pass.kept a (cut_at deal (j + 1)) s) a (subst (λ b. IsPartTo t deal.pass.kept from b s) b part)
+pub part_at : {t : TriangleState} (deal : Deal) (j : ℕ) {from to : ℕ} {s : SchurRows} → from ≡ cut_at deal j → to ≡ cut_at deal (j + 1) → IsPartTo t deal.pass.with_coefficients from to s → IsPartOf t deal j s
+part_at {t} deal j {from} {to} {s} a b part = subst (λ a. IsPartTo t deal.pass.with_coefficients a (cut_at deal (j + 1)) s) a (subst (λ b. IsPartTo t deal.pass.with_coefficients from b s) b part)
 
 -- a part by its number
 pub part_of_number : (t : TriangleState) (deal : Deal) (parts : List NumberedPart) → All (IsNumbered t deal) parts →

@@ -27,9 +27,9 @@ use Rattle.schur_rows.proofs.Above.{above_first, above_matrix, above_second, eac
 use Rattle.schur_rows.proofs.Distinct.{triangular_rows}
 
 -- no row
-pub part_none : (t : TriangleState) (kept : Bool) (from : ℕ) {s : SchurRows} → s.rows.modulus ≡ t.rows.modulus → s.coefficients.modulus ≡ t.rows.modulus →
-    s.rows.matrix ≡ record { height = 0; width = t.rows.matrix.width; rows = [] } → s.coefficients.matrix ≡ record { height = 0; width = length t.pairs; rows = [] } → IsPartTo t kept from from s
-part_none t kept from {s} mb mc b c = (
+pub part_none : (t : TriangleState) (with_coefficients : Bool) (from : ℕ) {s : SchurRows} → s.rows.modulus ≡ t.rows.modulus → s.coefficients.modulus ≡ t.rows.modulus →
+    s.rows.matrix ≡ record { height = 0; width = t.rows.matrix.width; rows = [] } → s.coefficients.matrix ≡ record { height = 0; width = length t.pairs; rows = [] } → IsPartTo t with_coefficients from from s
+part_none t with_coefficients from {s} mb mc b c = (
   record {
     modulus = mb;
     rest = rw b record { len = refl; each = λ i l. absurd (omega arith) };
@@ -44,8 +44,8 @@ part_none t kept from {s} mb mc b c = (
 )
 
 -- a part below another
-pub part_join : (t : TriangleState) (kept : Bool) (from to : ℕ) (s u v : SchurRows) → IsPart t kept from s → IsPart t kept to u → from + s.rows.matrix.height ≡ to → Joins u s v → IsPart t kept from v
-part_join t kept from to s u v h g meet j = record {
+pub part_join : (t : TriangleState) (with_coefficients : Bool) (from to : ℕ) (s u v : SchurRows) → IsPart t with_coefficients from s → IsPart t with_coefficients to u → from + s.rows.matrix.height ≡ to → Joins u s v → IsPart t with_coefficients from v
+part_join t with_coefficients from to s u v h g meet j = record {
   modulus = j.modulus ∙ h.modulus;
   rest = subst (IsMatrix t.rows.modulus) (sym j.rows) (above_matrix h.rest g.rest (g.width ∙ sym h.width));
   width = ap (λ (M : Matrix). M.width) j.rows ∙ h.width;
@@ -53,33 +53,33 @@ part_join t kept from to s u v h g meet j = record {
   coefficients = subst (IsMatrix t.rows.modulus) (sym j.coefficients) (above_matrix h.coefficients g.coefficients (g.coefficient_width ∙ sym h.coefficient_width));
   coefficient_width = ap (λ (M : Matrix). M.width) j.coefficients ∙ h.coefficient_width;
   height = ap (λ (M : Matrix). M.height) j.coefficients ∙ ap₂ (λ a b. a + b) h.height g.height ∙ ap (λ (M : Matrix). M.height) (sym j.rows);
-  each = λ x l. each_of s.rows.matrix.height u.rows.matrix.height (λ x. IsRowOfRound t kept (from + x) (record { rest = row v.rows.matrix x; coefficients = row v.coefficients.matrix x }))
+  each = λ x l. each_of s.rows.matrix.height u.rows.matrix.height (λ x. IsRowOfRound t with_coefficients (from + x) (record { rest = row v.rows.matrix x; coefficients = row v.coefficients.matrix x }))
       (λ x lx. placed (from + x)
       (sym (ap (λ M. row M x) j.rows ∙ above_first u.rows.matrix h.rest x lx))
       (sym (ap (λ M. row M x) j.coefficients ∙ above_first u.coefficients.matrix h.coefficients x (omega (arith, h.height)))) (h.each x lx))
       (λ x lx. let e : to + x ≡ from + (s.rows.matrix.height + x) = omega arith in
-      subst (λ i. IsRowOfRound t kept i (record { rest = row v.rows.matrix (s.rows.matrix.height + x); coefficients = row v.coefficients.matrix (s.rows.matrix.height + x) })) e
+      subst (λ i. IsRowOfRound t with_coefficients i (record { rest = row v.rows.matrix (s.rows.matrix.height + x); coefficients = row v.coefficients.matrix (s.rows.matrix.height + x) })) e
       (placed (to + x)
       (sym (ap (λ M. row M (s.rows.matrix.height + x)) j.rows ∙ above_second u.rows.matrix h.rest x))
       (sym (ap (λ M. row M (s.rows.matrix.height + x)) j.coefficients ∙ ap (λ h. row (above s.coefficients.matrix u.coefficients.matrix) (h + x)) (sym h.height) ∙ above_second u.coefficients.matrix h.coefficients x)) (g.each x lx)))
       x (omega (arith, ap (λ (M : Matrix). M.height) j.rows));
 }
   where
-    placed : (i : ℕ) {w w' c c' : List ℕ} → w ≡ w' → c ≡ c' → IsRowOfRound t kept i (record { rest = w; coefficients = c }) → IsRowOfRound t kept i (record { rest = w'; coefficients = c' })
-    placed i {w} {w'} {c} {c'} e f r = subst (λ w. IsRowOfRound t kept i (record { rest = w; coefficients = c' })) e (subst (λ c. IsRowOfRound t kept i (record { rest = w; coefficients = c })) f r)
+    placed : (i : ℕ) {w w' c c' : List ℕ} → w ≡ w' → c ≡ c' → IsRowOfRound t with_coefficients i (record { rest = w; coefficients = c }) → IsRowOfRound t with_coefficients i (record { rest = w'; coefficients = c' })
+    placed i {w} {w'} {c} {c'} e f r = subst (λ w. IsRowOfRound t with_coefficients i (record { rest = w; coefficients = c' })) e (subst (λ c. IsRowOfRound t with_coefficients i (record { rest = w; coefficients = c })) f r)
 
 -- one row
 one_row : (p n : ℕ) (v : List ℕ) → IsVector p n v → IsMatrix p (record { height = 1; width = n; rows = v ∷ [] })
 one_row p n v h = record { len = refl; each = λ i l. let e : i ≡ 0 = omega arith in subst (λ i. IsVector p n (row (record { height = 1; width = n; rows = v ∷ [] }) i)) (sym e) h }
 
-pub part_more : (t : TriangleState) (kept : Bool) (from i : ℕ) (s v : SchurRows) → IsPart t kept from s → from + s.rows.matrix.height ≡ i → AddsLeft t kept i s v → IsPart t kept from v
-part_more t kept from i s v h meet a =
+pub part_more : (t : TriangleState) (with_coefficients : Bool) (from i : ℕ) (s v : SchurRows) → IsPart t with_coefficients from s → from + s.rows.matrix.height ≡ i → AddsLeft t with_coefficients i s v → IsPart t with_coefficients from v
+part_more t with_coefficients from i s v h meet a =
     let n : ℕ = t.rows.matrix.width in
     let m : ℕ = length t.pairs in
     let B : Matrix = record { height = 1; width = n; rows = a.left.rest ∷ [] } in
     let C : Matrix = record { height = 1; width = m; rows = a.left.coefficients ∷ [] } in
     let u : SchurRows = record { rows = record { modulus = t.rows.modulus; matrix = B }; coefficients = record { modulus = t.rows.modulus; matrix = C } } in
-    part_join t kept from i s u v h (record {
+    part_join t with_coefficients from i s u v h (record {
       modulus = refl;
       rest = one_row t.rows.modulus n a.left.rest a.rest;
       width = refl;
@@ -89,7 +89,7 @@ part_more t kept from i s v h meet a =
       height = refl;
       each = λ x l.
           let e : 0 ≡ x = omega arith in
-          subst (λ x. IsRowOfRound t kept (i + x) (record { rest = row B x; coefficients = row C x })) e (let plain : i ≡ i + 0 = omega arith in subst (λ i. IsRowOfRound t kept i a.left) plain a.is_row);
+          subst (λ x. IsRowOfRound t with_coefficients (i + x) (record { rest = row B x; coefficients = row C x })) e (let plain : i ≡ i + 0 = omega arith in subst (λ i. IsRowOfRound t with_coefficients i a.left) plain a.is_row);
     }) meet (record { modulus = a.added.modulus; rows = a.added.rows; coefficient_modulus = a.added.coefficient_modulus; coefficients = a.added.coefficients })
 
 -- the zero row, which is what is left of a row without an entry
@@ -111,9 +111,9 @@ zero_reduced t i none tri = record {
       ∙ ap₂ (λ a b. (a + b) % t.rows.modulus) (sym (at_zeros t.rows.matrix.width j l)) (sym sum);
 }
 
-pub part_zeros : (t : TriangleState) (kept : Bool) (from d : ℕ) (s v : SchurRows) → 2 ≤ t.rows.modulus → IsMatrix t.rows.modulus t.rows.matrix → Triangular t.rows.matrix t.pairs → IsPart t kept from s →
-    from + s.rows.matrix.height + d ≤ t.rows.matrix.height → AreZeroRows t.rows.matrix (from + s.rows.matrix.height) (from + s.rows.matrix.height + d) → AddsZeros d s v → IsPart t kept from v
-part_zeros t kept from d s v two m tri h low none a =
+pub part_zeros : (t : TriangleState) (with_coefficients : Bool) (from d : ℕ) (s v : SchurRows) → 2 ≤ t.rows.modulus → IsMatrix t.rows.modulus t.rows.matrix → Triangular t.rows.matrix t.pairs → IsPart t with_coefficients from s →
+    from + s.rows.matrix.height + d ≤ t.rows.matrix.height → AreZeroRows t.rows.matrix (from + s.rows.matrix.height) (from + s.rows.matrix.height + d) → AddsZeros d s v → IsPart t with_coefficients from v
+part_zeros t with_coefficients from d s v two m tri h low none a =
     let n : ℕ = t.rows.matrix.width in
     let r : ℕ = length t.pairs in
     let to : ℕ = from + s.rows.matrix.height in
@@ -121,7 +121,7 @@ part_zeros t kept from d s v two m tri h low none a =
     let B : Matrix = record { height = d; width = n; rows = replicate d (zeros n) } in
     let C : Matrix = record { height = d; width = r; rows = replicate d (zeros r) } in
     let u : SchurRows = record { rows = record { modulus = t.rows.modulus; matrix = B }; coefficients = record { modulus = t.rows.modulus; matrix = C } } in
-    part_join t kept from to s u v h (record {
+    part_join t with_coefficients from to s u v h (record {
       modulus = refl;
       rest = zero_rows pos n d;
       width = refl;
@@ -173,9 +173,9 @@ spread_row {R} {S} {i} {cols} {vals} same sound li columns values =
     ∙ spread_support S.matrix.width (row S.matrix i) (m.each i li).len
 
 -- a row appended by the call for a pivot's row
-pub left_pivot : {t : TriangleState} {kept : Bool} {i k p : ℕ} {qs : List Pair} {R : ResidueMatrix} {old new : SchurRows} → R ≡ t.rows → p ≡ R.modulus → 2 ≤ p → Triangular t.rows.matrix t.pairs → qs ≡ t.pairs →
-    IsRowOfPair qs i k → MayTakeRow t old → AddsRow (itself old k) old new → AddsLeft t kept i old new
-left_pivot {t} {kept} {i} {k} {p} {qs} {R} {old} {new} same value two tri pairs here room added =
+pub left_pivot : {t : TriangleState} {with_coefficients : Bool} {i k p : ℕ} {qs : List Pair} {R : ResidueMatrix} {old new : SchurRows} → R ≡ t.rows → p ≡ R.modulus → 2 ≤ p → Triangular t.rows.matrix t.pairs → qs ≡ t.pairs →
+    IsRowOfPair qs i k → MayTakeRow t old → AddsRow (itself old k) old new → AddsLeft t with_coefficients i old new
+left_pivot {t} {with_coefficients} {i} {k} {p} {qs} {R} {old} {new} same value two tri pairs here room added =
     let m : ℕ = t.rows.modulus in
     let big : 2 ≤ m = omega (arith, value, ap (λ (R : ResidueMatrix). R.modulus) same) in
     let at : IsRowOfPair t.pairs i k = subst (λ qs. IsRowOfPair qs i k) pairs here in
@@ -195,9 +195,9 @@ left_pivot {t} {kept} {i} {k} {p} {qs} {R} {old} {new} same value two tri pairs 
     }
 
 -- where the coefficients aren't kept, nothing is told of a pivot's row
-pub left_none : {t : TriangleState} {kept : Bool} {i k p : ℕ} {qs : List Pair} {R : ResidueMatrix} {old new : SchurRows} → kept ≡ false → R ≡ t.rows → p ≡ R.modulus → 2 ≤ p → qs ≡ t.pairs →
-    IsRowOfPair qs i k → MayTakeRow t old → AddsZeros 1 old new → AddsLeft t kept i old new
-left_none {t} {kept} {i} {k} {p} {qs} {R} {old} {new} off same value two pairs here room added =
+pub left_none : {t : TriangleState} {with_coefficients : Bool} {i k p : ℕ} {qs : List Pair} {R : ResidueMatrix} {old new : SchurRows} → with_coefficients ≡ false → R ≡ t.rows → p ≡ R.modulus → 2 ≤ p → qs ≡ t.pairs →
+    IsRowOfPair qs i k → MayTakeRow t old → AddsZeros 1 old new → AddsLeft t with_coefficients i old new
+left_none {t} {with_coefficients} {i} {k} {p} {qs} {R} {old} {new} off same value two pairs here room added =
     let m : ℕ = t.rows.modulus in
     let big : 2 ≤ m = omega (arith, value, ap (λ (R : ResidueMatrix). R.modulus) same) in
     let at : IsRowOfPair t.pairs i k = subst (λ qs. IsRowOfPair qs i k) pairs here in
@@ -215,10 +215,10 @@ left_none {t} {kept} {i} {k} {p} {qs} {R} {old} {new} off same value two pairs h
     }
 
 -- by the call that keeps the coefficients
-pub left_kept : {t : TriangleState} {kept : Bool} {i : ℕ} {R : ResidueMatrix} {qs : List Pair} {cols vals : List ℕ} {r : Reduced} {old new : SchurRows} → R ≡ t.rows → IsMatrix R.modulus R.matrix → i < t.rows.matrix.height →
+pub left_kept : {t : TriangleState} {with_coefficients : Bool} {i : ℕ} {R : ResidueMatrix} {qs : List Pair} {cols vals : List ℕ} {r : Reduced} {old new : SchurRows} → R ≡ t.rows → IsMatrix R.modulus R.matrix → i < t.rows.matrix.height →
     cols ≡ support (row R.matrix i) → vals ≡ nonzeros (row R.matrix i) → qs ≡ t.pairs → ¬ IsPivotRow qs i → FitsReduced t r →
-    (IsPrime t.rows.modulus → IsReduced t.rows.modulus t.rows.matrix t.pairs (spread t.rows.matrix.width cols vals) (reduction_of r)) → AddsRow (reduction_of r) old new → AddsLeft t kept i old new
-left_kept {t} {kept} {i} {R} {qs} {cols} {vals} {r} {old} {new} same sound li columns values pairs none fits reduced added =
+    (IsPrime t.rows.modulus → IsReduced t.rows.modulus t.rows.matrix t.pairs (spread t.rows.matrix.width cols vals) (reduction_of r)) → AddsRow (reduction_of r) old new → AddsLeft t with_coefficients i old new
+left_kept {t} {with_coefficients} {i} {R} {qs} {cols} {vals} {r} {old} {new} same sound li columns values pairs none fits reduced added =
     let free : ¬ IsPivotRow t.pairs i = subst (λ qs. ¬ IsPivotRow qs i) pairs none in
     let v : spread t.rows.matrix.width cols vals ≡ row t.rows.matrix i = spread_row same sound li columns values in
     let split : IsPrime t.rows.modulus → IsReduced t.rows.modulus t.rows.matrix t.pairs (row t.rows.matrix i) (reduction_of r) =
@@ -237,11 +237,11 @@ left_kept {t} {kept} {i} {R} {qs} {cols} {vals} {r} {old} {new} same sound li co
     }
 
 -- by the call that doesn't
-pub left_rest : {t : TriangleState} {kept : Bool} {i : ℕ} {R : ResidueMatrix} {qs : List Pair} {cols vals : List ℕ} {w : ResidueRow} {old new : SchurRows} → kept ≡ false → R ≡ t.rows → IsMatrix R.modulus R.matrix → 2 ≤ R.modulus →
+pub left_rest : {t : TriangleState} {with_coefficients : Bool} {i : ℕ} {R : ResidueMatrix} {qs : List Pair} {cols vals : List ℕ} {w : ResidueRow} {old new : SchurRows} → with_coefficients ≡ false → R ≡ t.rows → IsMatrix R.modulus R.matrix → 2 ≤ R.modulus →
     i < t.rows.matrix.height → cols ≡ support (row R.matrix i) → vals ≡ nonzeros (row R.matrix i) → qs ≡ t.pairs → ¬ IsPivotRow qs i → FitsRest t w →
     (IsPrime t.rows.modulus → IsSchurRow t.rows.modulus t.rows.matrix t.pairs (spread t.rows.matrix.width cols vals) w.row) → MayTakeRow t old →
-    AddsRow (record { rest = w.row; coefficients = zeros old.coefficients.matrix.width }) old new → AddsLeft t kept i old new
-left_rest {t} {kept} {i} {R} {qs} {cols} {vals} {w} {old} {new} off same sound two li columns values pairs none fits schur room added =
+    AddsRow (record { rest = w.row; coefficients = zeros old.coefficients.matrix.width }) old new → AddsLeft t with_coefficients i old new
+left_rest {t} {with_coefficients} {i} {R} {qs} {cols} {vals} {w} {old} {new} off same sound two li columns values pairs none fits schur room added =
     let free : ¬ IsPivotRow t.pairs i = subst (λ qs. ¬ IsPivotRow qs i) pairs none in
     let big : 2 ≤ t.rows.modulus = omega (arith, ap (λ (R : ResidueMatrix). R.modulus) same) in
     let v : spread t.rows.matrix.width cols vals ≡ row t.rows.matrix i = spread_row same sound li columns values in
@@ -272,37 +272,37 @@ unit_pushed {u} {z} {n} {k} {w} e zero same l =
     ]
 
 -- no row, as it is met
-pub no_part : {t : TriangleState} {kept : Bool} {R : ResidueMatrix} {qs : List Pair} {s : SchurRows} {w r : ℕ} → R ≡ t.rows → qs ≡ t.pairs → s.rows.modulus ≡ R.modulus → s.coefficients.modulus ≡ R.modulus →
-    w ≡ R.matrix.width → r ≡ length qs → s.rows.matrix ≡ record { height = 0; width = w; rows = [] } → s.coefficients.matrix ≡ record { height = 0; width = r; rows = [] } → (from : ℕ) → IsPartTo t kept from from s
-no_part {t} {kept} {R} {qs} {s} {w} {r} same pairs mb mc wide many b c from =
+pub no_part : {t : TriangleState} {with_coefficients : Bool} {R : ResidueMatrix} {qs : List Pair} {s : SchurRows} {w r : ℕ} → R ≡ t.rows → qs ≡ t.pairs → s.rows.modulus ≡ R.modulus → s.coefficients.modulus ≡ R.modulus →
+    w ≡ R.matrix.width → r ≡ length qs → s.rows.matrix ≡ record { height = 0; width = w; rows = [] } → s.coefficients.matrix ≡ record { height = 0; width = r; rows = [] } → (from : ℕ) → IsPartTo t with_coefficients from from s
+no_part {t} {with_coefficients} {R} {qs} {s} {w} {r} same pairs mb mc wide many b c from =
     let empty : ℕ → Matrix = λ n. record { height = 0; width = n; rows = [] } in
     let modulus : R.modulus ≡ t.rows.modulus = ap (λ (R : ResidueMatrix). R.modulus) same in
-    part_none t kept from (mb ∙ modulus) (mc ∙ modulus) (b ∙ ap empty (wide ∙ ap (λ (R : ResidueMatrix). R.matrix.width) same)) (c ∙ ap empty (many ∙ ap length pairs))
+    part_none t with_coefficients from (mb ∙ modulus) (mc ∙ modulus) (b ∙ ap empty (wide ∙ ap (λ (R : ResidueMatrix). R.matrix.width) same)) (c ∙ ap empty (many ∙ ap length pairs))
 
 zeros_high : {d : ℕ} {s v : SchurRows} → AddsZeros d s v → v.rows.matrix.height ≡ s.rows.matrix.height + d
 zeros_high {d} {s} {v} a = ap (λ (M : Matrix). M.height) a.rows
 
 -- one step of a part, and its last
-pub part_step : {t : TriangleState} {kept : Bool} {from next i p : ℕ} {R : ResidueMatrix} {s u v : SchurRows} → R ≡ t.rows → p ≡ R.modulus → 2 ≤ p → IsMatrix R.modulus R.matrix → Triangular t.rows.matrix t.pairs →
-    i < t.rows.matrix.height → IsPartTo t kept from next s → IsNextFilled R.matrix next i → AddsZeros (i - next) s u → AddsLeft t kept i u v → IsPartTo t kept from (i + 1) v
-part_step {t} {kept} {from} {next} {i} {p} {R} {s} {u} {v} same value two sound tri li h found z a =
+pub part_step : {t : TriangleState} {with_coefficients : Bool} {from next i p : ℕ} {R : ResidueMatrix} {s u v : SchurRows} → R ≡ t.rows → p ≡ R.modulus → 2 ≤ p → IsMatrix R.modulus R.matrix → Triangular t.rows.matrix t.pairs →
+    i < t.rows.matrix.height → IsPartTo t with_coefficients from next s → IsNextFilled R.matrix next i → AddsZeros (i - next) s u → AddsLeft t with_coefficients i u v → IsPartTo t with_coefficients from (i + 1) v
+part_step {t} {with_coefficients} {from} {next} {i} {p} {R} {s} {u} {v} same value two sound tri li h found z a =
     let big : 2 ≤ t.rows.modulus = omega (arith, value, ap (λ (R : ResidueMatrix). R.modulus) same) in
     let m : IsMatrix t.rows.modulus t.rows.matrix = subst (λ (T : ResidueMatrix). IsMatrix T.modulus T.matrix) same sound in
     let low = found.low in
     let meet : from + u.rows.matrix.height ≡ i = omega (arith, h.1, zeros_high z) in
-    let g : IsPart t kept from u = part_zeros t kept from (i - next) s u big m tri h.0 (omega (arith, h.1)) (λ k a b. subst (λ (T : ResidueMatrix). IsZeroRow T.matrix k) same (found.between k (omega (arith, h.1)) (omega (arith, h.1)))) z in
-    (part_more t kept from i u v g meet a, omega (arith, meet, ap (λ (M : Matrix). M.height) a.added.rows))
+    let g : IsPart t with_coefficients from u = part_zeros t with_coefficients from (i - next) s u big m tri h.0 (omega (arith, h.1)) (λ k a b. subst (λ (T : ResidueMatrix). IsZeroRow T.matrix k) same (found.between k (omega (arith, h.1)) (omega (arith, h.1)))) z in
+    (part_more t with_coefficients from i u v g meet a, omega (arith, meet, ap (λ (M : Matrix). M.height) a.added.rows))
 
-pub part_end : {t : TriangleState} {kept : Bool} {from next to p : ℕ} {R : ResidueMatrix} {s v : SchurRows} → R ≡ t.rows → p ≡ R.modulus → 2 ≤ p → IsMatrix R.modulus R.matrix → Triangular t.rows.matrix t.pairs →
-    to ≤ t.rows.matrix.height → next ≤ to → IsPartTo t kept from next s → AreZeroRows R.matrix next to → AddsZeros (to - next) s v → IsPartTo t kept from to v
-part_end {t} {kept} {from} {next} {to} {p} {R} {s} {v} same value two sound tri high low h none z =
+pub part_end : {t : TriangleState} {with_coefficients : Bool} {from next to p : ℕ} {R : ResidueMatrix} {s v : SchurRows} → R ≡ t.rows → p ≡ R.modulus → 2 ≤ p → IsMatrix R.modulus R.matrix → Triangular t.rows.matrix t.pairs →
+    to ≤ t.rows.matrix.height → next ≤ to → IsPartTo t with_coefficients from next s → AreZeroRows R.matrix next to → AddsZeros (to - next) s v → IsPartTo t with_coefficients from to v
+part_end {t} {with_coefficients} {from} {next} {to} {p} {R} {s} {v} same value two sound tri high low h none z =
     let big : 2 ≤ t.rows.modulus = omega (arith, value, ap (λ (R : ResidueMatrix). R.modulus) same) in
     let m : IsMatrix t.rows.modulus t.rows.matrix = subst (λ (T : ResidueMatrix). IsMatrix T.modulus T.matrix) same sound in
-    (part_zeros t kept from (to - next) s v big m tri h.0 (omega (arith, h.1)) (λ k a b. subst (λ (T : ResidueMatrix). IsZeroRow T.matrix k) same (none k (omega (arith, h.1)) (omega (arith, h.1)))) z, omega (arith, h.1, zeros_high z))
+    (part_zeros t with_coefficients from (to - next) s v big m tri h.0 (omega (arith, h.1)) (λ k a b. subst (λ (T : ResidueMatrix). IsZeroRow T.matrix k) same (none k (omega (arith, h.1)) (omega (arith, h.1)))) z, omega (arith, h.1, zeros_high z))
 
-pub part_takes : {t : TriangleState} {kept : Bool} {from next i h : ℕ} {R : ResidueMatrix} {s u : SchurRows} → R ≡ t.rows → h ≡ R.matrix.height → h ≤ LARGEST_SIZE → i < t.rows.matrix.height → IsPartTo t kept from next s → next ≤ i →
+pub part_takes : {t : TriangleState} {with_coefficients : Bool} {from next i h : ℕ} {R : ResidueMatrix} {s u : SchurRows} → R ≡ t.rows → h ≡ R.matrix.height → h ≤ LARGEST_SIZE → i < t.rows.matrix.height → IsPartTo t with_coefficients from next s → next ≤ i →
     AddsZeros (i - next) s u → MayTakeRow t u
-part_takes {t} {kept} {from} {next} {i} {h} {R} {s} {u} same value bound li part low z =
+part_takes {t} {with_coefficients} {from} {next} {i} {h} {R} {s} {u} same value bound li part low z =
     let high : h ≡ t.rows.matrix.height = value ∙ ap (λ (R : ResidueMatrix). R.matrix.height) same in
     record {
       modulus = z.modulus ∙ part.0.modulus;

@@ -81,9 +81,9 @@ basis_none {t} {b} {p} {n} two modulus width sound is =
       span = λ prime. subst (SameSpan m (none t.rows.matrix.width)) (sym same) (λ v. ((λ y. y), (λ y. y)));
     }
 
--- a part whose coefficients may be kept is one without them
-pub without_coefficients : {t : TriangleState} {kept : Bool} {from to : ℕ} {s : SchurRows} → IsPartTo t kept from to s → IsPartTo t false from to s
-without_coefficients {t} {kept} {from} {to} {s} h = (
+-- a part that may have coefficients is one without them
+pub without_coefficients : {t : TriangleState} {with_coefficients : Bool} {from to : ℕ} {s : SchurRows} → IsPartTo t with_coefficients from to s → IsPartTo t false from to s
+without_coefficients {t} {with_coefficients} {from} {to} {s} h = (
   record {
     modulus = h.0.modulus;
     rest = h.0.rest;

@@ -26,10 +26,10 @@ unit_other : (r k i : ℕ) → i < r → i ≢ k → slice_index (unit r k) i �
 unit_other r k i l d = at_list_of r (λ j. if j == k then 1 else 0) i l ∙ cond-false {A = ℕ} (eqb i k) 1 0 (ne_eqb i k d)
 
 -- what holds of a reducer's triangle holds of the triangle
-pub whole_of : {r t : TriangleState} {kept : Bool} {s : SchurRows} → r ≡ t → IsPartTo r kept 0 r.rows.matrix.height s → IsPartTo t kept 0 t.rows.matrix.height s
-whole_of {r} {t} {kept} {s} e h = subst (λ (t : TriangleState). IsPartTo t kept 0 t.rows.matrix.height s) e h
+pub whole_of : {r t : TriangleState} {with_coefficients : Bool} {s : SchurRows} → r ≡ t → IsPartTo r with_coefficients 0 r.rows.matrix.height s → IsPartTo t with_coefficients 0 t.rows.matrix.height s
+whole_of {r} {t} {with_coefficients} {s} e h = subst (λ (t : TriangleState). IsPartTo t with_coefficients 0 t.rows.matrix.height s) e h
 
-pub whole_fits : {t : TriangleState} {kept : Bool} {s : SchurRows} → IsPartTo t kept 0 t.rows.matrix.height s → FitsRound t s
+pub whole_fits : {t : TriangleState} {with_coefficients : Bool} {s : SchurRows} → IsPartTo t with_coefficients 0 t.rows.matrix.height s → FitsRound t s
 whole_fits h = record {
   rest = record { modulus = h.0.modulus; matrix = h.0.rest; height = omega (arith, h.1); width = h.0.width };
   modulus = h.0.coefficient_modulus;
@@ -38,7 +38,7 @@ whole_fits h = record {
   width = h.0.coefficient_width;
 }
 
-module _ {t : TriangleState} {kept : Bool} {s : SchurRows} (tri : Triangular t.rows.matrix t.pairs) (h : IsPartTo t kept 0 t.rows.matrix.height s) where
+module _ {t : TriangleState} {with_coefficients : Bool} {s : SchurRows} (tri : Triangular t.rows.matrix t.pairs) (h : IsPartTo t with_coefficients 0 t.rows.matrix.height s) where
   abbrev p : ℕ
   p = t.rows.modulus
 
@@ -51,8 +51,8 @@ module _ {t : TriangleState} {kept : Bool} {s : SchurRows} (tri : Triangular t.r
   abbrev C : Matrix
   C = s.coefficients.matrix
 
-  at : (i : ℕ) → i < A.height → IsRowOfRound t kept i (record { rest = row B i; coefficients = row C i })
-  at i l = let plain : 0 + i ≡ i = omega arith in subst (λ x. IsRowOfRound t kept x (record { rest = row B i; coefficients = row C i })) plain (h.0.each i (omega (arith, h.1)))
+  at : (i : ℕ) → i < A.height → IsRowOfRound t with_coefficients i (record { rest = row B i; coefficients = row C i })
+  at i l = let plain : 0 + i ≡ i = omega arith in subst (λ x. IsRowOfRound t with_coefficients x (record { rest = row B i; coefficients = row C i })) plain (h.0.each i (omega (arith, h.1)))
 
   pivotal : (k j : ℕ) → k < length t.pairs → j < A.width → entry B (row_at t.pairs k) j ≡ 0
   pivotal k j l lj = ap (λ u. slice_index u j) ((at (row_at t.pairs k) (tri.nonzero k l).0).nothing (k, l, refl)) ∙ at_zeros A.width j lj
@@ -66,7 +66,7 @@ module _ {t : TriangleState} {kept : Bool} {s : SchurRows} (tri : Triangular t.r
     others = λ i l none. (at i l).left prime none;
   }
 
-  module _ (on : kept ≡ true) where
+  module _ (on : with_coefficients ≡ true) where
     itself : (k : ℕ) → k < length t.pairs → row C (row_at t.pairs k) ≡ unit (length t.pairs) k
     itself k l = (at (row_at t.pairs k) (tri.nonzero k l).0).itself on k l refl
 

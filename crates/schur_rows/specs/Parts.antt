@@ -18,17 +18,17 @@ use Rattle.schur_rows.specs.declared.numbered_part.NumberedPart.{NumberedPart}
 
 -- r is row i of a round: a pivot row is itself and leaves nothing, for another row its Schur row is left; where the
 -- coefficients are kept, they split the row
-pub record IsRowOfRound (t : TriangleState) (kept : Bool) (i : ℕ) (r : Reduction) : Type 0 where
+pub record IsRowOfRound (t : TriangleState) (with_coefficients : Bool) (i : ℕ) (r : Reduction) : Type 0 where
   pub nothing : IsPivotRow t.pairs i → r.rest ≡ zeros t.rows.matrix.width
-  pub itself : kept ≡ true → (k : ℕ) → k < length t.pairs → row_at t.pairs k ≡ i →
+  pub itself : with_coefficients ≡ true → (k : ℕ) → k < length t.pairs → row_at t.pairs k ≡ i →
       r.coefficients ≡ unit (length t.pairs) k
   pub left : IsPrime t.rows.modulus → ¬ IsPivotRow t.pairs i →
       IsSchurRow t.rows.modulus t.rows.matrix t.pairs (row t.rows.matrix i) r.rest
-  pub split : kept ≡ true → IsPrime t.rows.modulus → ¬ IsPivotRow t.pairs i →
+  pub split : with_coefficients ≡ true → IsPrime t.rows.modulus → ¬ IsPivotRow t.pairs i →
       IsReduced t.rows.modulus t.rows.matrix t.pairs (row t.rows.matrix i) r
 
 -- the rows of a round from `from` on, as many as there are
-pub record IsPart (t : TriangleState) (kept : Bool) (from : ℕ) (s : SchurRows) : Type 0 where
+pub record IsPart (t : TriangleState) (with_coefficients : Bool) (from : ℕ) (s : SchurRows) : Type 0 where
   pub modulus : s.rows.modulus ≡ t.rows.modulus
   pub rest : IsMatrix t.rows.modulus s.rows.matrix
   pub width : s.rows.matrix.width ≡ t.rows.matrix.width
@@ -37,14 +37,15 @@ pub record IsPart (t : TriangleState) (kept : Bool) (from : ℕ) (s : SchurRows)
   pub coefficient_width : s.coefficients.matrix.width ≡ length t.pairs
   pub height : s.coefficients.matrix.height ≡ s.rows.matrix.height
   pub each : (x : ℕ) → x < s.rows.matrix.height →
-      IsRowOfRound t kept (from + x) (record {
+      IsRowOfRound t with_coefficients (from + x) (record {
         rest = row s.rows.matrix x;
         coefficients = row s.coefficients.matrix x;
       })
 
 -- the rows from `from` up to `to`
 abbrev pub IsPartTo : TriangleState → Bool → ℕ → ℕ → SchurRows → Type 0
-IsPartTo t kept from to s = IsPart t kept from s × (from + s.rows.matrix.height ≡ to)
+IsPartTo t with_coefficients from to s =
+    IsPart t with_coefficients from s × (from + s.rows.matrix.height ≡ to)
 
 -- the rows from `from` up to `to` have no entry
 abbrev pub AreZeroRows : Matrix → ℕ → ℕ → Type 0
@@ -73,11 +74,12 @@ abbrev pub itself : SchurRows → ℕ → Reduction
 itself s k = record { rest = zeros s.rows.matrix.width; coefficients = unit s.coefficients.matrix.width k }
 
 -- they are row i of a round
-pub record AddsLeft (t : TriangleState) (kept : Bool) (i : ℕ) (old new : SchurRows) : Type 0 where
+pub record AddsLeft (t : TriangleState) (with_coefficients : Bool) (i : ℕ)
+    (old new : SchurRows) : Type 0 where
   pub left : Reduction
   pub rest : IsVector t.rows.modulus t.rows.matrix.width left.rest
   pub coefficients : IsVector t.rows.modulus (length t.pairs) left.coefficients
-  pub is_row : IsRowOfRound t kept i left
+  pub is_row : IsRowOfRound t with_coefficients i left
   pub added : AddsRow left old new
 
 -- there is room for one row more
@@ -120,7 +122,7 @@ cut_at deal j = slice_index deal.cuts.now j
 
 -- part j
 abbrev pub IsPartOf : TriangleState → Deal → ℕ → SchurRows → Type 0
-IsPartOf t deal j s = IsPartTo t deal.pass.kept (cut_at deal j) (cut_at deal (j + 1)) s
+IsPartOf t deal j s = IsPartTo t deal.pass.with_coefficients (cut_at deal j) (cut_at deal (j + 1)) s
 
 -- the part of its number
 abbrev pub IsNumbered : TriangleState → Deal → NumberedPart → Type 0

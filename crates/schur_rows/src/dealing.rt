@@ -17,7 +17,7 @@ pub trait Dealing: Crew {
     fn left_of(&self, alloc: Global, deal: Deal) -> Result<SchurRows, AllocError>
         requires able { Self.can_work }
         requires deal { IsDeal deal }
-        ensures { IfOk result (IsPartTo deal.entry.pass.reducer.now deal.entry.pass.kept
+        ensures { IfOk result (IsPartTo deal.entry.pass.reducer.now deal.entry.pass.with_coefficients
             deal.entry.from deal.entry.to) };
 }
 

@@ -8,7 +8,7 @@ pub struct Pass<'r, 't, 'a> {
     pub reducer: &'r RowReducer<'t, 'a>,
     pub pivot_rows: &'r PivotNumbers,
     // Whether the coefficients are kept.
-    pub kept: bool,
+    pub with_coefficients: bool,
     // About how many entries it leaves of all rows.
     pub total: u64,
 }

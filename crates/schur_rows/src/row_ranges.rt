@@ -19,14 +19,14 @@ use triangular_solve::{Reduced, Work};
 pub(crate) fn no_rows(alloc: Global, pass: Pass, height: u32) -> Result<SchurRows, AllocError>
     requires { height ≤ LARGEST_SIZE }
     ensures { IfOk result (λ part. (from : ℕ) →
-        IsPartTo pass.entry.reducer.now pass.entry.kept from from part) }
+        IsPartTo pass.entry.reducer.now pass.entry.with_coefficients from from part) }
 {
     let rows = pass.reducer.rows();
     // The call's contract tells how high a matrix is; a triangle has no more pivots.
     let _ = rows.height();
     let pivots = pass.reducer.pairs().len() as u32;
     let entries = share_of_rows(rows, pass.total, height);
-    let coefficients = if pass.kept { entries } else { 0 };
+    let coefficients = if pass.with_coefficients { entries } else { 0 };
     Ok(SchurRows {
         rows: Rows::with_room(alloc, rows.modulus(), rows.width(), height, entries)?,
         coefficients: Rows::with_room(alloc, rows.modulus(), pivots, height, coefficients)?,
@@ -52,7 +52,7 @@ pub(crate) fn part_of(
     requires inside { to ≤ pass.reducer.now.rows.matrix.height }
     requires numbers { HasNumbers pass.reducer.now.pairs pass.pivot_rows.now }
     ensures work { work.new ≡ work.old }
-    ensures part { IfOk result (IsPartTo pass.entry.reducer.now pass.entry.kept from to) }
+    ensures part { IfOk result (IsPartTo pass.entry.reducer.now pass.entry.with_coefficients from to) }
 {
     let rows = pass.reducer.rows();
     // The call's contract tells how high a matrix is.
@@ -73,7 +73,7 @@ pub(crate) fn part_by_caller(
     requires order { from ≤ to }
     requires inside { to ≤ pass.reducer.now.rows.matrix.height }
     requires numbers { HasNumbers pass.reducer.now.pairs pass.pivot_rows.now }
-    ensures { IfOk result (IsPartTo pass.entry.reducer.now pass.entry.kept from to) }
+    ensures { IfOk result (IsPartTo pass.entry.reducer.now pass.entry.with_coefficients from to) }
 {
     let mut work = pass.reducer.work(alloc)?;
     part_of(alloc, pass, from, to, &mut work)
@@ -94,9 +94,10 @@ fn append_rows(
     requires inside { to ≤ pass.reducer.now.rows.matrix.height }
     requires numbers { HasNumbers pass.reducer.now.pairs pass.pivot_rows.now }
     requires sizes { HasSizesOf pass.reducer.now left.old }
-    requires part { IsPartTo pass.reducer.now pass.kept from from part.old }
+    requires part { IsPartTo pass.reducer.now pass.with_coefficients from from part.old }
     ensures work { work.new ≡ work.old }
-    ensures part { OnOk result (IsPartTo pass.entry.reducer.now pass.entry.kept from to part.new) }
+    ensures part { OnOk result (IsPartTo pass.entry.reducer.now pass.entry.with_coefficients
+        from to part.new) }
 {
     let rows = pass.reducer.rows();
     // The calls' contracts tell how high a matrix of residues is, and that the pivots are triangular.
@@ -186,7 +187,8 @@ fn append_left(
     requires part { MayTakeRow pass.reducer.now part.old }
     ensures work { work.new ≡ work.old }
     ensures sizes { OnOk result (HasSizesOf pass.entry.reducer.now left.new) }
-    ensures added { OnOk result (AddsLeft pass.entry.reducer.now pass.entry.kept i part.old part.new) }
+    ensures added { OnOk result (AddsLeft pass.entry.reducer.now pass.entry.with_coefficients
+        i part.old part.new) }
 {
     let reducer = pass.reducer;
     let rows = reducer.rows();
@@ -195,14 +197,14 @@ fn append_left(
     let cols = rows.cols(i);
     let vals = rows.vals(i);
     if let Some(k) = pass.pivot_rows.find(i, reducer.pairs()) {
-        if pass.kept {
+        if pass.with_coefficients {
             append_pivot(k, &mut left.coefficients, part)?;
             return Ok(());
         }
         append_zeros(part, 1)?;
         return Ok(());
     }
-    if pass.kept {
+    if pass.with_coefficients {
         reducer.reduce(alloc, cols, vals, work, left)?;
         part.rows.append(&left.rest)?;
         part.coefficients.append(&left.coefficients)?;

@@ -109,7 +109,7 @@ pub fn rest_basis_by<C: Dealing + Finishing>(
     let pass = Pass {
         reducer,
         pivot_rows: &pivot_rows,
-        kept: false,
+        with_coefficients: false,
         total: total_left(alloc, reducer, &pivot_rows)?,
     };
     basis_of(crew, alloc, pass, workers, size)

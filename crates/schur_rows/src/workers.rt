@@ -47,15 +47,15 @@ pub(crate) fn left_by<C: Dealing>(
     alloc: Global,
     reducer: &RowReducer,
     workers: u32,
-    kept: bool,
+    with_coefficients: bool,
 ) -> Result<SchurRows, AllocError>
     requires able { C.can_work }
     requires some { 1 ≤ workers }
-    ensures { IfOk result (IsPartTo reducer.now kept 0 reducer.now.rows.matrix.height) }
+    ensures { IfOk result (IsPartTo reducer.now with_coefficients 0 reducer.now.rows.matrix.height) }
 {
     let height = reducer.rows().height();
     let pivot_rows = PivotNumbers::of(alloc, reducer)?;
-    let total = if kept {
+    let total = if with_coefficients {
         reducer.rows().entries()
     } else {
         total_left(alloc, reducer, &pivot_rows)?
@@ -63,7 +63,7 @@ pub(crate) fn left_by<C: Dealing>(
     let pass = Pass {
         reducer,
         pivot_rows: &pivot_rows,
-        kept,
+        with_coefficients,
         total,
     };
     left_between(crew, alloc, pass, workers, 0, height)
@@ -83,7 +83,7 @@ pub(crate) fn left_between<C: Dealing>(
     requires order { from ≤ to }
     requires inside { to ≤ pass.reducer.now.rows.matrix.height }
     requires numbers { HasNumbers pass.reducer.now.pairs pass.pivot_rows.now }
-    ensures { IfOk result (IsPartTo pass.entry.reducer.now pass.entry.kept from to) }
+    ensures { IfOk result (IsPartTo pass.entry.reducer.now pass.entry.with_coefficients from to) }
 {
     // The call's contract tells how high a matrix is.
     let _ = pass.reducer.rows().height();
@@ -113,7 +113,7 @@ pub(crate) fn left_by_stages<R: Threads + Sync>(
     deal: Deal,
 ) -> Result<SchurRows, AllocError>
     requires deal { IsDeal deal }
-    ensures { IfOk result (IsPartTo deal.entry.pass.reducer.now deal.entry.pass.kept
+    ensures { IfOk result (IsPartTo deal.entry.pass.reducer.now deal.entry.pass.with_coefficients
         deal.entry.from deal.entry.to) }
 {
     // The call's contract tells how high a matrix is.
@@ -145,10 +145,10 @@ fn next_stage<R: Threads + Sync>(
     requires deal { IsDeal deal }
     requires stage { IsStage deal stage }
     requires parts { All (IsNumbered deal.pass.reducer.now deal) parts.now }
-    requires made { IsPartTo deal.pass.reducer.now deal.pass.kept
+    requires made { IsPartTo deal.pass.reducer.now deal.pass.with_coefficients
         deal.from (cut_at deal stage.joined) made.old }
     ensures parts { IsWorkersShare deal.entry.pass.reducer.now deal.entry result }
-    ensures made { OnOk result (IsPartTo deal.entry.pass.reducer.now deal.entry.pass.kept
+    ensures made { OnOk result (IsPartTo deal.entry.pass.reducer.now deal.entry.pass.with_coefficients
         deal.entry.from (cut_at deal.entry stage.begun) made.new) }
 {
     let next = AtomicU64::new(stage.begun as u64);
@@ -160,9 +160,10 @@ fn next_stage<R: Threads + Sync>(
     let mut own = || -> Share
         requires { IsDeal deal × IsStage deal stage
             × All (IsNumbered deal.pass.reducer.now deal) parts.now
-            × IsPartTo deal.pass.reducer.now deal.pass.kept deal.from (cut_at deal stage.joined) made.now }
+            × IsPartTo deal.pass.reducer.now deal.pass.with_coefficients
+            deal.from (cut_at deal stage.joined) made.now }
         ensures { IsWorkersShare deal.entry.pass.reducer.now deal.entry result
-            × OnOk result (IsPartTo deal.entry.pass.reducer.now deal.entry.pass.kept
+            × OnOk result (IsPartTo deal.entry.pass.reducer.now deal.entry.pass.with_coefficients
             deal.entry.from (cut_at deal.entry stage.begun) made.exit.now) }
     { join_and_go_on(alloc, deal, stage, &next, parts, made) };
     let (own, others) = join_mut(rt, &mut own, &mut help);
@@ -185,10 +186,10 @@ fn join_and_go_on(
     requires deal { IsDeal deal }
     requires stage { IsStage deal stage }
     requires parts { All (IsNumbered deal.pass.reducer.now deal) parts.now }
-    requires made { IsPartTo deal.pass.reducer.now deal.pass.kept
+    requires made { IsPartTo deal.pass.reducer.now deal.pass.with_coefficients
         deal.from (cut_at deal stage.joined) made.old }
     ensures parts { IsWorkersShare deal.entry.pass.reducer.now deal.entry result }
-    ensures made { OnOk result (IsPartTo deal.entry.pass.reducer.now deal.entry.pass.kept
+    ensures made { OnOk result (IsPartTo deal.entry.pass.reducer.now deal.entry.pass.with_coefficients
         deal.entry.from (cut_at deal.entry stage.begun) made.new) }
 {
     join_parts(alloc, deal, stage.joined, stage.begun, parts, made)?;
@@ -302,8 +303,9 @@ fn join_parts(
     requires order { from ≤ to }
     requires end { to ≤ deal.count }
     requires parts { All (IsNumbered deal.pass.reducer.now deal) parts.now }
-    requires made { IsPartTo deal.pass.reducer.now deal.pass.kept deal.from (cut_at deal from) made.old }
-    ensures { OnOk result (IsPartTo deal.entry.pass.reducer.now deal.entry.pass.kept
+    requires made { IsPartTo deal.pass.reducer.now deal.pass.with_coefficients
+        deal.from (cut_at deal from) made.old }
+    ensures { OnOk result (IsPartTo deal.entry.pass.reducer.now deal.entry.pass.with_coefficients
         deal.entry.from (cut_at deal.entry to) made.new) }
 {
     for number in from..to {
@@ -324,9 +326,9 @@ fn join_number(
     requires deal { IsDeal deal }
     requires number { number < deal.count }
     requires parts { All (IsNumbered deal.pass.reducer.now deal) parts.now }
-    requires made { IsPartTo deal.pass.reducer.now deal.pass.kept
+    requires made { IsPartTo deal.pass.reducer.now deal.pass.with_coefficients
         deal.from (cut_at deal number) made.old }
-    ensures { OnOk result (IsPartTo deal.entry.pass.reducer.now deal.entry.pass.kept
+    ensures { OnOk result (IsPartTo deal.entry.pass.reducer.now deal.entry.pass.with_coefficients
         deal.entry.from (cut_at deal.entry (number + 1)) made.new) }
 {
     // The call's contract tells how high a matrix is.
@@ -347,9 +349,9 @@ fn join_missing(
 ) -> Result<(), AllocError>
     requires deal { IsDeal deal }
     requires number { number < deal.count }
-    requires made { IsPartTo deal.pass.reducer.now deal.pass.kept
+    requires made { IsPartTo deal.pass.reducer.now deal.pass.with_coefficients
         deal.from (cut_at deal number) made.old }
-    ensures { OnOk result (IsPartTo deal.entry.pass.reducer.now deal.entry.pass.kept
+    ensures { OnOk result (IsPartTo deal.entry.pass.reducer.now deal.entry.pass.with_coefficients
         deal.entry.from (cut_at deal.entry (number + 1)) made.new) }
 {
     // The call's contract tells how high a matrix is.

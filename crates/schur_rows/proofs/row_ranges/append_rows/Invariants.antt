@@ -8,7 +8,7 @@ invariant-loop-i l = record {
   low : l.next ≤ l.to;
   work : l.work ≡ l.fn.work;
   sizes : HasSizesOf l.pass.reducer.now l.left;
-  part : IsPartTo l.pass.reducer.now l.pass.kept l.from l.next l.part;
+  part : IsPartTo l.pass.reducer.now l.pass.with_coefficients l.from l.next l.part;
 }
 
 abbrev pub decreases-loop-i : goal.decreases-loop-i

@@ -7,7 +7,7 @@ invariant-loop-begun g l = record {
   joined : l.joined ≤ l.begun;
   begun : l.begun ≤ l.deal.count;
   parts : All (IsNumbered l.deal.pass.reducer.now l.deal) l.parts.items;
-  made : IsPartTo l.deal.pass.reducer.now l.deal.pass.kept l.deal.from (cut_at l.deal l.joined) l.made;
+  made : IsPartTo l.deal.pass.reducer.now l.deal.pass.with_coefficients l.deal.from (cut_at l.deal l.joined) l.made;
 }
 
 abbrev pub decreases-loop-begun : goal.decreases-loop-begun
