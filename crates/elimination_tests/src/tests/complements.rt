@@ -5,6 +5,7 @@ use crate::tests::matrices::{have_same_entries, scattered};
 use crew::Threaded;
 use dense_finish::finish;
 use fl_pivots::leftmost;
+use residue_words::Modulus;
 use schur_rows::{ChunkSize, RowReducer, complement, rest_basis_by};
 use sparse_rows::Rows;
 use std::alloc::{AllocError, Global};
@@ -111,6 +112,99 @@ const SCATTERED: &[(u32, u32, u32)] = &[
     (30, 30, 9),
     (20, 2147483648, 2),
 ];
+
+// Five rows modulo 7, and the rank of what the leftmost pivots leave of them: one of each column, two that depend on a third one, a
+// column that the pivot's row alone fills, rows of which nothing is left, and no column but the pivots'.
+const LEFT: &[([[u64; 4]; 5], usize)] = &[
+    (
+        [
+            [1, 0, 0, 0],
+            [1, 1, 0, 0],
+            [1, 0, 1, 0],
+            [1, 0, 0, 1],
+            [1, 1, 1, 1],
+        ],
+        3,
+    ),
+    (
+        [
+            [1, 1, 1, 1],
+            [1, 2, 3, 4],
+            [1, 2, 3, 4],
+            [1, 3, 5, 0],
+            [1, 1, 2, 1],
+        ],
+        2,
+    ),
+    (
+        [
+            [1, 0, 0, 5],
+            [0, 1, 0, 0],
+            [0, 1, 1, 0],
+            [0, 1, 2, 0],
+            [0, 1, 3, 0],
+        ],
+        1,
+    ),
+    (
+        [
+            [1, 1, 0, 2],
+            [2, 2, 0, 4],
+            [3, 3, 0, 6],
+            [4, 4, 0, 1],
+            [5, 5, 0, 3],
+        ],
+        0,
+    ),
+    (
+        [
+            [1, 0, 0, 0],
+            [0, 2, 0, 0],
+            [0, 0, 3, 0],
+            [0, 0, 0, 4],
+            [0, 0, 0, 5],
+        ],
+        0,
+    ),
+];
+
+// The matrix with these rows.
+fn of_lines(alloc: Global, lines: &[[u64; 4]; 5]) -> Result<Rows, Fail> {
+    let mut triples = Vec::new(alloc);
+    for i in 0..5_u32 {
+        for j in 0..4_u32 {
+            triples.push((i, j, lines[i as usize][j as usize]))?;
+        }
+    }
+    match Rows::checked_from_triples(alloc, 5, 4, &Modulus::new(7), &triples)? {
+        Some(rows) => Ok(rows),
+        None => Err(Fail::new("a value is no residue")),
+    }
+}
+
+// Whether the leftmost pivots leave so many independent rows, by chunks as at once.
+fn leaves_rank<R: Threads + Sync>(
+    rt: &R,
+    alloc: Global,
+    rows: &Rows,
+    rank: usize,
+) -> Result<bool, AllocError> {
+    let book = leftmost(alloc, rows)?;
+    let triangle = Triangle::of(alloc, &book)?;
+    let (known, found) = known_rest(rt, alloc, &triangle)?;
+    let agree = agrees(rt, alloc, &RowReducer::by_walks(&triangle), &known, rank)?;
+    Ok(agree && found == rank)
+}
+
+#[test]
+fn bases_end_in_time(rt: HostRuntime) -> Result<(), Fail> {
+    let alloc = rt.alloc();
+    for (lines, rank) in LEFT {
+        let rows = of_lines(alloc, lines)?;
+        assert!(rt; leaves_rank(&rt, alloc, &rows, *rank)?, "at {rank}");
+    }
+    Ok(())
+}
 
 #[test]
 fn ways_and_chunks_agree(rt: HostRuntime) -> Result<(), Fail> {
