@@ -163,13 +163,13 @@ fn pushed_as(k: u32) -> (u32, u64) {
 }
 
 // A matrix of one entry in each of 32768 rows, pushed in no order of the rows.
-fn permuted(alloc: Global) -> Result<Rows, AllocError> {
-    let mut builder = RowsBuilder::new(alloc, 32_768, 3, Modulus::new(7))?;
+fn permuted(alloc: Global) -> Result<Rows, Fail> {
+    let mut pushed = Vec::new(alloc);
     for k in 0..32_768u32 {
         let (j, v) = pushed_as(k);
-        builder.push(k.wrapping_mul(20_021) % 32_768, j, v)?;
+        pushed.push((k.wrapping_mul(20_021) % 32_768, j, v))?;
     }
-    builder.finish()
+    built(alloc, 32_768, 3, &pushed)
 }
 
 #[test]
