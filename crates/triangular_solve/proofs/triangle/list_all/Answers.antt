@@ -65,3 +65,9 @@ loop-place-preserved c =
 
 pub returns : goal.returns
 returns c = listing_ends c.requires.pivots c.loop-place.invariant c.in_default.ensures.none
+
+pub bounds-pairs-place : goal.bounds-pairs-place
+bounds-pairs-place c = c.loop-place.invariant.inside c.in-Some.place c.in-Some.ensures.some.here
+
+pub lower-requires-clause-rising : goal.lower-requires-clause-rising
+lower-requires-clause-rising c = c.cols.ensures.ascending

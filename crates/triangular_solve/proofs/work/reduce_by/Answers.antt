@@ -1,7 +1,19 @@
-use Rattle.std.proofs.Common.{ap, subst, sym, length}
+use Rattle.std.proofs.Common.{◌∙◌, ap, subst, sym, length}
 use Rattle.sparse_rows.specs.Rows.{ResidueRow}
 use Rattle.sparse_rows.specs.Stored.{IsSparse}
 use Rattle.triangular_solve.proofs.work.reduce_by.Goals as goal
 
 pub split-requires-clause-row : goal.split-requires-clause-row
 split-requires-clause-row c = subst (λ m. IsSparse m (length c.args.passed.now.row) c.args.cols.now c.args.vals.now) (sym (ap (λ (r : ResidueRow). r.modulus) c.requires.room.clear)) c.requires.row
+
+pub split-requires-clause-modulus : goal.split-requires-clause-modulus
+split-requires-clause-modulus c = c.requires.room.modulus ∙ sym (ap (λ (r : ResidueRow). r.modulus) c.requires.room.clear)
+
+pub split-requires-clause-none : goal.split-requires-clause-none
+split-requires-clause-none c = c.requires.room.zero
+
+pub split-requires-clause-distinct : goal.split-requires-clause-distinct
+split-requires-clause-distinct c = rw c.order.ensures.columns c.order.ensures.placed.distinct
+
+pub split-requires-clause-below : goal.split-requires-clause-below
+split-requires-clause-below c = rw c.order.ensures.columns c.requires.below

@@ -34,3 +34,26 @@ returns-clause-none c = (
   c.loop-column.invariant.same,
   subst (λ (r : ResidueRow). AllZero r.row) c.loop-column.invariant.same (residues_none c.loop-column.invariant.sound.limited (untouched c.loop-column.invariant.sound.touched c.in_default.ensures.none.1)),
 )
+
+pub index-requires : goal.index-requires
+index-requires c = omega (arith, (touched_pop c.loop-column.invariant.sound.touched c.in-Some.ensures.some).inside, c.loop-column.self-inside.sums.ok.0)
+
+pub index_mut-requires : goal.index_mut-requires
+index_mut-requires c = omega (arith, (touched_pop c.loop-column.invariant.sound.touched c.in-Some.ensures.some).inside, c.loop-column.self-inside.sums.ok.0)
+
+pub residue_of-value-requires : goal.residue_of-value-requires
+residue_of-value-requires c =
+    let inside = (touched_pop c.loop-column.invariant.sound.touched c.in-Some.ensures.some).inside in
+    omega (arith, c.index.ensures ∙ get_or_default c.loop-column.self-inside.sums.items c.in-Some.column _ 0 inside, c.loop-column.invariant.sound.limited.below c.in-Some.column inside)
+
+pub invariant_of-self : goal.invariant_of-self
+invariant_of-self c = accumulator_zero c.loop-column.invariant.sound c.in-Some.column (touched_pop c.loop-column.invariant.sound.touched c.in-Some.ensures.some).taken
+
+pub loop-column-init : goal.loop-column-init
+loop-column-init c = record { same = c.self.view_is; sound = c.self.invariant }
+
+pub returns-then-value-ne0-clause-modulus : goal.returns-then-value-ne0-clause-modulus
+returns-then-value-ne0-clause-modulus c = ap (λ (r : ResidueRow). r.modulus) c.loop-column.invariant.same
+
+pub returns-clause-modulus : goal.returns-clause-modulus
+returns-clause-modulus c = ap (λ (r : ResidueRow). r.modulus) c.loop-column.invariant.same

@@ -3,7 +3,7 @@ use Rattle.sparse_rows.proofs.Adding.{IsAddingTo}
 use Rattle.triangular_solve.specs.Accumulator.{residues_of}
 use Rattle.triangular_solve.specs.Scattered.{IsTouched}
 use Rattle.triangular_solve.proofs.Accumulating.{as_row}
-use Rattle.triangular_solve.proofs.Gathering.{adding_begins, adding_goes}
+use Rattle.triangular_solve.proofs.Gathering.{adding_begins, adding_goes, adding_inside}
 use Rattle.triangular_solve.proofs.Scattered.{scattered_done}
 use Rattle.triangular_solve.proofs.touched_sums.TouchedSums.add_products.Goals as goal
 
@@ -29,3 +29,17 @@ returns c =
     let all : c.loop-k.k ≡ length c.args.cols.now = omega (arith, c.loop-k-test.false, c.loop-k.auto.k-end) in
     scattered_done c.requires.row
     (subst (λ k. IsAddingTo c.args.by c.args.cols.now c.args.vals.now k c.args.self.now (as_row p (residues_of p c.loop-k.self-inside.sums.items))) all c.loop-k.invariant.adding)
+
+pub add_touched-requires-clause-column : goal.add_touched-requires-clause-column
+add_touched-requires-clause-column c = adding_inside c.loop-k.self-inside.sums.items c.requires.row c.loop-k.invariant.adding c.loop-k-test.true
+
+pub add_touched-requires-clause-sum : goal.add_touched-requires-clause-sum
+add_touched-requires-clause-sum c =
+    let inv = c.loop-k.invariant in
+    inv.sound.limited.below _ (adding_inside c.loop-k.self-inside.sums.items c.requires.row inv.adding c.loop-k-test.true)
+
+pub add_touched-requires-clause-room : goal.add_touched-requires-clause-room
+add_touched-requires-clause-room c = omega (arith, c.loop-k.invariant.room, c.loop-k-test.true)
+
+pub bounds-vals-k : goal.bounds-vals-k
+bounds-vals-k c = omega (arith, c.loop-k-test.true, c.requires.row.long)

@@ -57,3 +57,22 @@ returns-clause-listed c =
       all_columns = inv.all_columns;
       all_values = inv.all_values;
     }
+
+pub index-requires : goal.index-requires
+index-requires c = omega (arith, touched_last c.pop.new.self.items c.loop-column.invariant.sound c.in-Some.ensures.items, c.loop-column.self-inside.sums.ok.0)
+
+pub index_mut-requires : goal.index_mut-requires
+index_mut-requires c = omega (arith, touched_last c.pop.new.self.items c.loop-column.invariant.sound c.in-Some.ensures.items, c.loop-column.self-inside.sums.ok.0)
+
+pub residue_of-value-requires : goal.residue_of-value-requires
+residue_of-value-requires c =
+    let sums : List ℕ = c.loop-column.self-inside.sums.items in
+    let sound = c.loop-column.invariant.sound in
+    let inside : c.in-Some.column < length sums = touched_last c.pop.new.self.items sound c.in-Some.ensures.items in
+    omega (arith, c.index.ensures ∙ get_or_default sums _ _ 0 inside, sound.limited.below c.in-Some.column inside)
+
+pub push_if-requires : goal.push_if-requires
+push_if-requires c = omega (arith, c.loop-column.invariant.room, ap length c.in-Some.ensures.items, length_push c.pop.new.self.items c.in-Some.column)
+
+pub push_if-requires-in-Some : goal.push_if-requires-in-Some
+push_if-requires-in-Some c = omega (arith, c.loop-column.invariant.room_values, ap length c.in-Some.ensures.items, length_push c.pop.new.self.items c.in-Some.column)
