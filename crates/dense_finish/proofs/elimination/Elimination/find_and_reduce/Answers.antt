@@ -1,4 +1,4 @@
-use Rattle.std.proofs.Common.{rules, sym, subst}
+use Rattle.std.proofs.Common.{rules, subst}
 use Rattle.std.proofs.lemmas.Result.{IfOk-weaker}
 use Rattle.dense_finish.specs.Pieces.{AreReducedBy, AreReducedByAll, HaveReducible, SharesOf}
 use Rattle.dense_finish.proofs.ReducedPieces.{all_made}

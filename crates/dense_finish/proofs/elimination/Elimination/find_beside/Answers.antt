@@ -1,4 +1,4 @@
-use Rattle.std.proofs.Common.{◌≡◌, ◌∙◌, List, ℕ, subst}
+use Rattle.std.proofs.Common.{◌∙◌}
 use Rattle.dense_finish.specs.Pieces.{AreNewShares, AreReducedPieces}
 use Rattle.dense_finish.proofs.ReducedPieces.{new_made, new_reducible, pieces_lie, put_reduced}
 use Rattle.dense_finish.proofs.elimination.Elimination.find_beside.Goals as goal
