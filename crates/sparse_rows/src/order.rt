@@ -1,5 +1,5 @@
 // Cells brought into the order of their places, where they stand.
-ghost use Rattle.std.specs.Prelude.{◌≡◌, ◌<◌, ◌≤◌, ◌+◌, ◌-◌, ℕ, length, map, slice_index, All, IfOk, OnOk};
+ghost use Rattle.std.specs.Prelude.{◌≡◌, ◌<◌, ◌≤◌, ◌+◌, ◌-◌, ℕ, true, length, map, slice_index, All, IfOk, OnOk};
 ghost use Rattle.std.specs.List.Sorted.{IsNonDecreasingBy, IsPermutation};
 ghost use Rattle.residue_words.specs.Matrix.{list_of};
 ghost use Rattle.sparse_rows.specs.Cells.{AreGrouped, row_of};
@@ -11,13 +11,16 @@ use crate::rough_order::bring_near;
 use crate::rows::stores_every_row;
 use std::alloc::{AllocError, Global};
 
-// Sorts cells by their places. Where the rows are about as many as the cells, one pass counts the cells of each row, one moves
+// Sorts cells by their places, if they don't stand so already. Where the rows are about as many as the cells, one pass counts the cells of each row, one moves
 // each to its row's part, and each part is sorted: that takes 16 bytes a row. Many cells are brought near to their rows before. Else all are sorted at once, without memory.
 pub(crate) fn sort_cells(alloc: Global, height: u32, cells: &mut [Cell]) -> Result<(), AllocError>
     requires rows { All (λ c. row_of c < height) cells.old }
     ensures sorted { OnOk result (IsNonDecreasingBy (λ c. c.place) cells.new) }
     ensures permutation { IsPermutation cells.old cells.new }
 {
+    if are_sorted(cells) {
+        return Ok(());
+    }
     if !stores_every_row(height, cells.len()) {
         cells.sort_unstable_by_key(|c| c.place);
         return Ok(());
@@ -26,6 +29,20 @@ pub(crate) fn sort_cells(alloc: Global, height: u32, cells: &mut [Cell]) -> Resu
     let starts = group_by_rows(alloc, height, cells)?;
     sort_rows(&starts, cells);
     Ok(())
+}
+
+// Whether the cells stand in the order of their places already.
+fn are_sorted(cells: &[Cell]) -> bool
+    ensures { result ≡ true → IsNonDecreasingBy (λ c. c.place) cells.now }
+{
+    let mut last = 0;
+    for cell in cells {
+        if cell.place < last {
+            return false;
+        }
+        last = cell.place;
+    }
+    true
 }
 
 // Moves the cells of each row together, the rows in order, by one exchange a cell at most (McIlroy, Bostic and McIlroy,
