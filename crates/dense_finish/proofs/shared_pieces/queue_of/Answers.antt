@@ -1,5 +1,5 @@
 use Rattle.std.proofs.Common.{ℕ, ◌≡◌, ◌++◌, ◌+◌, ◌≤◌, ◌∙◌, ap, arith, length, rules, sym, take}
-use Rattle.std.proofs.lemmas.List.{length-take-le}
+use Rattle.std.proofs.lemmas.List.{length-take-le, take_all}
 use Rattle.dense_finish.proofs.SharedPieces.{begins, put_left, put_more, puts}
 use Rattle.dense_finish.proofs.shared_pieces.queue_of.Goals as goal
 
@@ -29,3 +29,15 @@ loop-at-preserved g c =
       put = ap (λ v. v.rows) known ∙ put_more olds rows a z before.left order inside _ _ before.put c.in_ok-piece.ensures.rows;
       left = put_left olds rows a z before.left order inside c.moved_piece.new.rows c.moved_piece.auto.rows;
     }
+
+pub returns-clause-pass : goal.returns-clause-pass
+returns-clause-pass g c = c.loop-at.invariant.pass
+
+pub returns-clause-rows : goal.returns-clause-rows
+returns-clause-rows g c = c.loop-at.invariant.put ∙ take_all c.loop-at.at c.args.rows.now (omega (arith, c.loop-at.auto.rows, c.loop-at-test.false))
+
+pub returns-clause-long : goal.returns-clause-long
+returns-clause-long g c = c.loop-at.auto.rows
+
+pub count_of_pieces-requires : goal.count_of_pieces-requires
+count_of_pieces-requires g c = c.requires.some

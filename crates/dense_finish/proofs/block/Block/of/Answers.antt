@@ -17,3 +17,15 @@ pub returns-clause-dense : goal.returns-clause-dense
 returns-clause-dense g c =
     block_dense (omega (arith, c.modulus-p.ensures.two_or_more, c.modulus-p.ensures.value)) (omega (arith, c.height.ensures.value, c.height.ensures.bound)) (omega (arith, c.width.ensures.value, c.width.ensures.bound))
     (returns-clause-block g c)
+
+pub make_block-requires-clause-able : goal.make_block-requires-clause-able
+make_block-requires-clause-able g c = c.requires.able
+
+pub make_block-requires-clause-modulus : goal.make_block-requires-clause-modulus
+make_block-requires-clause-modulus g c = rw c.modulus-p.ensures.value c.requires.modulus
+
+pub make_block-requires-clause-same : goal.make_block-requires-clause-same
+make_block-requires-clause-same g c = c.modulus-p.ensures.value
+
+pub make_block-requires-clause-columns : goal.make_block-requires-clause-columns
+make_block-requires-clause-columns g c = rw c.deref-2.ensures.value c.in_ok-columns.ensures
