@@ -76,7 +76,8 @@ impl<'a> Board<'a> {
     /// The shared history, which begins with the book's pairs: their rows are done, all others are free. Only this call takes memory.
     pub fn new(alloc: Global, book: &Book<'a>) -> Result<(Board<'a>, Seat), AllocError>
         ensures board { IfOk result (λ t. (t.0.rows ≡ book.now.rows) × (t.0.pairs ≡ book.now.pairs)) }
-        ensures seat { IfOk result (λ t. IsSeatOf t.0 t.1 × (t.1.number ≡ 0) × (t.1.chair ≡ opened book.now.pairs)) }
+        ensures seat { IfOk result (λ t. IsSeatOf t.0 t.1 × (t.1.number ≡ 0)
+            × (t.1.chair ≡ opened book.now.pairs)) }
     {
         let rows = book.rows();
         let height = rows.height() as usize;

@@ -6,7 +6,7 @@ use Rattle.std.proofs.lemmas.List.{get_or_append_left, get_or-map, get_or_push, 
 use Rattle.std.proofs.lemmas.List.Elements.{All-get_or, All-nil, All-push, All-weaker}
 use Rattle.std.proofs.lemmas.List.FromFn.{get_or-map-range_with_len, length-map-range_with_len, map-range_with_len_more}
 use Rattle.sparse_rows.specs.declared.cells.Cell.{Cell}
-use Rattle.sparse_rows.specs.Cells.{AreAscending, AreCuts, AreEntries, AreOrdered, IsCut, IsRowOfPart, begun, column_of, ordered_cell, ordered_cells, place_of, row_of}
+use Rattle.sparse_rows.specs.Cells.{HaveRisingPlaces, AreCuts, AreEntries, AreOrdered, IsCut, IsRowOfPart, begun, column_of, ordered_cell, ordered_cells, place_of, row_of}
 use Rattle.sparse_rows.proofs.Cuts.{cuts_all, each_resized}
 use Rattle.sparse_rows.proofs.Spread.{map_range_equal}
 
@@ -40,7 +40,7 @@ pub ordered_none : AreOrdered [] [] [] 0 true
 ordered_none = record {
   long = refl;
   narrow = All-nil (λ j. j < 4294967296);
-  ascending = subst AreAscending (sym cells_none) (λ i k d a b. absurd (omega arith));
+  ascending = subst HaveRisingPlaces (sym cells_none) (λ i k d a b. absurd (omega arith));
   before = subst (All (λ c. c.place < 0)) (sym cells_none) (All-nil (λ c. c.place < 0));
   short = omega arith;
   few = λ m h. omega arith;
@@ -73,7 +73,7 @@ last_low : (cells : List Cell) (c : Cell) (m : ℕ) → All (λ c. row_of c < m)
 last_low cells c m all =
     subst (λ c. row_of c < m) (get_or_push cells c c (length cells) refl) (All-get_or (λ c. row_of c < m) (cells ++ c ∷ []) (length cells) c (omega (arith, length_push cells c)) all)
 
-ascending_push : (cells : List Cell) (c : Cell) → AreAscending cells → All (λ k. k.place < c.place) cells → AreAscending (cells ++ c ∷ [])
+ascending_push : (cells : List Cell) (c : Cell) → HaveRisingPlaces cells → All (λ k. k.place < c.place) cells → HaveRisingPlaces (cells ++ c ∷ [])
 ascending_push cells c h before i k d a b =
     let long : length (cells ++ c ∷ []) ≡ length cells + 1 = length_push cells c in
     let first : get_or (cells ++ c ∷ []) i d ≡ get_or cells i d = get_or_append_left cells (c ∷ []) d i (omega arith) in
@@ -135,7 +135,7 @@ module _ (starts cols vals : List ℕ) (next : ℕ) (nonzero : Bool) (h : AreOrd
       record {
         long = length_push cols j ∙ ap (λ t. t + 1) h.long ∙ sym (length_push vals v);
         narrow = All-push (λ j. j < 4294967296) cols j h.narrow narrow;
-        ascending = subst AreAscending (sym same) (ascending_push cells c h.ascending behind);
+        ascending = subst HaveRisingPlaces (sym same) (ascending_push cells c h.ascending behind);
         before = subst (All (λ c. c.place < next')) (sym same) (All-push (λ c. c.place < next') cells c (All-weaker (λ b. b.place < place_of i j) (λ c. c.place < next') (λ c l. omega arith) cells behind) later);
         short = omega (arith, long);
         few = λ m all. omega (arith, long, row, last_low cells c m (subst (All (λ c. row_of c < m)) same all));
@@ -196,7 +196,7 @@ module _ (starts cols vals : List ℕ) (next : ℕ) (nonzero : Bool) (h : AreOrd
       at ∙ ap (λ i. record { place = place_of i (slice_index cols k); val = slice_index vals k }) is
 
 -- cells whose places ascend and whose values are residues other than 0 are entries
-pub ascending_entries : (p : ℕ) (kept : List Cell) → AreAscending kept → All (λ c. 0 < c.val) kept → All (λ c. c.val < p) kept → AreEntries p kept
+pub ascending_entries : (p : ℕ) (kept : List Cell) → HaveRisingPlaces kept → All (λ c. 0 < c.val) kept → All (λ c. c.val < p) kept → AreEntries p kept
 ascending_entries p kept h some low = record { ascending = h; positive = some; residues = low }
 
 -- where there is no column there is no cell

@@ -96,8 +96,8 @@ unfoldable pub ordered_cells : List ℕ → List ℕ → List ℕ → List Cell
 ordered_cells starts cols vals = map (ordered_cell starts cols vals) (range_with_len 0 (length cols))
 
 -- the places of cells ascend strictly
-abbrev pub AreAscending : List Cell → Type 0
-AreAscending cells = (i k : ℕ) (d : Cell) → i < k → k < length cells →
+abbrev pub HaveRisingPlaces : List Cell → Type 0
+HaveRisingPlaces cells = (i k : ℕ) (d : Cell) → i < k → k < length cells →
     (slice_index_or cells i d).place < (slice_index_or cells k d).place
 
 -- columns and values of cells that ascend strictly by places and lie before `next`, where the rows begin up to that of the last, and
@@ -105,7 +105,7 @@ AreAscending cells = (i k : ℕ) (d : Cell) → i < k → k < length cells →
 pub record AreOrdered (starts cols vals : List ℕ) (next : ℕ) (nonzero : Bool) : Type 0 where
   pub long : length cols ≡ length vals
   pub narrow : All (λ j. j < 4294967296) cols
-  pub ascending : AreAscending (ordered_cells starts cols vals)
+  pub ascending : HaveRisingPlaces (ordered_cells starts cols vals)
   pub before : All (λ c. c.place < next) (ordered_cells starts cols vals)
   pub short : length starts ≤ 4294967296
   pub few : (m : ℕ) → All (λ c. row_of c < m) (ordered_cells starts cols vals) → length starts ≤ m

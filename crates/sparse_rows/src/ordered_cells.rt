@@ -1,7 +1,7 @@
 // Cells that ascend by places, as the rows that they will be.
 ghost use Rattle.std.specs.Prelude.{◌≡◌, ◌<◌, ◌≤◌, ◌+◌, ◌-◌, ◌++◌, ◌∷◌, [], true, length, map, replicate, slice_index, All, IfOk, OnErr, OnOk};
 ghost use Rattle.sparse_rows.specs.declared.rows.TheConstants.{LARGEST_SIZE};
-ghost use Rattle.sparse_rows.specs.Cells.{AreAscending, AreCuts, IsRowOfPart, column_of, place_of, row_of};
+ghost use Rattle.sparse_rows.specs.Cells.{HaveRisingPlaces, AreCuts, IsRowOfPart, column_of, place_of, row_of};
 
 use crate::cells::{Cell, place_of};
 use crate::entry_room::make_room;
@@ -87,7 +87,7 @@ impl OrderedCells {
     // Whether they can be stored as a matrix of this height is: none is 0, and the rows are few enough for each to be stored.
     pub(crate) fn are_stored(&self, height: u32) -> bool
         ensures positive { result ≡ true → All (λ c. 0 < c.val) self.now }
-        ensures ascending { AreAscending self.now }
+        ensures ascending { HaveRisingPlaces self.now }
     {
         self.nonzero && stores_every_row(height, self.cols.len())
     }
