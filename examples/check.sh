@@ -65,6 +65,22 @@ awk 'BEGIN { n = 10000; print n, n, "M"; for (i = 1; i <= n; i++) print i, i, 1;
 ./spasm rref --modulus 7 <"$results/long" 2>"$results/err" | cat >"$results/out"
 cmp -s "$results/out" "$results/long" && test ! -s "$results/err" || { echo "spasm rref | cat: the answer isn't whole"; failures=$((failures + 1)); }
 
+# Rows that come with columns that no row before them had are appended as often as memory for columns has to grow.
+awk -v whole="$results/whole" 'BEGIN {
+    n = 500; width = 100000
+    print 1, width, "M\n1 1 1\n0 0 0"
+    print n + 1, width, "M\n1 1 1" > whole
+    for (i = 1; i <= n; i++) {
+        c = (7919 * i) % width + 1; d = (104729 * i) % width + 1
+        print "row", c, i % 5 + 1, d, 1
+        print i + 1, c, i % 5 + 1 > whole; print i + 1, d, 1 > whole
+    }
+    print 0, 0, 0 > whole
+    print "rref\nend"
+}' >"$results/long"
+./spasm grow --modulus 7 <"$results/long" >"$results/out" 2>"$results/err"
+./spasm rref --modulus 7 <"$results/whole" 2>>"$results/err" | cmp -s "$results/out" - && test ! -s "$results/err" || { echo "spasm grow: not the form of all rows"; failures=$((failures + 1)); }
+
 rm -r "$results"
 test "$failures" -eq 0 && echo "all runs are as they should be"
 exit "$failures"
