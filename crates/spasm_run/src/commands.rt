@@ -30,13 +30,13 @@ pub const LARGEST_INVERTED: u32 = 1_073_741_824;
 // What workers may take in bytes beside the matrix: as many an entry, and as many in any case.
 const ROOM_AN_ENTRY: u64 = 24;
 
-const ROOM_ANYWAY: u64 = 1_048_576;
+const ROOM_ANYWAY: u64 = 4_194_304;
 
 // What each of them takes a column: for a row that it reduces, and for what it has seen of the pivots.
 const BYTES_A_COLUMN: u64 = 20;
 
-// What each of them takes in any case: its stack, and what the allocator keeps for its thread.
-const BYTES_A_WORKER: u64 = 65_536;
+// What each of them takes in any case: its stack, the parts that it makes, and what the allocator keeps for its thread.
+const BYTES_A_WORKER: u64 = 524_288;
 
 /// How many workers go at once on a matrix if so many are asked for, at least one: several if several are, but no more than 64, nor
 /// than there is room for beside the matrix, so that they take at most about twice the memory of one.
