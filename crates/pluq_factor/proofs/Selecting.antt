@@ -1,5 +1,5 @@
 -- What leftmost, search and order select, as it is met.
-use Rattle.std.proofs.Common.{ℕ, ◌≡◌, ◌∙◌, List, refl, subst}
+use Rattle.std.proofs.Common.{ℕ, ◌≡◌, ◌∙◌, List, subst}
 use Rattle.residue_words.specs.declared.plain.Pair.{Pair}
 use Rattle.sparse_rows.specs.Rows.{ResidueMatrix}
 use Rattle.pivot_table.specs.Greedy.{IsGreedy}
@@ -14,12 +14,3 @@ pub selected_at : {R S T : ResidueMatrix} {first all qs : List Pair} {workers : 
 selected_at {R} {S} {T} {first} {all} {qs} {workers} s t leftmost begins maximal greedy order =
     selected R.matrix workers first all qs leftmost begins (subst (λ (M : ResidueMatrix). Maximal M.matrix all) s maximal) (subst (λ (M : ResidueMatrix). IsTriangularOrder M.matrix all qs) (t ∙ s) order)
     (λ one. subst (λ (M : ResidueMatrix). IsGreedy M.matrix first all) s (greedy one))
-
--- what one worker selects is a selection for any number of them
-pub selected_by_one : {R : ResidueMatrix} {qs : List Pair} (workers : ℕ) → Selected R.matrix 1 qs → Selected R.matrix workers qs
-selected_by_one workers s = record {
-  triangular = s.triangular;
-  maximal = s.maximal;
-  leftmost = s.leftmost;
-  one_worker = λ _. s.one_worker refl;
-}
