@@ -1,6 +1,6 @@
 #!/bin/sh
 # Runs the built program and looks at what no contract can see: which stream is which, that the words are the user's, and the exit status.
-# Prints a line for each run that is not as it should be, and ends with the number of such runs.
+# Prints a line for each run that is not as it should be, and ends with the number of such runs; the tests of examples/tests count as one.
 cd "$(dirname "$0")/.." || exit
 results=$(mktemp -d) || exit
 failures=0
@@ -80,6 +80,8 @@ awk -v whole="$results/whole" 'BEGIN {
 }' >"$results/long"
 ./spasm grow --modulus 7 <"$results/long" >"$results/out" 2>"$results/err"
 ./spasm rref --modulus 7 <"$results/whole" 2>>"$results/err" | cmp -s "$results/out" - && test ! -s "$results/err" || { echo "spasm grow: not the form of all rows"; failures=$((failures + 1)); }
+# What is known from outside, in tables, and what can be searched for.
+python3 -m unittest discover -q -s examples/tests || failures=$((failures + 1))
 
 rm -r "$results"
 test "$failures" -eq 0 && echo "all runs are as they should be"
