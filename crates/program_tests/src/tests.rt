@@ -1,8 +1,8 @@
-// The calls of each crate against values from outside.
+// The calls of each crate against values from outside, as far as the programs can't be run on them: streams that fail, workers that are
+// held, and calls below the programs.
 mod accepted_words;
 mod batches;
 mod desks;
-mod known_ranks;
+mod plain_ranks;
 mod runs;
-mod searched_vectors;
 mod several_workers;

@@ -2,21 +2,11 @@
 ghost use Rattle.std.specs.Prelude.{◌<◌, ◌≤◌};
 ghost use Rattle.sms_text.specs.declared.reader.TheConstants.{LARGEST_INPUT};
 
-mod answers;
-mod faults;
-mod generated;
 mod inputs;
-mod large;
 mod outputs;
-mod plain_ranks;
-mod refused_words;
-mod traces;
-mod written_certificates;
 
 use optimistic_search::Open;
-use residue_words::Modulus;
-use sms_text::{LARGEST_INPUT, MemorySink, MemorySource, Reader, SteadySource, read_rows};
-use sparse_rows::Rows;
+use sms_text::{LARGEST_INPUT, MemorySink, MemorySource};
 use spasm_run::{Status, run_within};
 use std::alloc::{AllocError, Global};
 use std::process::Abort;
@@ -123,16 +113,6 @@ pub fn run_on<'a, R: Threads + Sync>(
     })
 }
 
-// The matrix that a text stands for.
-pub fn rows_of(alloc: Global, modulus: &Modulus, text: &[u8]) -> Result<Rows, Fail> {
-    let mut source = SteadySource::new(Vec::from_slice(alloc, text)?, 64);
-    let mut reader = Reader::new(alloc, LARGEST_INPUT)?;
-    match read_rows(&mut reader, alloc, &mut source, modulus) {
-        Ok(rows) => Ok(rows),
-        Err(_) => Err(Fail::new("not read")),
-    }
-}
-
 // A run that is known: its words, its input and its streams; how it ends, what its output holds then, and what its error stream tells.
 #[derive(Drop)]
 struct Trial<'a> {
@@ -165,46 +145,5 @@ fn check<'a, R: Threads + Sync + Abort>(
         trial.words,
         trial.text
     );
-    Ok(())
-}
-
-// The ways to work out an answer, which change nothing of it: without rounds, by one, by as many as there are by default, and by the
-// most, with one worker, two and the most.
-const WAYS: [&[&str]; 12] = [
-    &["--rounds=0", "--workers=1"],
-    &["--rounds", "0", "--workers", "2"],
-    &["--rounds=0", "--workers=64"],
-    &["--rounds=1", "--workers=1"],
-    &["--rounds=1", "--workers=2"],
-    &["--rounds=1", "--workers=64"],
-    &["--rounds=3", "--workers=1"],
-    &["--rounds=3", "--workers=2"],
-    &["--rounds=3", "--workers=64"],
-    &["--rounds=16", "--workers=1"],
-    &["--rounds=16", "--workers=2"],
-    &["--rounds=16", "--workers=64"],
-];
-
-// Runs of these commands, modulo these numbers and on these texts, answer so in each way.
-fn check_answers<'a, R: Threads + Sync + Abort>(
-    rt: &R,
-    alloc: Global,
-    table: &'a [(&'a str, &'a str, &'a str, &'a str)],
-) -> Result<(), Fail> {
-    for (command, p, text, want) in table {
-        for way in WAYS {
-            let mut words = Vec::from_slice(alloc, &[*command, "--modulus", *p])?;
-            words.extend_from_slice(way)?;
-            let trial = Trial {
-                words: &words,
-                text: text.as_bytes(),
-                streams: CALM,
-                status: Status::Done,
-                out: want.as_bytes(),
-                told: b"",
-            };
-            check(rt, alloc, &trial)?;
-        }
-    }
     Ok(())
 }
