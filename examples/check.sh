@@ -80,6 +80,7 @@ awk -v whole="$results/whole" 'BEGIN {
 }' >"$results/long"
 ./spasm grow --modulus 7 <"$results/long" >"$results/out" 2>"$results/err"
 ./spasm rref --modulus 7 <"$results/whole" 2>>"$results/err" | cmp -s "$results/out" - && test ! -s "$results/err" || { echo "spasm grow: not the form of all rows"; failures=$((failures + 1)); }
+
 # What is known from outside, in tables, and what can be searched for.
 python3 -m unittest discover -q -s examples/tests || failures=$((failures + 1))
 
