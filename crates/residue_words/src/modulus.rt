@@ -104,6 +104,15 @@ impl Modulus {
         self.p
     }
 
+    /// The law of its range, for proofs: it does nothing.
+    #[inline(always)]
+    pub fn is_sound(&self)
+        ensures two_or_more { 2 ≤ self.now }
+        ensures in_range { self.now < MODULUS_BOUND }
+    {
+        self.p();
+    }
+
     /// The residue of a + b.
     pub fn add(&self, a: u64, b: u64) -> u64
         requires left { a < self.now }

@@ -327,6 +327,20 @@ impl Rows {
         Ok(rows)
     }
 
+    /// The law of its sizes, its modulus and its entries, for proofs: it does nothing.
+    #[inline(always)]
+    pub fn is_sound(&self)
+        ensures height { self.now.matrix.height ≤ LARGEST_SIZE }
+        ensures width { self.now.matrix.width ≤ LARGEST_SIZE }
+        ensures two_or_more { 2 ≤ self.now.modulus }
+        ensures in_range { self.now.modulus < MODULUS_BOUND }
+        ensures entries { IsMatrix self.now.modulus self.now.matrix }
+    {
+        self.height();
+        self.width();
+        self.modulus();
+    }
+
     /// How many rows the matrix has.
     pub fn height(&self) -> u32
         ensures value { result ≡ self.now.matrix.height }
