@@ -214,7 +214,7 @@ fn replies_to<R: Threads + Wait + Sync, W: Watch>(
 {
     let a = &texts[0];
     // The proof wants that A is a matrix of residues.
-    let _ = a.height();
+    a.is_sound();
     let workers = fitting_workers(a, workers);
     let team = Team {
         workers,

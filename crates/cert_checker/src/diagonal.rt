@@ -13,7 +13,7 @@ fn is_last_at(rows: &Rows, i: u32, k: u32) -> bool
     ensures { IsTrue result ↔ LastAt rows.now.matrix.width (entry rows.now.matrix i) k }
 {
     // The proof wants that it is a matrix of residues.
-    let _ = rows.height();
+    rows.is_sound();
     let cols = rows.cols(i);
     if cols.len() == 0 {
         return false;
@@ -28,7 +28,7 @@ pub(crate) fn are_last(rows: &Rows, named: &[u32]) -> bool
     ensures { IsTrue result ↔ AreLast rows.now.matrix named.now }
 {
     // The proof that a number of rows fits 32 bits wants to know how wide a matrix is.
-    let _ = rows.width();
+    rows.is_sound();
     for k in 0..named.len() {
         if !is_last_at(rows, named[k], k as u32) {
             return false;

@@ -25,7 +25,9 @@ pub(crate) fn are_factors(
         ↔ AreFactors a.now.modulus a.now.matrix pivots.now l.now.matrix u.now.matrix) }
 {
     // The proof wants that all three are matrices of residues.
-    let _ = (a.modulus(), l.modulus(), u.modulus());
+    a.is_sound();
+    l.is_sound();
+    u.is_sound();
     if !are_of_sizes(a, pivots.len(), l, u) {
         return Ok(false);
     }

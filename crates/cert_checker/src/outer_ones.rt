@@ -25,7 +25,7 @@ fn outer_one(rows: &Rows, k: u32, side: Side) -> Option<u32>
         ((c : ℕ) → ¬ IsOuterOne side rows.now.matrix.width (entry rows.now.matrix k) c) }
 {
     // The proof wants that it is a matrix of residues.
-    let _ = rows.height();
+    rows.is_sound();
     let cols = rows.cols(k);
     let vals = rows.vals(k);
     if cols.len() == 0 {
@@ -61,7 +61,7 @@ pub(crate) fn outer_ones(
         ((ones : List ℕ) → ¬ AreOuterOnes side rows.now.matrix ones)) }
 {
     // The proof that c + 1 is no overflow wants to know how wide a matrix is.
-    let _ = rows.width();
+    rows.is_sound();
     let mut ones = Vec::new(alloc);
     let mut least: u32 = 0;
     for k in 0..rows.height() {

@@ -20,7 +20,9 @@ pub(crate) fn is_product(alloc: Global, v: &Rows, y: &Rows, b: &Rows) -> Result<
         ↔ IsProduct b.now.modulus v.now.matrix y.now.matrix b.now.matrix) }
 {
     // The proof wants that all three are matrices of residues.
-    let _ = (v.modulus(), y.modulus(), b.modulus());
+    v.is_sound();
+    y.is_sound();
+    b.is_sound();
     if u64::from(b.width()) / 4 <= b.entries() {
         return is_narrow_product(alloc, v, y, b);
     }
@@ -53,7 +55,8 @@ fn are_rows_of_product(sums: &mut [u64], v: &Rows, y: &Rows, b: &Rows) -> bool
     ensures { IsTrue result ↔ IsProduct b.now.modulus v.now.matrix y.now.matrix b.now.matrix }
 {
     // The proof wants that these are matrices of residues, and how high they are.
-    let _ = (v.height(), y.height());
+    v.is_sound();
+    y.is_sound();
     let mut filled = FilledInEither::of(v, y);
     while let Some(i) = filled.next_row() {
         if !is_row_of_product(sums, v, y, b, i) {
@@ -75,7 +78,8 @@ fn is_row_of_product(sums: &mut [u64], v: &Rows, y: &Rows, b: &Rows, i: u32) -> 
         ↔ IsCombined b.now.modulus (entry v.now.matrix i) (entry y.now.matrix i) b.now.matrix }
 {
     // The proof wants that all three are matrices of residues.
-    let _ = (v.modulus(), y.modulus());
+    v.is_sound();
+    y.is_sound();
     let p = b.modulus();
     take_off(&p, sums, v.cols(i), v.vals(i));
     add_rows(&p, sums, y.cols(i), y.vals(i), b);
@@ -140,7 +144,8 @@ fn add_rows(p: &Modulus, sums: &mut [u64], cols: &[u32], vals: &[u64], b: &Rows)
         + combined_at (entry_at cols.now vals.now) b.now.matrix j) % p.now }
 {
     // The proof wants that B is a matrix of residues, and that p is not 0.
-    let _ = (p.p(), b.height());
+    p.is_sound();
+    b.is_sound();
     for k in 0..cols.len() {
         add_multiple(p, sums, vals[k], b.cols(cols[k]), b.vals(cols[k]));
     }
@@ -166,7 +171,7 @@ fn is_zero_along(sums: &[u64], rows: &[u32], b: &Rows) -> bool
     ensures { IsTrue result ↔ IsZeroAlong sums.now rows.now b.now.matrix }
 {
     // The proof wants that B is a matrix of residues.
-    let _ = b.height();
+    b.is_sound();
     for k in 0..rows.len() {
         if !is_zero_at(sums, b.cols(rows[k])) {
             return false;

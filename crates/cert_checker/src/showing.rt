@@ -16,7 +16,8 @@ pub(crate) fn shows_rref(alloc: Global, u: &Rows, e: &Rows) -> Result<bool, Allo
     ensures { IfOk result (λ yes. IsTrue yes ↔ ShowsRref u.now.modulus u.now.matrix e.now.matrix) }
 {
     // The proof wants that both are matrices of residues.
-    let _ = (u.modulus(), e.modulus());
+    u.is_sound();
+    e.is_sound();
     if e.height() != u.height() {
         return Ok(false);
     }
@@ -43,7 +44,8 @@ pub(crate) fn shows_kernel(alloc: Global, a: &Rows, rank: u32, k: &Rows) -> Resu
     ensures { IfOk result (λ yes. IsTrue yes ↔ ShowsKernel a.now.modulus a.now.matrix rank k.now.matrix) }
 {
     // The proof wants that both are matrices of residues.
-    let _ = (a.modulus(), k.modulus());
+    a.is_sound();
+    k.is_sound();
     if u64::from(k.height()) + u64::from(rank) != u64::from(a.width()) {
         return Ok(false);
     }

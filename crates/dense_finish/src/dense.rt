@@ -45,7 +45,7 @@ impl<W: Residue> Dense<W> {
         ensures vector { IfOk result (IsVector p.now n) }
     {
         // The call's contract tells the range of the modulus.
-        let _ = p.p();
+        p.is_sound();
         let mut places = Vec::with_capacity(alloc, n)?;
         places.resize(n, W::of(0, p))?;
         Ok(Dense { places })

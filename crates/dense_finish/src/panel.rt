@@ -103,7 +103,7 @@ impl<W: Residue> Panel<W> {
         ensures { IfOk result (λ units. AreUnitRows p.now self.now units.items) }
     {
         // The call's contract tells the range of the modulus.
-        let _ = p.p();
+        p.is_sound();
         let mut units = Vec::with_capacity(alloc, self.columns.len())?;
         for k in 0..self.columns.len() {
             let mut row = Dense::zeros(alloc, self.width, p)?;
@@ -215,7 +215,7 @@ impl Panel<u32> {
         ensures { PanelReducesEach folding.now.p self.now rows.old rows.new }
     {
         // The call's contract tells the range of the modulus.
-        let _ = folding.p.p();
+        folding.p.is_sound();
         let mut by = [[0u64; PANEL]; BLOCK_ROWS];
         for t in 0..rows.len() {
             by[t] = rows[t].entries_at(&self.columns);

@@ -47,7 +47,7 @@ impl Pivots {
         ensures none { IfOk result (λ pivots. count pivots ≡ 0) }
     {
         // The call's contract tells the range of the modulus.
-        let _ = p.p();
+        p.is_sound();
         let room = room_for(height.min(columns.len()), columns.len());
         Ok(Pivots {
             rows: Vec::new(alloc),

@@ -66,7 +66,7 @@ impl Echelon {
         ensures { IfOk result (λ e. IsFormOf rows.now.modulus rows.now.matrix e) }
     {
         // The call's contract tells that the entries are residues.
-        let _ = rows.modulus();
+        rows.is_sound();
         if is_wide(rows) {
             let columns = rows.occupied(alloc)?;
             let narrow = rows.narrowed(alloc, &columns)?;
@@ -105,7 +105,7 @@ impl Echelon {
         ensures { IfOk result (λ e. e ≡ widened_form self width columns.now) }
     {
         // The call's contract tells that a modulus is not 0.
-        let _ = self.rows.modulus();
+        self.rows.is_sound();
         Ok(Echelon {
             rows: self.rows.widened(alloc, width, columns)?,
             leads: named(alloc, columns, &self.leads)?,

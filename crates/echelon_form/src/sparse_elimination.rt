@@ -17,7 +17,7 @@ pub fn rank(alloc: Global, rows: &Rows) -> Result<u32, AllocError>
     ensures at_most_width { IfOk result (λ r. r ≤ rows.now.matrix.width) }
 {
     // The call's contract tells that the entries are residues.
-    let _ = rows.modulus();
+    rows.is_sound();
     if is_wide(rows) {
         let columns = rows.occupied(alloc)?;
         let narrow = rows.narrowed(alloc, &columns)?;
@@ -42,7 +42,7 @@ fn height_left(alloc: Global, rows: &Rows) -> Result<u32, AllocError>
     row_space::rref_exists();
     row_space::span_fixes_height();
     // The call's contract tells that the entries are residues.
-    let _ = rows.modulus();
+    rows.is_sound();
     Ok(eliminated(alloc, rows)?.height())
 }
 
@@ -55,7 +55,7 @@ pub(crate) fn eliminated(alloc: Global, rows: &Rows) -> Result<Leads, AllocError
 {
     let mut kept = Leads::new(alloc, rows.width(), &rows.modulus())?;
     // The call tells how high a matrix is: the next row's number is no overflow.
-    let _ = rows.height();
+    rows.is_sound();
     let mut from = 0;
     while let Some(i) = rows.next_filled(from) {
         // The call tells what the kept rows promise before they change.

@@ -23,7 +23,7 @@ impl Beginning {
         ensures { IsBeginning rows.now.matrix i result }
     {
         // The contracts of these calls tell that the rows are a matrix, and bound its width.
-        let _ = (rows.height(), rows.width());
+        rows.is_sound();
         let cols = rows.cols(i);
         Beginning {
             column: cols[0],
@@ -38,7 +38,7 @@ pub(crate) fn beginnings(alloc: Global, rows: &Rows) -> Result<Vec<Beginning>, A
     ensures { IfOk result (λ list. AreBeginnings rows.now.matrix rows.now.matrix.height list.items) }
 {
     // The contract of this call tells that the rows are a matrix, and bounds its height.
-    let _ = rows.height();
+    rows.is_sound();
     let mut list = Vec::new(alloc);
     let mut from = 0;
     while let Some(i) = rows.next_filled(from) {

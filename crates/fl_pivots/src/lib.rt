@@ -39,7 +39,7 @@ fn take_first(beginnings: &[Beginning], book: &mut Book) -> Result<(), AllocErro
     ensures pairs { OnOk result (IsLeftmost book.old.rows.matrix book.new.pairs) }
 {
     // The contract of this call bounds the columns.
-    let _ = book.rows().width();
+    book.rows().is_sound();
     // Each column before `next` at which a row begins has its pair.
     let mut next = 0;
     for beginning in beginnings {

@@ -30,7 +30,7 @@ pub fn answer_line(grow: &mut Grow, line: &ScriptLine) -> Result<Option<Answer>,
     match line {
         ScriptLine::Append(row) => {
             // The call tells that the entries are residues.
-            let _ = row.modulus();
+            row.is_sound();
             grow.append(row.cols(0), row.vals(0))?;
             Ok(None)
         }
@@ -38,7 +38,7 @@ pub fn answer_line(grow: &mut Grow, line: &ScriptLine) -> Result<Option<Answer>,
         ScriptLine::Form => Ok(Some(Answer::Form(grow.form()?))),
         ScriptLine::Contains(row) => {
             // The call tells that the entries are residues.
-            let _ = row.modulus();
+            row.is_sound();
             Ok(Some(Answer::Contains(grow.contains(row.cols(0), row.vals(0))?)))
         }
         ScriptLine::End => Ok(None),

@@ -84,7 +84,7 @@ impl Grow {
     {
         let mut grow = Grow::with_room(alloc, rows.width(), &rows.modulus(), rows.entries())?;
         // The call tells how high a matrix is: the next row's number is no overflow.
-        let _ = rows.height();
+        rows.is_sound();
         let mut from = 0;
         while let Some(i) = rows.next_filled(from) {
             grow.append(rows.cols(i), rows.vals(i))?;
@@ -118,7 +118,7 @@ impl Grow {
         let p = self.kept.modulus();
         let row = self.numbering.row_by_numbers(self.alloc, cols, vals, &p)?;
         // The call tells that the entries are residues.
-        let _ = row.height();
+        row.is_sound();
         let lead = self.kept.insert(row.cols(0), row.vals(0))?;
         let _ = self.kept.height();
         Ok(lead.is_some())
@@ -140,7 +140,7 @@ impl Grow {
         let p = self.kept.modulus();
         let row = self.numbering.row_by_numbers(self.alloc, cols, vals, &p)?;
         // The call tells that the entries are residues.
-        let _ = row.height();
+        row.is_sound();
         let mut sums = taken(self.alloc, &self.kept, &mut self.sums)?;
         let rest = self
             .kept

@@ -134,7 +134,7 @@ impl Numbering {
         ensures { IfOk result (IsRowByNumbers self.now p.now cols.now vals.now) }
     {
         // The call tells the range of the modulus.
-        let _ = p.p();
+        p.is_sound();
         let mut triples = Vec::with_capacity(alloc, cols.len())?;
         for k in 0..cols.len() {
             triples.push((0, self.number(cols[k]), vals[k]))?;
@@ -169,7 +169,7 @@ impl Numbering {
         ensures { IfOk result (IsRowAtColumns self.now p.now numbers.now vals.now) }
     {
         // The call tells the range of the modulus.
-        let _ = p.p();
+        p.is_sound();
         let columns = self.columns.as_slice();
         let mut triples = Vec::with_capacity(alloc, numbers.len())?;
         for k in 0..numbers.len() {

@@ -35,7 +35,7 @@ pub(crate) fn rows_at_columns(
     for k in 0..height {
         let row = numbering.row_at_columns(alloc, settled.cols(k), settled.vals(k), &p)?;
         // The call tells that the entries are residues.
-        let _ = row.height();
+        row.is_sound();
         rows.append_entries(row.cols(0), row.vals(0))?;
     }
     Ok(rows)

@@ -58,7 +58,7 @@ fn inverse_of<R: Threads + Sync>(
         TellsInverse a.now.modulus a.now.matrix found) }
 {
     // The call's contract tells that the entries are residues.
-    let _ = a.height();
+    a.is_sound();
     let Some(both) = doubled(alloc, a)? else {
         return Ok(None);
     };
@@ -162,7 +162,7 @@ pub fn null_row(alloc: Global, form: &Echelon) -> Result<Rows, AllocError>
         → row v.matrix 0 ≡ zeros form.now.matrix.width) }
 {
     // The call's contract tells how wide a matrix is.
-    let _ = form.rows().width();
+    form.rows().is_sound();
     let first = first_basis_row(alloc, form)?;
     let row = one_row(alloc, &first)?;
     Ok(row)

@@ -139,7 +139,7 @@ impl Prepared {
             IsReducedSolution p A side.now (column x.matrix)) }
     {
         // The proof wants to know how wide a matrix is.
-        let _ = self.null.width();
+        self.null.is_sound();
         let pivots = self.pivots.items();
         let z = forward(alloc, &self.left, pivots, &self.left_inverses, side)?;
         let mut x = back(alloc, &self.right, pivots, &self.right_inverses, &z)?;

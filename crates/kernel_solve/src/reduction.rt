@@ -17,7 +17,7 @@ pub(crate) fn reduce(null: &Rows, x: &mut [u64])
         IsSolution null.now.modulus A b x.old → IsReducedSolution null.now.modulus A b x.new }
 {
     // The proof wants that a modulus is above 0.
-    let _ = null.modulus();
+    null.is_sound();
     for k in 0..null.height() {
         clear_end(null, k, x);
     }

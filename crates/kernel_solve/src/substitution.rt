@@ -29,7 +29,7 @@ pub(crate) fn forward(
         ≡ slice_index side.now (row_at pivots.now k)) }
 {
     // The proof wants that a modulus is above 0.
-    let _ = left.modulus();
+    left.is_sound();
     let mut z = vec![in alloc; 0; left.width() as usize]?;
     for k in 0..pivots.len() {
         let i = pivots[k].row;
@@ -57,7 +57,7 @@ pub(crate) fn back(
         ≡ slice_index side.now k) }
 {
     // The proof wants that a modulus is above 0, and how high a matrix is.
-    let _ = (right.modulus(), right.height());
+    right.is_sound();
     let mut x = vec![in alloc; 0; right.width() as usize]?;
     for k in (0..pivots.len()).rev() {
         let j = pivots[k].col as usize;
@@ -91,7 +91,7 @@ fn row_times(rows: &Rows, i: u32, x: &[u64]) -> u64
     ensures residue { result < rows.now.modulus }
 {
     // The proof wants to know how wide a matrix is.
-    let _ = rows.width();
+    rows.is_sound();
     let p = u128::from(rows.modulus().p());
     let cols = rows.cols(i);
     let vals = rows.vals(i);
@@ -119,7 +119,7 @@ pub(crate) fn inverses(
         (right_pivot right.now.matrix pivots.now) both.1.items) }
 {
     // The proof wants to know how wide a matrix is.
-    let _ = left.width();
+    left.is_sound();
     let mut in_left = Vec::with_capacity(alloc, pivots.len())?;
     let mut in_right = Vec::with_capacity(alloc, pivots.len())?;
     for k in 0..pivots.len() {

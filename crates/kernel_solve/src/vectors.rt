@@ -17,7 +17,7 @@ pub(crate) fn entries_of(alloc: Global, b: &Rows) -> Result<Vec<u64>, AllocError
     ensures { IfOk result (λ side. side.items ≡ column b.now.matrix) }
 {
     // The proof wants that b is a matrix of residues.
-    let _ = b.modulus();
+    b.is_sound();
     let side = b.times(alloc, &[1])?;
     Ok(side)
 }
@@ -35,7 +35,7 @@ pub(crate) fn column_of(alloc: Global, entries: &[u64], p: Modulus) -> Result<Ro
     let row = row_of(alloc, entries, p)?;
     let x = row.transpose(alloc)?;
     // The proof wants that it is a matrix of residues.
-    let _ = x.height();
+    x.is_sound();
     Ok(x)
 }
 

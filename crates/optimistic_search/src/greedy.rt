@@ -61,7 +61,7 @@ fn try_all(book: &mut Book, walk: &mut LeveledWalk) -> bool
 {
     let rows = book.rows();
     // The call tells how high a matrix is: the next row's number is no overflow.
-    let _ = rows.height();
+    rows.is_sound();
     let mut from = 0;
     while let Some(row) = rows.next_filled(from) {
         if walk.is_spent() {

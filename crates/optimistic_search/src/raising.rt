@@ -72,7 +72,7 @@ fn raise_steps(
     if let Some(row) = pivots.find(c) {
         // Tells that there are few rows, and so few pairs.
         let rows = pivots.rows();
-        let _ = rows.height();
+        rows.is_sound();
         let cols = rows.cols(row);
         budget.spend(cols.len());
         for k in 0..cols.len() {

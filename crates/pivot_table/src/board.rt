@@ -159,7 +159,7 @@ impl<'a> Board<'a> {
     {
         let Some(row) = seat.row else { unreachable!() };
         // its range
-        let _ = self.rows.height();
+        self.rows.is_sound();
         let place = seat.seen;
         let found = self.table.shared.compare_exchange::<Publish>(
             &mut seat.token,

@@ -85,7 +85,7 @@ fn dense_basis<C: Eliminating>(
     ensures { IfOk result (IsBasis rows.modulus rows.matrix) }
 {
     // The call's contract tells that the entries are residues.
-    let _ = rows.height();
+    rows.is_sound();
     let RightFactor { u, .. } = finish_right(crew, alloc, rows, workers)?;
     Ok(u)
 }
@@ -130,7 +130,7 @@ fn basis_from<C: Eliminating>(
     ensures { IfOk result (IsBasis rows.modulus rows.matrix) }
 {
     // The call's contract tells how high a matrix is.
-    let _ = rows.height();
+    rows.is_sound();
     if rounds == 0 {
         return finished(crew, alloc, rows, workers);
     }
@@ -144,7 +144,7 @@ fn basis_from<C: Eliminating>(
         is_basis,
     } = rest;
     // The call's contract tells that the entries are residues.
-    let _ = rest.height();
+    rest.is_sound();
     if is_basis {
         let whole = with_below(top, &rest)?;
         return Ok(whole);
@@ -152,7 +152,7 @@ fn basis_from<C: Eliminating>(
     let more = rounds_behind(alloc, &rest, rounds - 1)?;
     let below = basis_from(crew, alloc, rest, workers, more)?;
     // And here too.
-    let _ = below.height();
+    below.is_sound();
     let basis = with_below(top, &below)?;
     Ok(basis)
 }

@@ -54,7 +54,7 @@ fn factor_from<R: Threads + Sync, G: Gate>(
         Staged rows.modulus rows.matrix workers rounds f.pivots) }
 {
     // The call's contract tells that the entries are residues.
-    let _ = rows.height();
+    rows.is_sound();
     if rounds == 0 {
         let factors = finish(rt, alloc, &rows, workers)?;
         return Ok(factors);

@@ -164,7 +164,7 @@ fn dense_rank<C: Eliminating>(
     // The law's contract: the rank is the number of the pivots of factors.
     row_space::factors_give_rank();
     // The calls' contracts tell that the entries are residues, and how many rows and columns there are at most.
-    let _ = (rows.height(), rows.width());
+    rows.is_sound();
     let right = finish_right(crew, alloc, rows, workers)?;
     let rank = right.pivots.items().len() as u32;
     Ok(rank)

@@ -87,7 +87,7 @@ fn round_by<R: Threads + Sync>(
     ensures { IfOk result (IsRoundTaken triangle.now.rows workers) }
 {
     // The call's contract tells that the entries are residues.
-    let _ = triangle.rows().height();
+    triangle.rows().is_sound();
     let left = schur(rt, alloc, triangle, workers)?;
     let top = rows_at_pivots(alloc, triangle)?;
     let pivots = listed(alloc, triangle.pairs())?;
@@ -102,7 +102,7 @@ fn rows_at_pivots(alloc: Global, triangle: &Triangle) -> Result<Rows, AllocError
 {
     let rows = triangle.rows();
     // The call's contract tells how high a matrix is.
-    let _ = rows.height();
+    rows.is_sound();
     let numbers = rows_of(alloc, triangle.pairs())?;
     rows.select(alloc, &numbers)
 }
@@ -254,7 +254,7 @@ fn count_stored<C: Eliminating>(
     // The law's contract: the rank of the complement gives that of the matrix.
     schur_rows::round_rank();
     // The call's contract tells that the entries are residues.
-    let _ = reducer.rows().height();
+    reducer.rows().is_sound();
     let count = reducer.pairs().len() as u32;
     let rest = complement(crew, alloc, reducer, workers)?;
     Ok(Counted {

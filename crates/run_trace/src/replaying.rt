@@ -49,7 +49,7 @@ fn replay_with<L: Ledger>(
     let columns = rows.occupied(alloc)?;
     let narrow = rows.narrowed(alloc, &columns)?;
     // The call's contract bounds the columns.
-    let _ = narrow.width();
+    narrow.is_sound();
     let mut walk = Walk::<L>::new(alloc, &narrow)?;
     let mut steps = Steps::<L>::new(blank);
     let lawful = are_lawful(rows, &columns, &mut walk, publications, &mut steps);

@@ -30,7 +30,7 @@ impl PivotNumbers {
         ensures { IfOk result (HasNumbers reducer.now.pairs) }
     {
         // The call tells how high a matrix is.
-        let _ = reducer.rows().height();
+        reducer.rows().is_sound();
         let rows = reducer.rows().filled(alloc)?;
         let numbers = numbers_of(alloc, &rows, reducer.pairs())?;
         Ok(PivotNumbers { rows, numbers })

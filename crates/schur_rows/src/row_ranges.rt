@@ -23,7 +23,7 @@ pub(crate) fn no_rows(alloc: Global, pass: Pass, height: u32) -> Result<SchurRow
 {
     let rows = pass.reducer.rows();
     // The call's contract tells how high a matrix is; a triangle has no more pivots.
-    let _ = rows.height();
+    rows.is_sound();
     let pivots = pass.reducer.pairs().len() as u32;
     let entries = share_of_rows(rows, pass.total, height);
     let coefficients = if pass.with_coefficients { entries } else { 0 };
@@ -56,7 +56,7 @@ pub(crate) fn part_of(
 {
     let rows = pass.reducer.rows();
     // The call's contract tells how high a matrix is.
-    let _ = rows.height();
+    rows.is_sound();
     let mut part = no_rows(alloc, pass, to - from)?;
     let mut left = pass.reducer.room(alloc);
     append_rows(alloc, pass, from, to, work, &mut left, &mut part)?;
@@ -130,7 +130,7 @@ pub(crate) fn next_left(reducer: &RowReducer, pivot_rows: &PivotNumbers, from: u
 {
     let rows = reducer.rows();
     // The call's contract tells how high a matrix is.
-    let _ = rows.height();
+    rows.is_sound();
     let mut next = from;
     while let Some(i) = rows.next_filled(next) {
         if pivot_rows.find(i, reducer.pairs()).is_none() {
@@ -193,7 +193,7 @@ fn append_left(
     let reducer = pass.reducer;
     let rows = reducer.rows();
     // The call's contract tells that the entries are residues.
-    let _ = rows.modulus();
+    rows.is_sound();
     let cols = rows.cols(i);
     let vals = rows.vals(i);
     if let Some(k) = pass.pivot_rows.find(i, reducer.pairs()) {

@@ -76,7 +76,7 @@ fn entries_reduced(
 {
     let rows = reducer.rows();
     // The call's contract tells that the entries are residues.
-    let _ = rows.modulus();
+    rows.is_sound();
     reducer.reduce(alloc, rows.cols(i), rows.vals(i), work, reduced)?;
     Ok(
         reduced
@@ -146,7 +146,7 @@ fn entries_left(
     };
     let rows = reducer.rows();
     // The call's contract tells that the entries are residues.
-    let _ = rows.modulus();
+    rows.is_sound();
     reducer.rest(alloc, rows.cols(i), rows.vals(i), work, rest)?;
     Ok(rest.cols().len())
 }

@@ -219,7 +219,7 @@ fn basis_with<C: Dealing + Finishing>(
     ensures { IfOk result (IsBasisUpTo pass.entry.reducer.now to) }
 {
     // The call's contract tells how high a matrix is.
-    let _ = pass.reducer.rows().height();
+    pass.reducer.rows().is_sound();
     let left = left_between(crew, alloc, pass, workers, from, to)?;
     let SchurRows { rows: below, .. } = left;
     let full = is_full_for(alloc, &below, &basis)?;

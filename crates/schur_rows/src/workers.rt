@@ -86,7 +86,7 @@ pub(crate) fn left_between<C: Dealing>(
     ensures { IfOk result (IsPartTo pass.entry.reducer.now pass.entry.with_coefficients from to) }
 {
     // The call's contract tells how high a matrix is.
-    let _ = pass.reducer.rows().height();
+    pass.reducer.rows().is_sound();
     if workers == 1 {
         return part_by_caller(alloc, pass, from, to);
     }
@@ -117,7 +117,7 @@ pub(crate) fn left_by_stages<R: Threads + Sync>(
         deal.entry.from deal.entry.to) }
 {
     // The call's contract tells how high a matrix is.
-    let _ = deal.pass.reducer.rows().height();
+    deal.pass.reducer.rows().is_sound();
     let mut made = no_rows(alloc, deal.pass, deal.to - deal.from)?;
     let mut parts = Vec::new(alloc);
     let mut joined = 0;
@@ -251,7 +251,7 @@ fn parts_of_worker(alloc: Global, deal: Deal, end: usize, next: &AtomicU64) -> S
     ensures { IsWorkersShare deal.entry.pass.reducer.now deal.entry result }
 {
     // The call's contract tells how high a matrix is.
-    let _ = deal.pass.reducer.rows().height();
+    deal.pass.reducer.rows().is_sound();
     let mut work = deal.pass.reducer.work(alloc)?;
     let mut parts = Vec::new(alloc);
     // No worker can take more.
@@ -280,7 +280,7 @@ fn part_by_number(
     ensures part { IfOk result (IsPartOf deal.entry.pass.reducer.now deal.entry number) }
 {
     // The call's contract tells how high a matrix is.
-    let _ = deal.pass.reducer.rows().height();
+    deal.pass.reducer.rows().is_sound();
     part_of(
         alloc,
         deal.pass,
@@ -332,7 +332,7 @@ fn join_number(
         deal.entry.from (cut_at deal.entry (number + 1)) made.new) }
 {
     // The call's contract tells how high a matrix is.
-    let _ = deal.pass.reducer.rows().height();
+    deal.pass.reducer.rows().is_sound();
     if let Some(part) = part_among(parts, number) {
         join_below(made, part)?;
         return Ok(());
@@ -355,7 +355,7 @@ fn join_missing(
         deal.entry.from (cut_at deal.entry (number + 1)) made.new) }
 {
     // The call's contract tells how high a matrix is.
-    let _ = deal.pass.reducer.rows().height();
+    deal.pass.reducer.rows().is_sound();
     let part = part_alone(alloc, deal, number)?;
     join_below(made, &part)?;
     Ok(())

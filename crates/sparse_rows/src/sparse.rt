@@ -88,6 +88,17 @@ impl Sparse {
         self.vals.clear();
     }
 
+    /// The law of its modulus and its entries, for proofs: it does nothing.
+    #[inline(always)]
+    pub fn is_sound(&self)
+        ensures two_or_more { 2 ≤ self.now.modulus }
+        ensures in_range { self.now.modulus < MODULUS_BOUND }
+        ensures entries { IsVector self.now.modulus (length self.now.row) self.now.row }
+    {
+        self.modulus();
+        self.width();
+    }
+
     /// How many entries the row has, zeros too.
     pub fn width(&self) -> u32
         ensures value { result ≡ length self.now.row }

@@ -58,7 +58,7 @@ fn inverse_of<C: Eliminating, G>(
         TellsInverse a.now.modulus a.now.matrix found) }
 {
     // The call's contract tells that the entries are residues.
-    let _ = a.height();
+    a.is_sound();
     let Some(both) = doubled(team.alloc, a)? else {
         return Ok(None);
     };

@@ -31,7 +31,7 @@ pub fn prepare<R: Threads + Sync, G: Gate>(
     ensures { IfOk result (IsPreparedFor a.now.modulus a.now.matrix) }
 {
     // The call's contract tells that the entries are residues.
-    let _ = a.height();
+    a.is_sound();
     let factors = factor(team.crew.runtime, team.alloc, a, team.plan(), team.gate)?;
     let rows_form = form_of_basis(&team.crew, team.alloc, &factors.u, team.workers)?;
     let null = kernel(team.alloc, &rows_form)?;

@@ -45,7 +45,8 @@ pub fn solve<C: Eliminating, G>(
         IsSolved a.now.modulus a.now.matrix (column b.now.matrix) found) }
 {
     // The calls' contracts tell that the entries are residues.
-    let _ = (a.height(), b.height());
+    a.is_sound();
+    b.is_sound();
     match told_by(&team, a.beside(team.alloc, b)?)? {
         Found::Solution(x) => Ok(Solution::Found(x)),
         Found::Inconsistent => {
@@ -100,7 +101,7 @@ fn refutation<C: Eliminating, G>(
         Found::Solution(y) => {
             let row = y.transpose(team.alloc)?;
             // The call's contract tells that the entries are residues.
-            let _ = row.height();
+            row.is_sound();
             Ok(row)
         }
         Found::Inconsistent => {
@@ -121,6 +122,6 @@ fn zero_row(alloc: Global, p: Modulus, width: u32) -> Result<Rows, AllocError>
     let mut row = Rows::with_room(alloc, p, width, 1, 0)?;
     row.append_zeros(1)?;
     // The call's contract tells that the entries are residues.
-    let _ = row.height();
+    row.is_sound();
     Ok(row)
 }

@@ -94,7 +94,7 @@ fn of_rank(rows: &Rows, factors: Factors) -> Certificate
     ensures { AreModulo rows.now.modulus result }
 {
     // The call's contract tells that the height fits a word.
-    let _ = rows.height();
+    rows.is_sound();
     let Factors { pivots, l, u } = factors;
     Certificate {
         kind: CertKind::Rank,

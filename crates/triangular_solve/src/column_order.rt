@@ -110,7 +110,7 @@ impl ColumnOrder {
             sums.new.row passed.new.row) }
     {
         // The call's contract tells the range of the modulus.
-        let _ = passed.modulus();
+        passed.is_sound();
         for k in 0..cols.len() {
             match self.find(cols[k]) {
                 Some(place) => sums.add(place, vals[k]),

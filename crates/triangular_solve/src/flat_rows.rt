@@ -210,7 +210,7 @@ impl FlatRows {
         self.take_row(pivots, cols, vals, sums, passed)?;
         pivots.order().join(sums, passed, rest)?;
         // The call's contract tells that the rest holds residues.
-        let _ = rest.width();
+        rest.is_sound();
         Ok(())
     }
 

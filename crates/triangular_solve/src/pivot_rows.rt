@@ -126,7 +126,7 @@ impl PivotRows {
         ensures ok { OnOk result (IsEliminating self.now sums.old.row sums.new.row coefficients.new.row) }
     {
         // The call's contract tells the range of the modulus.
-        let _ = coefficients.modulus();
+        coefficients.is_sound();
         while let Some((place, factor)) = self.eliminate_next(sums) {
             // Modulo a number that is no prime, the factor may be 0.
             if factor > 0 {
@@ -145,7 +145,7 @@ impl PivotRows {
             × IsEliminating self.now sums.old.row sums.new.row coefficients }
     {
         // The call's contract tells the range of the modulus.
-        let _ = self.rows.modulus();
+        self.rows.is_sound();
         while self.eliminate_next(sums).is_some() {}
     }
 
@@ -261,7 +261,7 @@ fn place_row(
     passed.clear();
     row.clear();
     // The call's contract tells that the rows are residues.
-    let _ = rows.modulus();
+    rows.is_sound();
     order.split(rows.cols(i), rows.vals(i), sums, passed)?;
     sums.drain(row)?;
     placed.append(row)?;

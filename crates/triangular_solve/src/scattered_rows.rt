@@ -49,7 +49,7 @@ impl ScatteredRows {
         ensures matrix { IfOk result (λ rows. rows.matrix ≡ record { height = 0; width = width; rows = [] }) }
     {
         // The call tells the range of the modulus.
-        let _ = modulus.p();
+        modulus.is_sound();
         let mut starts = Vec::with_capacity(alloc, height as usize + 1)?;
         starts.push(0)?;
         Ok(ScatteredRows {

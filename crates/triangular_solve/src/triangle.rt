@@ -211,7 +211,7 @@ fn count_waits(
     ensures { IfOk result (λ waits. AreWaits rows.now.matrix pairs.now waits.items) }
 {
     // The contract of this call tells that the rows are a matrix.
-    let _ = rows.height();
+    rows.is_sound();
     let mut waits = vec![in alloc; 0; pairs.len()]?;
     for pair in pairs {
         raise(&mut waits, columns, rows.cols(pair.row));
@@ -328,7 +328,7 @@ fn list_all(
     ensures { IfOk result (λ order. IsTriangularOrder rows.now.matrix pairs.now order.items) }
 {
     // The contract of this call tells that the rows are a matrix.
-    let _ = rows.height();
+    rows.is_sound();
     let mut order = Vec::with_capacity(alloc, pairs.len())?;
     while let Some(place) = next_ready(waits, queue) {
         let pair = pairs[place as usize];

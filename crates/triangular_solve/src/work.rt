@@ -222,7 +222,7 @@ fn reduce_by(
     pivots.eliminate(sums, coefficients)?;
     pivots.order().join(sums, passed, rest)?;
     // The call's contract tells that the rest holds residues.
-    let _ = rest.width();
+    rest.is_sound();
     Ok(())
 }
 
@@ -250,7 +250,7 @@ fn rest_by(
     pivots.eliminate_all(sums);
     pivots.order().join(sums, passed, rest)?;
     // The call's contract tells that the rest holds residues.
-    let _ = rest.width();
+    rest.is_sound();
     Ok(())
 }
 

@@ -70,7 +70,7 @@ fn weighed(alloc: Global, rows: &Rows) -> Result<Vec<WeighedRow>, AllocError>
         All (λ w. w.weight ≡ length (support (row rows.now.matrix w.row))) weighed.items) }
 {
     // The contract of this call bounds the weights.
-    let _ = rows.width();
+    rows.is_sound();
     let filled = rows.filled(alloc)?;
     let mut weighed = Vec::with_capacity(alloc, filled.len())?;
     for i in &filled {

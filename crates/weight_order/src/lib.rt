@@ -37,7 +37,7 @@ pub fn last_first(alloc: Global, rows: &Rows) -> Result<Rows, AllocError>
     ensures { IfOk result (HasFilledRows rows.now) }
 {
     // The contracts of these calls tell that the rows are a matrix of residues, and bound their number.
-    let _ = (rows.height(), rows.modulus());
+    rows.is_sound();
     let order = RowOrder::LastFirst.of_filled(alloc, rows)?;
     let turned = rows.select(alloc, &order)?;
     Ok(turned)
@@ -69,7 +69,7 @@ fn columns_by_weight(alloc: Global, rows: &Rows) -> Result<Rows, AllocError>
     ensures shape { IfOk result (λ made. HasFewRisingRows made.matrix) }
 {
     // The contract of this call tells that the rows are a matrix of residues.
-    let _ = rows.height();
+    rows.is_sound();
     if rows.occupied(alloc)?.len() > rows.filled(alloc)?.len() {
         return with_rarest_first(alloc, rows);
     }
@@ -93,7 +93,7 @@ fn from_columns(alloc: Global, columns: Rows, order: RowOrder) -> Result<Rows, A
     ensures shape { IfOk result (λ made. HasRarestFirst made.matrix) }
 {
     // The contract of this call tells that the columns are a matrix of residues.
-    let _ = columns.height();
+    columns.is_sound();
     let rows = columns.transpose(alloc)?;
     drop(columns);
     let order = order.of_filled(alloc, &rows)?;
@@ -107,7 +107,7 @@ fn in_order(alloc: Global, rows: &Rows, order: &[u32]) -> Result<Rows, AllocErro
     ensures rows { IfOk result (λ made. made.matrix ≡ selected rows.now.matrix order.now) }
 {
     // The contracts of these calls tell that the rows are a matrix of residues, and bound their number.
-    let _ = (rows.height(), rows.modulus());
+    rows.is_sound();
     let picked = rows.select(alloc, order)?;
     Ok(picked)
 }

@@ -208,7 +208,7 @@ fn rises(grow: &mut Grow, rows: &Rows, i: u32) -> Result<bool, AllocError>
     ensures width { grow.new.matrix.width ≡ grow.old.matrix.width }
 {
     // The call tells that the entries are residues.
-    let _ = rows.height();
+    rows.is_sound();
     grow.append(rows.cols(i), rows.vals(i))
 }
 
