@@ -136,6 +136,14 @@ impl Echelon {
         self.leads.as_slice()
     }
 
+    /// The law of its rows and leads, for proofs: it does nothing.
+    #[inline(always)]
+    pub fn is_sound(&self)
+        ensures { IsEchelon self.now }
+    {
+        self.rank();
+    }
+
     /// How many rows the form has; for a prime modulus that is the rank.
     pub fn rank(&self) -> u32
         ensures value { result ≡ self.now.matrix.height }

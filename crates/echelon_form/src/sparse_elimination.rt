@@ -59,7 +59,7 @@ pub(crate) fn eliminated(alloc: Global, rows: &Rows) -> Result<Leads, AllocError
     let mut from = 0;
     while let Some(i) = rows.next_filled(from) {
         // The call tells what the kept rows promise before they change.
-        let _ = kept.height();
+        kept.is_sound();
         kept.insert(rows.cols(i), rows.vals(i))?;
         from = i + 1;
     }

@@ -104,7 +104,8 @@ impl Grow {
         ensures err { OnErr result (self.new ≡ self.old) }
     {
         // The calls tell what the kept rows and the numbers promise before they change and after it.
-        let _ = (self.kept.height(), self.numbering.width());
+        self.kept.is_sound();
+        self.numbering.is_sound();
         make_room(
             self.alloc,
             &mut self.kept,
@@ -112,15 +113,16 @@ impl Grow {
             &mut self.sums,
             cols.len(),
         )?;
-        let _ = (self.kept.height(), self.numbering.width());
+        self.kept.is_sound();
+        self.numbering.is_sound();
         self.numbering.note(cols)?;
-        let _ = self.numbering.width();
+        self.numbering.is_sound();
         let p = self.kept.modulus();
         let row = self.numbering.row_by_numbers(self.alloc, cols, vals, &p)?;
         // The call tells that the entries are residues.
         row.is_sound();
         let lead = self.kept.insert(row.cols(0), row.vals(0))?;
-        let _ = self.kept.height();
+        self.kept.is_sound();
         Ok(lead.is_some())
     }
 
@@ -133,7 +135,8 @@ impl Grow {
             IsCombination self.old.modulus self.old.matrix (spread self.old.matrix.width cols.now vals.now)) }
     {
         // The calls tell what the kept rows and the numbers promise.
-        let _ = (self.kept.height(), self.numbering.width());
+        self.kept.is_sound();
+        self.numbering.is_sound();
         if !self.numbering.have_come(cols) {
             return Ok(false);
         }
@@ -156,7 +159,7 @@ impl Grow {
         ensures { IfOk result (AreRowsOfForm self.now) }
     {
         // The call tells what the numbers promise.
-        let _ = self.numbering.width();
+        self.numbering.is_sound();
         let settled = settled_rows(self.alloc, &self.kept)?;
         let rows = rows_at_columns(self.alloc, &self.kept, &settled, &self.numbering)?;
         Ok(Echelon::made_by(&Alone, self.alloc, &rows, 1)?.into_rows())
@@ -172,7 +175,7 @@ impl Grow {
         row_space::rref_exists();
         row_space::span_fixes_height();
         // The call tells what the numbers promise.
-        let _ = self.numbering.width();
+        self.numbering.is_sound();
         self.kept.height()
     }
 }
@@ -194,7 +197,8 @@ fn make_room(
     ensures room { OnOk result (HasRoomFor numbering.new count) }
 {
     // The calls tell what the kept rows and the numbers promise.
-    let _ = (kept.height(), numbering.width());
+    kept.is_sound();
+    numbering.is_sound();
     if let Some(more) = numbering.lacking(count) {
         *kept = kept.behind_zeros(alloc, more)?;
         numbering.add_numbers(more);

@@ -48,6 +48,14 @@ impl Numbering {
         }
     }
 
+    // The law of the numbers, for proofs: it does nothing.
+    #[inline(always)]
+    pub(crate) fn is_sound(&self)
+        ensures { IsNumbering self.now }
+    {
+        self.width();
+    }
+
     // How many columns there are, whether they have come or not.
     pub(crate) fn width(&self) -> u32
         ensures value { result ≡ length self.now.arrivals }

@@ -22,7 +22,8 @@ pub(crate) fn rows_at_columns(
     ensures matrix { IfOk result (λ rows. rows.matrix ≡ seen_matrix numbering.now settled.now.matrix) }
 {
     // The calls tell what the kept rows and the numbers promise.
-    let _ = (kept.height(), numbering.width());
+    kept.is_sound();
+    numbering.is_sound();
     let p = kept.modulus();
     let height = settled.height();
     let mut rows = Rows::with_room(

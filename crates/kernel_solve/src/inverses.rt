@@ -94,7 +94,8 @@ pub fn inverse_in(alloc: Global, form: &Echelon, n: u32) -> Result<Option<Rows>,
         → IsFormOf p (beside A (identity n)) form.now → TellsInverse p A found) }
 {
     // The calls' contracts tell how wide a matrix of residues is.
-    let _ = (form.rows().width(), form.rank());
+    form.rows().is_sound();
+    form.is_sound();
     if fills(form.leads(), n) {
         let half = right_half(alloc, form.rows(), n)?;
         return Ok(Some(half));

@@ -115,7 +115,8 @@ impl Prepared {
         ensures { IfOk result (IsReply self.now b.now.matrix) }
     {
         // The proof wants that b is a matrix of residues, and how many relations there are.
-        let _ = (b.modulus(), self.relations.height());
+        b.is_sound();
+        self.relations.is_sound();
         let side = entries_of(alloc, b)?;
         // The relations alone tell whether there is a solution, so the factors are read only where there is one.
         let products = self.relations.times(alloc, &side)?;

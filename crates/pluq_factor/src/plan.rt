@@ -114,7 +114,7 @@ fn found<'a>(alloc: Global, book: &Book<'a>, searches: bool) -> Result<FewPivots
 {
     let triangle = Triangle::of(alloc, book)?;
     // The call's contract tells that the pivots are triangular.
-    let _ = triangle.pairs().len();
+    triangle.is_sound();
     Ok(FewPivots { triangle, searches })
 }
 
@@ -126,7 +126,7 @@ pub(crate) fn all_pivots<'a>(alloc: Global, rows: &'a Rows) -> Result<Triangle<'
     let book = search_alone(alloc, leftmost(alloc, rows)?)?;
     let triangle = Triangle::of(alloc, &book)?;
     // The call's contract tells that the pivots are triangular.
-    let _ = triangle.pairs().len();
+    triangle.is_sound();
     Ok(triangle)
 }
 

@@ -138,7 +138,8 @@ fn left_by<C: Eliminating>(
     ensures { IfOk result (IsLeftBy triangle.now.rows) }
 {
     // The calls' contracts tell that the entries are residues, and that the pivots are triangular.
-    let _ = (triangle.rows().height(), triangle.pairs().len());
+    triangle.rows().is_sound();
+    triangle.is_sound();
     let rest = rest_of(crew, alloc, triangle, workers)?;
     let top = rows_at_pivots(alloc, triangle)?;
     Ok(Left { top, rest })

@@ -40,7 +40,8 @@ pub fn schur<R: Threads + Sync>(
     ensures round { IfOk result (λ s. IsPrime triangle.now.rows.modulus → IsRound triangle.now s) }
 {
     // The calls' contracts tell that the pivots are triangular, and the entries residues.
-    let _ = (triangle.pairs().len(), triangle.rows().modulus());
+    triangle.is_sound();
+    triangle.rows().is_sound();
     let reducer = RowReducer::by_walks(triangle);
     let left = left_by(&Threaded::of(rt), alloc, &reducer, workers, true)?;
     Ok(left)
@@ -61,7 +62,8 @@ pub fn complement<C: Dealing>(
         reducer.now.rows.matrix reducer.now.pairs rows.matrix) }
 {
     // The calls' contracts tell that the pivots are triangular, and the entries residues.
-    let _ = (reducer.pairs().len(), reducer.rows().modulus());
+    reducer.is_sound();
+    reducer.rows().is_sound();
     let left = left_by(crew, alloc, reducer, workers, false)?;
     let SchurRows { rows, .. } = left;
     Ok(rows)

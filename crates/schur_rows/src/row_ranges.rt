@@ -101,7 +101,8 @@ fn append_rows(
 {
     let rows = pass.reducer.rows();
     // The calls' contracts tell how high a matrix of residues is, and that the pivots are triangular.
-    let _ = (rows.modulus(), rows.height(), pass.reducer.pairs().len());
+    rows.is_sound();
+    pass.reducer.is_sound();
     let mut next = from;
     while let Some(i) = next_below(rows, next, to) {
         append_zeros(part, i - next)?;

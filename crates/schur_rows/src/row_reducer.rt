@@ -79,6 +79,14 @@ impl<'t, 'a> RowReducer<'t, 'a> {
         self.triangle.rows()
     }
 
+    /// The law of its pivots, for proofs: it does nothing.
+    #[inline(always)]
+    pub fn is_sound(&self)
+        ensures { Triangular self.now.rows.matrix self.now.pairs }
+    {
+        self.pairs();
+    }
+
     /// The pairs in their order.
     pub fn pairs(&self) -> &[Pair]
         ensures pairs { result.now ≡ self.now.pairs }

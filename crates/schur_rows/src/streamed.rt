@@ -131,7 +131,7 @@ fn basis_of<C: Dealing + Finishing>(
     let rows = pass.reducer.rows();
     let height = rows.height();
     // The call's contract tells that the pivots are triangular.
-    let _ = pass.reducer.pairs().len();
+    pass.reducer.is_sound();
     let columns = columns_left(alloc, pass.reducer)?;
     let mut basis = Rows::with_room(alloc, rows.modulus(), rows.width(), 0, 0)?;
     let mut independent = true;

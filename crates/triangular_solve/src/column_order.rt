@@ -72,6 +72,14 @@ impl ColumnOrder {
         })
     }
 
+    // The law of the columns, for proofs: it does nothing.
+    #[inline(always)]
+    pub(crate) fn is_sound(&self)
+        ensures { length self.now ≤ LARGEST_SIZE }
+    {
+        self.columns();
+    }
+
     // The columns in this order.
     pub(crate) fn columns(&self) -> &[u32]
         ensures columns { result.now ≡ self.now }

@@ -100,7 +100,7 @@ impl FlatRows {
         ensures clear { OnOk result (IsClear pivots.now.rows.modulus (length pivots.now.columns) sums.new) }
     {
         // The call's contract tells that the flat rows are residues.
-        let _ = self.tails.entries();
+        self.tails.is_sound();
         self.flatten(pivots, place, sums)?;
         self.tails.append_sums(sums)?;
         Ok(())
@@ -120,7 +120,7 @@ impl FlatRows {
         ensures tail { OnOk result (IsFlatTail pivots.now place sums.new.row) }
     {
         // The call's contract tells that the flat rows are residues.
-        let _ = self.tails.entries();
+        self.tails.is_sound();
         let rows = pivots.rows();
         let modulus = rows.modulus();
         let inverse = pivots.inverse(place);
@@ -234,7 +234,8 @@ impl FlatRows {
             sums.new.row passed.new.row) }
     {
         // The calls' contracts tell the range of the modulus, and that the flat rows are residues.
-        let _ = (passed.modulus(), self.tails.entries());
+        passed.is_sound();
+        self.tails.is_sound();
         let order = pivots.order();
         for k in 0..cols.len() {
             match order.find(cols[k]) {

@@ -64,7 +64,7 @@ impl PivotRows {
         ensures placed { ArePlaced self.now }
     {
         // The call's contract tells that there are few.
-        let _ = self.order.columns();
+        self.order.is_sound();
         &self.order
     }
 

@@ -63,6 +63,14 @@ impl<'a> Triangle<'a> {
         })
     }
 
+    /// The law of its pivots, for proofs: it does nothing.
+    #[inline(always)]
+    pub fn is_sound(&self)
+        ensures { Triangular self.now.rows.matrix self.now.pairs }
+    {
+        self.pairs();
+    }
+
     /// The pairs in this order.
     pub fn pairs(&self) -> &[Pair]
         ensures pairs { result.now ≡ self.now.pairs }

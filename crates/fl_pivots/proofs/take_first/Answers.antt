@@ -32,7 +32,7 @@ overflow_add-next c =
     let k = c.loop-beginning.beginning-index in
     let at = here_begins c.requires.beginnings c.requires.sorted c.loop-beginning.invariant.passed none c.loop-beginning-test.true c.if-beginning-next.true in
     let low = at.0.1 in
-    record { fits = omega (arith, low, c.width.ensures.value, c.width.ensures.bound, ap (λ (m : ResidueMatrix). m.matrix.width) c.rows.ensures) }
+    record { fits = omega (arith, low, c.is_sound.ensures.width, ap (λ (m : ResidueMatrix). m.matrix.width) c.rows.ensures) }
 
 pub loop-beginning-preserved : goal.loop-beginning-preserved
 loop-beginning-preserved c =

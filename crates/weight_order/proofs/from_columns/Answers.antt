@@ -7,10 +7,10 @@ use Rattle.weight_order.proofs.from_columns.Goals as goal
 
 pub returns-clause-rank : goal.returns-clause-rank
 returns-clause-rank c =
-    IfOk-weaker c.in_order.result _ _ (λ s. keeps_chained (transposing_keeps c.height.ensures.sound c.in_ok-rows.ensures.modulus c.in_ok-rows.ensures.matrix)) c.in_order.ensures.rank
+    IfOk-weaker c.in_order.result _ _ (λ s. keeps_chained (transposing_keeps c.is_sound.ensures.entries c.in_ok-rows.ensures.modulus c.in_ok-rows.ensures.matrix)) c.in_order.ensures.rank
 
 pub returns-clause-shape : goal.returns-clause-shape
 returns-clause-shape c =
     IfOk-weaker c.in_order.result _ _ (λ made is.
-    rarest_first_of c.height.ensures.sound c.requires c.in_ok-rows.ensures.matrix c.in_ok-order.ensures (is ∙ ap (selected c.in_ok-rows.rows.matrix) c.deref.ensures.value))
+    rarest_first_of c.is_sound.ensures.entries c.requires c.in_ok-rows.ensures.matrix c.in_ok-order.ensures (is ∙ ap (selected c.in_ok-rows.rows.matrix) c.deref.ensures.value))
     c.in_order.ensures.rows

@@ -6,7 +6,7 @@ use Rattle.weight_order.proofs.last_first.Goals as goal
 pub select-requires-clause-many : goal.select-requires-clause-many
 select-requires-clause-many c =
     let order : AreFilledInSomeOrder c.args.rows.now.matrix c.deref.result.now = subst (AreFilledInSomeOrder c.args.rows.now.matrix) (sym c.deref.ensures.value) c.in_ok-order.ensures in
-    omega (arith, no_more order, c.height.ensures.value, c.height.ensures.bound)
+    omega (arith, no_more order, c.is_sound.ensures.height)
 
 pub select-requires-clause-inside : goal.select-requires-clause-inside
 select-requires-clause-inside c =
@@ -14,7 +14,7 @@ select-requires-clause-inside c =
 
 pub returns : goal.returns
 returns c = record {
-  sound = c.height.ensures.sound;
+  sound = c.is_sound.ensures.entries;
   modulus = c.in_ok-turned.ensures.modulus;
   numbers = c.deref.result.now;
   filled = each_filled (subst (AreFilledInSomeOrder c.args.rows.now.matrix) (sym c.deref.ensures.value) c.in_ok-order.ensures);

@@ -24,7 +24,7 @@ returns g c =
     let modulus = subst (λ (x : ResidueMatrix). x.modulus ≡ c.args.p.now) (sym c.index-texts-0.is) (c.requires.of_text 0 a (omega (arith, c.requires.some))).modulus in
     let prepared = subst (λ m. IsPreparedFor m a.matrix c.in_ok-prepared.prepared) modulus c.in_ok-prepared.ensures in
     let first = subst (λ (x : ResidueMatrix). IsPreparedFor c.args.p.now x.matrix c.in_ok-prepared.prepared) c.index-texts-0.is prepared in
-    let sound = subst (λ m. IsMatrix m a.matrix) modulus c.height.ensures.sound in
+    let sound = subst (λ m. IsMatrix m a.matrix) modulus c.is_sound.ensures.entries in
     let matrix = subst (λ (x : ResidueMatrix). IsMatrix c.args.p.now x.matrix) c.index-texts-0.is sound in
     replies_told _ _ c.answer_all.result (λ replies are. batch_replies c.args.p.now texts a c.in_ok-prepared.prepared replies.items c.requires.some c.requires.of_text matrix c.requires.fits first
     (subst (λ qs. AreReplies c.in_ok-prepared.prepared qs replies.items) (texts_behind texts c.requires.some) are)) c.answer_all.ensures

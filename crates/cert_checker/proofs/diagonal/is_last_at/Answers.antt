@@ -14,7 +14,7 @@ returns-then-cols-eq0 c = (
 pub returns : goal.returns
 returns c =
     let v : List ℕ = row c.args.rows.now.matrix c.args.i in
-    let h : IsVector c.args.rows.now.modulus c.args.rows.now.matrix.width v = c.height.ensures.sound.each c.args.i c.requires.row in
+    let h : IsVector c.args.rows.now.modulus c.args.rows.now.matrix.width v = c.is_sound.ensures.entries.each c.args.i c.requires.row in
     let q : ℕ = length c.cols-cols.result.now - 1 in
     let last : q + 1 ≡ length (support v) = omega (arith, ap length c.cols-cols.ensures.support, c.if-cols-eq0.false) in
     let at : slice_index c.cols-cols.result.now q ≡ slice_index (support v) q = ap (λ xs. slice_index xs q) c.cols-cols.ensures.support in (

@@ -29,8 +29,8 @@ loop-i-preserved c =
     let V : Matrix = c.args.v.now.matrix in
     let Y : Matrix = c.args.y.now.matrix in
     let p : ℕ = c.args.b.now.modulus in
-    let v : IsMatrix p V = subst (λ q. IsMatrix q V) c.requires.fit.modulus c.height.ensures.sound in
-    let y : IsMatrix p Y = subst (λ q. IsMatrix q Y) c.requires.fit.left_modulus c.height-2.ensures.sound in
+    let v : IsMatrix p V = subst (λ q. IsMatrix q V) c.requires.fit.modulus c.is_sound.ensures.entries in
+    let y : IsMatrix p Y = subst (λ q. IsMatrix q Y) c.requires.fit.left_modulus c.is_sound-2.ensures.entries in
     let i : ℕ = c.in-Some.i in
     let filled = c.loop-i.invariant.3 in
     let n : IsNextInEither V Y c.loop-i.filled.from i = subst (λ f. IsNextInEither f.left f.right c.loop-i.filled.from i) filled c.in-Some.ensures.row in
@@ -48,8 +48,8 @@ returns c =
     let V : Matrix = c.args.v.now.matrix in
     let Y : Matrix = c.args.y.now.matrix in
     let p : ℕ = c.args.b.now.modulus in
-    let v : IsMatrix p V = subst (λ q. IsMatrix q V) c.requires.fit.modulus c.height.ensures.sound in
-    let y : IsMatrix p Y = subst (λ q. IsMatrix q Y) c.requires.fit.left_modulus c.height-2.ensures.sound in
+    let v : IsMatrix p V = subst (λ q. IsMatrix q V) c.requires.fit.modulus c.is_sound.ensures.entries in
+    let y : IsMatrix p Y = subst (λ q. IsMatrix q Y) c.requires.fit.left_modulus c.is_sound-2.ensures.entries in
     let z : AreBothZeroFrom V Y c.loop-i.filled.from = subst (λ f. AreBothZeroFrom f.left f.right c.loop-i.filled.from) c.loop-i.invariant.3 c.in_default.ensures.row in (
       λ _. combined_all v y c.requires.fit.height c.requires.fit.width c.requires.fit.inner c.loop-i.invariant.2 z,
       λ _. refl,

@@ -9,7 +9,7 @@ pub returns-then-not-is_zero_at : goal.returns-then-not-is_zero_at
 returns-then-not-is_zero_at c =
     let B : Matrix = c.args.b.now.matrix in
     let t : ℕ = slice_index c.args.rows.now c.loop-k.k in
-    let h : IsVector c.args.b.now.modulus B.width (row B t) = c.height.ensures.sound.each t (c.requires.below c.loop-k.k c.loop-k-test.true) in (
+    let h : IsVector c.args.b.now.modulus B.width (row B t) = c.is_sound.ensures.entries.each t (c.requires.below c.loop-k.k c.loop-k-test.true) in (
       λ e. absurd (false≢true e),
       λ z.
           let here : IsZeroAt c.args.sums.now c.cols.result.now = rw c.cols.ensures.support (zero_stored c.args.b.now.modulus B.width (row B t) c.args.sums.now h (z c.loop-k.k c.loop-k-test.true)) in

@@ -13,14 +13,14 @@ returns-then-not-are_single c =
     let U : Matrix = c.args.u.now.matrix in
     let E : Matrix = c.args.e.now.matrix in
     let p : ℕ = c.args.u.now.modulus in
-    let m : IsMatrix p E = subst (λ q. IsMatrix q E) c.requires c.modulus-2.ensures.sound in
+    let m : IsMatrix p E = subst (λ q. IsMatrix q E) c.requires c.is_sound-2.ensures.entries in
     let width : E.width ≡ U.width = omega (arith, c.if-width.false, c.width.ensures.value, c.width-2.ensures.value) in
     let height : E.height ≡ U.height = omega (arith, c.if-height.false, c.height.ensures.value, c.height-2.ensures.value) in
     let leads : List ℕ = c.in-Some.leads.items in
     let ones : AreOuterOnes Left E leads = rw c.in-Some.is at c.in_ok-leads.ensures.some in (
       λ e. absurd (false≢true e),
       λ s. absurd (false≢true (sym c.if-not-are_single.true ∙ c.are_single.ensures.1 (rw (c.in_ok-columns.ensures.matrix, c.deref.ensures.value)
-          (alone_single m ones (rref_alone p U E leads c.modulus.ensures.sound m ones height width s))))),
+          (alone_single m ones (rref_alone p U E leads c.is_sound.ensures.entries m ones height width s))))),
     )
 
 pub select-requires-clause-inside : goal.select-requires-clause-inside
@@ -37,13 +37,13 @@ returns c =
     let U : Matrix = c.args.u.now.matrix in
     let E : Matrix = c.args.e.now.matrix in
     let p : ℕ = c.args.u.now.modulus in
-    let m : IsMatrix p E = subst (λ q. IsMatrix q E) c.requires c.modulus-2.ensures.sound in
+    let m : IsMatrix p E = subst (λ q. IsMatrix q E) c.requires c.is_sound-2.ensures.entries in
     let width : E.width ≡ U.width = omega (arith, c.if-width.false, c.width.ensures.value, c.width-2.ensures.value) in
     let height : E.height ≡ U.height = omega (arith, c.if-height.false, c.height.ensures.value, c.height-2.ensures.value) in
     let leads : List ℕ = c.in-Some.leads.items in
     let ones : AreOuterOnes Left E leads = rw c.in-Some.is at c.in_ok-leads.ensures.some in
     let alone : AreAlone E leads = single_alone m ones (rw (c.in_ok-columns.ensures.matrix, c.deref.ensures.value) at (c.are_single.ensures.0 c.if-not-are_single.false)) in
     let product = rw (c.requires, c.in_ok-at_leads.ensures.matrix, c.in_ok-leading.ensures.matrix, c.in_ok-u_columns.ensures.matrix, c.deref-2.ensures.value) at c.in_ok-product.ensures in (
-      λ e. rref_made p U E leads c.modulus.ensures.sound m ones height width alone (product.0 e),
-      λ s. product.1 (rref_product p U E leads c.modulus.ensures.sound m ones height width s),
+      λ e. rref_made p U E leads c.is_sound.ensures.entries m ones height width alone (product.0 e),
+      λ s. product.1 (rref_product p U E leads c.is_sound.ensures.entries m ones height width s),
     )

@@ -9,18 +9,18 @@ loop-i-init c = keeping_none c.args.rows.now.modulus c.args.rows.now.matrix c.in
 
 pub insert-requires : goal.insert-requires
 insert-requires c =
-    sparse_of (c.height.ensures.sound.each c.in-Some.i c.in-Some.ensures.below) c.loop-i.invariant.modulus c.loop-i.invariant.width c.cols.ensures.support c.vals.ensures.values
+    sparse_of (c.is_sound.ensures.entries.each c.in-Some.i c.in-Some.ensures.below) c.loop-i.invariant.modulus c.loop-i.invariant.width c.cols.ensures.support c.vals.ensures.values
 
 pub loop-i-preserved : goal.loop-i-preserved
 loop-i-preserved c =
-    keeping_more c.height.ensures.sound c.height-in-Some.ensures.sound c.loop-i.invariant c.in-Some.ensures c.cols.ensures.support c.vals.ensures.values c.in_ok-insert.field-0 c.in_ok-insert.ensures.inserted
+    keeping_more c.is_sound.ensures.entries c.is_sound-in-Some.ensures.rows c.loop-i.invariant c.in-Some.ensures c.cols.ensures.support c.vals.ensures.values c.in_ok-insert.field-0 c.in_ok-insert.ensures.inserted
 
 pub loop-i-smaller : goal.loop-i-smaller
 loop-i-smaller c =
     let less : c.args.rows.now.matrix.height - (c.in-Some.i + 1) < c.args.rows.now.matrix.height - c.loop-i.from = omega (arith, c.in-Some.ensures.low, c.in-Some.ensures.below) in less
 
 pub returns-clause-few : goal.returns-clause-few
-returns-clause-few c = (keeping_all c.height.ensures.sound c.loop-i.invariant c.in_default.ensures).0
+returns-clause-few c = (keeping_all c.is_sound.ensures.entries c.loop-i.invariant c.in_default.ensures).0
 
 pub returns-clause-span : goal.returns-clause-span
-returns-clause-span c = (keeping_all c.height.ensures.sound c.loop-i.invariant c.in_default.ensures).1
+returns-clause-span c = (keeping_all c.is_sound.ensures.entries c.loop-i.invariant c.in_default.ensures).1

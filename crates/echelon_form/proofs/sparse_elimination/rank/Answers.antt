@@ -7,7 +7,7 @@ use Rattle.echelon_form.proofs.sparse_elimination.rank.Goals as goal
 pub returns-in_ok-narrow-clause-rank : goal.returns-in_ok-narrow-clause-rank
 returns-in_ok-narrow-clause-rank c =
     let enough : AreEnough c.args.rows.now.matrix c.deref.result.now = subst (AreEnough c.args.rows.now.matrix) (sym c.deref.ensures.value) c.in_ok-columns.ensures.enough in
-    IfOk-weaker c.height_left.result _ _ (λ r h. narrow_rank c.modulus.ensures.sound enough c.in_ok-narrow.ensures.matrix c.in_ok-narrow.ensures.modulus h) c.height_left.ensures.rank
+    IfOk-weaker c.height_left.result _ _ (λ r h. narrow_rank c.is_sound.ensures.entries enough c.in_ok-narrow.ensures.matrix c.in_ok-narrow.ensures.modulus h) c.height_left.ensures.rank
 
 pub returns-in_ok-narrow-clause-at_most_width : goal.returns-in_ok-narrow-clause-at_most_width
 returns-in_ok-narrow-clause-at_most_width c =

@@ -3,10 +3,10 @@ use Rattle.fl_pivots.proofs.Listing.{listed_more, listed_passes}
 use Rattle.fl_pivots.proofs.beginning.beginnings.Goals as goal
 
 pub overflow_add-from : goal.overflow_add-from
-overflow_add-from c = record { fits = omega (arith, c.in-Some.ensures.below, c.height.ensures.value, c.height.ensures.bound) }
+overflow_add-from c = record { fits = omega (arith, c.in-Some.ensures.below, c.is_sound.ensures.height) }
 
 pub loop-i-preserved : goal.loop-i-preserved
-loop-i-preserved c = rw c.in_ok-push.ensures.items (listed_more (listed_passes c.height.ensures.sound c.loop-i.invariant c.in-Some.ensures.between) c.of.result c.of.ensures)
+loop-i-preserved c = rw c.in_ok-push.ensures.items (listed_more (listed_passes c.is_sound.ensures.entries c.loop-i.invariant c.in-Some.ensures.between) c.of.result c.of.ensures)
 
 pub returns : goal.returns
-returns c = listed_passes c.height.ensures.sound c.loop-i.invariant c.in_default.ensures
+returns c = listed_passes c.is_sound.ensures.entries c.loop-i.invariant c.in_default.ensures

@@ -12,7 +12,7 @@ returns-in_ok-append-in-Append-clause-ok c =
     subst (λ l. AnswersOfScript c.args.grow.now c.append.new.self l None) (sym c.in-Append.is) (
       c.in_ok-append-in-Append.field-0,
       subst (λ v. AppendsRow c.args.grow.now c.append.new.self v c.in_ok-append-in-Append.field-0)
-          (spread_alone c.modulus.ensures.sound fits.width fits.height c.cols.ensures.support c.vals.ensures.values) c.in_ok-append-in-Append.ensures.ok,
+          (spread_alone c.is_sound.ensures.entries fits.width fits.height c.cols.ensures.support c.vals.ensures.values) c.in_ok-append-in-Append.ensures.ok,
     )
 
 pub returns-in_ok-contains-in-Contains-clause-ok :
@@ -22,5 +22,5 @@ returns-in_ok-contains-in-Contains-clause-ok c =
     subst (λ l. AnswersOfScript c.args.grow.now c.contains.new.self l (Some (answer.Contains c.in_ok-contains-in-Contains.field-0))) (sym c.in-Contains.is) (
       c.contains.ensures.same,
       subst (λ v. (c.in_ok-contains-in-Contains.field-0 ≡ true) ↔ IsCombination c.args.grow.now.modulus c.args.grow.now.matrix v)
-          (spread_alone c.modulus-in-Contains.ensures.sound fits.width fits.height c.cols-in-Contains.ensures.support c.vals-in-Contains.ensures.values) c.in_ok-contains-in-Contains.ensures.found,
+          (spread_alone c.is_sound-in-Contains.ensures.entries fits.width fits.height c.cols-in-Contains.ensures.support c.vals-in-Contains.ensures.values) c.in_ok-contains-in-Contains.ensures.found,
     )

@@ -15,9 +15,9 @@ returns-clause-tells g c = λ prime.
     let both = subst (IsDoubled c.args.a.now) c.in-Some.is c.in_ok-both.ensures in
     let form : IsFormOf p (beside A (identity n)) c.in_ok-form.form =
     form_same c.in-Some.both.modulus p c.in-Some.both.matrix (beside A (identity n)) c.in_ok-form.form both.0 (both.1 ∙ ap (λ n. beside A (identity n)) (sym size)) c.in_ok-form.ensures in
-    c.in_ok-found.ensures.tells p A prime c.height.ensures.sound (c.requires.square ∙ sym size) (sym size) form
+    c.in_ok-found.ensures.tells p A prime c.is_sound.ensures.entries (c.requires.square ∙ sym size) (sym size) form
 
 pub returns-in_default-clause-tells : goal.returns-in_default-clause-tells
 returns-in_default-clause-tells g c = λ prime.
-    few_entries c.args.a.now.modulus c.args.a.now.matrix prime.two_or_more c.height.ensures.sound c.requires.square
+    few_entries c.args.a.now.modulus c.args.a.now.matrix prime.two_or_more c.is_sound.ensures.entries c.requires.square
     (subst (IsDoubled c.args.a.now) c.in_default.is c.in_ok-both.ensures)

@@ -13,7 +13,7 @@ clear_end-requires-clause-vector c = c.loop-k.invariant.vector
 
 pub loop-k-preserved : goal.loop-k-preserved
 loop-k-preserved c =
-    cleared_more (omega (arith, c.modulus.ensures.value, c.modulus.ensures.two_or_more)) c.loop-k.invariant (omega (arith, c.loop-k-test.true, c.height-k-end.ensures.value))
+    cleared_more (omega (arith, c.is_sound.ensures.two_or_more)) c.loop-k.invariant (omega (arith, c.loop-k-test.true, c.height-k-end.ensures.value))
     c.clear_end.ensures.vector c.clear_end.ensures.adds
 
 pub returns-clause-vector : goal.returns-clause-vector

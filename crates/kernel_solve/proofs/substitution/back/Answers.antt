@@ -10,7 +10,7 @@ loop-k-init c =
     let U : ResidueMatrix = c.args.right.now in
     let none : 0 ≡ length c.args.pivots.now - length c.args.pivots.now = omega arith in
     subst (λ n. IsBack U.modulus U.matrix c.args.pivots.now c.args.inverses.now c.args.side.now n c.in_ok-x.x.items) none
-    (back_none (omega (arith, c.modulus.ensures.value, c.modulus.ensures.two_or_more)) c.requires.pivots
+    (back_none (omega (arith, c.is_sound.ensures.two_or_more)) c.requires.pivots
     (c.in_ok-x.ensures.items_if_clones_equal (λ y e. e) ∙ ap (λ n. replicate {A = ℕ} n 0) c.width.ensures.value))
 
 pub settle-requires-clause-column : goal.settle-requires-clause-column
@@ -35,7 +35,7 @@ loop-k-preserved c =
     let long = c.settle.ensures.vector.len ∙ sym c.loop-k.invariant.vector.len ∙ sym c.loop-k.x.ok.0 in
     subst (IsBack U.modulus U.matrix c.args.pivots.now c.args.inverses.now c.args.side.now (r - (c.loop-k.k - 1))) (sym (with_items_is c.loop-k.x next long))
     (subst (λ n. IsBack U.modulus U.matrix c.args.pivots.now c.args.inverses.now c.args.side.now n next) more
-    (back_more k (omega (arith, c.modulus.ensures.value, c.modulus.ensures.two_or_more)) c.loop-k.invariant (omega (arith, high, c.loop-k-test.true)) c.settle.ensures.vector
+    (back_more k (omega (arith, c.is_sound.ensures.two_or_more)) c.loop-k.invariant (omega (arith, high, c.loop-k-test.true)) c.settle.ensures.vector
     (λ t d. c.settle.ensures.others t (λ e. d (e ∙ sym is)) ∙ ap (λ u. slice_index u t) c.as_mut_slice.ensures.value)
     (λ z one. c.settle.ensures.solves (ap₂ slice_index c.as_mut_slice.ensures.value (sym is) ∙ z)
     (subst (λ j. entry U.matrix k j * slice_index c.args.inverses.now k % U.modulus ≡ 1) is one))))

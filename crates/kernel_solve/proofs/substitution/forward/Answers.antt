@@ -7,7 +7,7 @@ use Rattle.kernel_solve.proofs.substitution.forward.Goals as goal
 
 pub loop-k-init : goal.loop-k-init
 loop-k-init c =
-    forward_none (omega (arith, c.modulus.ensures.value, c.modulus.ensures.two_or_more))
+    forward_none (omega (arith, c.is_sound.ensures.two_or_more))
     (c.in_ok-z.ensures.items_if_clones_equal (λ y e. e) ∙ ap (λ n. replicate {A = ℕ} n 0) c.width.ensures.value)
 
 pub bounds-side-i : goal.bounds-side-i

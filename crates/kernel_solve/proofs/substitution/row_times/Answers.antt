@@ -19,7 +19,7 @@ overflow_add-sum c =
     let small : c.from.result * c.from-in-loop-k.result ≤ 79228162514264337593543950336 = product_small c.from.result c.from-in-loop-k.result
     (omega (arith, c.from.ensures, c.vals-vals.ensures.residues k (omega (arith, c.loop-k-test.true, c.cols-cols.ensures.same_length, ap length c.vals-vals.ensures.values)), c.modulus.ensures.value, c.modulus.ensures.in_range))
     (omega (arith, c.from-in-loop-k.ensures, c.requires.column.residues j inside, c.modulus.ensures.value, c.modulus.ensures.in_range)) in
-    record { fits = omega (arith, small, many, c.loop-k.invariant.1, c.loop-k-test.true, c.width.ensures.value, c.width.ensures.bound) }
+    record { fits = omega (arith, small, many, c.loop-k.invariant.1, c.loop-k-test.true, c.is_sound.ensures.width) }
 
 pub loop-k-preserved : goal.loop-k-preserved
 loop-k-preserved c =

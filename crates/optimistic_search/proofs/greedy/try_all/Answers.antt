@@ -16,7 +16,7 @@ loop-row-preserved c =
     let t = c.try_row.ensures in
     let A = c.args.book.now.rows.matrix in
     let start = c.args.book.now.pairs in
-    let sound = subst (λ (m : ResidueMatrix). IsMatrix m.modulus m.matrix) c.rows-rows.ensures c.height.ensures.sound in
+    let sound = subst (λ (m : ResidueMatrix). IsMatrix m.modulus m.matrix) c.rows-rows.ensures c.is_sound.ensures.entries in
     let next = subst (λ (m : ResidueMatrix). IsNextFilled m.matrix c.loop-row.from c.in-Some.row) c.rows-rows.ensures c.in-Some.ensures in (
       t.book_rows ∙ inv.0,
       t.walk_rows ∙ inv.1,
@@ -33,6 +33,6 @@ pub returns-clause-greedy : goal.returns-clause-greedy
 returns-clause-greedy c = λ whole.
     let inv = c.loop-row.invariant in
     let A = c.args.book.now.rows.matrix in
-    let sound = subst (λ (m : ResidueMatrix). IsMatrix m.modulus m.matrix) c.rows-rows.ensures c.height.ensures.sound in
+    let sound = subst (λ (m : ResidueMatrix). IsMatrix m.modulus m.matrix) c.rows-rows.ensures c.is_sound.ensures.entries in
     let none = subst (λ (m : ResidueMatrix). AreZeroFrom m.matrix c.loop-row.from) c.rows-rows.ensures c.in_default.ensures in
     greedy_past sound c.args.book.now.pairs c.loop-row.book.pairs c.loop-row.from A.height inv.4 (omega arith) none (inv.5 (c.is_spent-2.ensures.no (not-true c.is_spent-2.result whole)))

@@ -17,7 +17,7 @@ raise_column-requires-clause-low c =
 pub raise_column-requires-clause-few : goal.raise_column-requires-clause-few
 raise_column-requires-clause-few c =
     let A = c.args.pivots.now.rows.matrix in
-    omega (arith, grown_short A c.args.pivots.now.pairs c.requires.grown, c.height.ensures.value, c.height.ensures.bound, ap (λ (m : ResidueMatrix). m.matrix.height) c.rows-rows.ensures.value)
+    omega (arith, grown_short A c.args.pivots.now.pairs c.requires.grown, c.is_sound.ensures.height, ap (λ (m : ResidueMatrix). m.matrix.height) c.rows-rows.ensures.value)
 
 pub loop-k-preserved : goal.loop-k-preserved
 loop-k-preserved c =

@@ -9,7 +9,7 @@ returns-clause-rank g c =
     let right = c.in_ok-right.right in
     let factored = c.in_ok-right.ensures in λ prime.
     subst (HasRank A.modulus A.matrix) (sym (ap length c.items.ensures))
-    (c.factors_give_rank.ensures A.modulus A.matrix right.pivots factored.0.matrix right.u.matrix prime c.height.ensures.sound (factored.1.factors prime))
+    (c.factors_give_rank.ensures A.modulus A.matrix right.pivots factored.0.matrix right.u.matrix prime c.is_sound.ensures.entries (factored.1.factors prime))
 
 pub returns-clause-at_most_height : goal.returns-clause-at_most_height
 returns-clause-at_most_height g c = subst (λ n. n ≤ c.args.rows.matrix.height) (sym (ap length c.items.ensures)) (fit_few c.in_ok-right.ensures.1.fit)

@@ -11,15 +11,15 @@ loop-i-init c = record {
 }
 
 pub append_left-requires-clause-part : goal.append_left-requires-clause-part
-append_left-requires-clause-part c = part_takes c.rows-rows.ensures c.height.ensures.value c.height.ensures.bound (omega (arith, c.requires.inside, c.in-Some.ensures.1)) c.loop-i.invariant.part c.in-Some.ensures.0.low c.in_ok-append_zeros.ensures
+append_left-requires-clause-part c = part_takes c.rows-rows.ensures refl c.is_sound.ensures.height (omega (arith, c.requires.inside, c.in-Some.ensures.1)) c.loop-i.invariant.part c.in-Some.ensures.0.low c.in_ok-append_zeros.ensures
 
 pub loop-i-preserved : goal.loop-i-preserved
 loop-i-preserved c = record {
   low = omega (arith, c.in-Some.ensures.1);
   work = c.append_left.ensures.work ∙ c.loop-i.invariant.work;
   sizes = c.in_ok-append_left.ensures.sizes;
-  part = part_step c.rows-rows.ensures c.modulus.ensures.value c.modulus.ensures.two_or_more c.modulus.ensures.sound c.pairs.ensures.triangular (omega (arith, c.requires.inside, c.in-Some.ensures.1)) c.loop-i.invariant.part c.in-Some.ensures.0 c.in_ok-append_zeros.ensures c.in_ok-append_left.ensures.added;
+  part = part_step c.rows-rows.ensures refl c.is_sound.ensures.two_or_more c.is_sound.ensures.entries c.is_sound-2.ensures (omega (arith, c.requires.inside, c.in-Some.ensures.1)) c.loop-i.invariant.part c.in-Some.ensures.0 c.in_ok-append_zeros.ensures c.in_ok-append_left.ensures.added;
 }
 
 pub returns-clause-part : goal.returns-clause-part
-returns-clause-part c = part_end c.rows-rows.ensures c.modulus.ensures.value c.modulus.ensures.two_or_more c.modulus.ensures.sound c.pairs.ensures.triangular c.requires.inside c.loop-i.invariant.low c.loop-i.invariant.part c.in_default.ensures c.in_ok-append_zeros-2.ensures
+returns-clause-part c = part_end c.rows-rows.ensures refl c.is_sound.ensures.two_or_more c.is_sound.ensures.entries c.is_sound-2.ensures c.requires.inside c.loop-i.invariant.low c.loop-i.invariant.part c.in_default.ensures c.in_ok-append_zeros-2.ensures

@@ -19,7 +19,7 @@ stacked-requires-clause-width g c = c.in_ok-left.ensures.0.width ∙ sym (turned
 
 pub stacked-requires-clause-height : goal.stacked-requires-clause-height
 stacked-requires-clause-height g c =
-    let small : c.args.pass.reducer.now.rows.matrix.height ≤ LARGEST_SIZE = subst (λ (R : ResidueMatrix). R.matrix.height ≤ LARGEST_SIZE) c.rows.ensures (omega (arith, c.height.ensures.value, c.height.ensures.bound)) in
+    let small : c.args.pass.reducer.now.rows.matrix.height ≤ LARGEST_SIZE = subst (λ (R : ResidueMatrix). R.matrix.height ≤ LARGEST_SIZE) c.rows.ensures c.is_sound.ensures.height in
     omega (arith, turned_few c.in_ok-turned.ensures, c.requires.basis.height, c.in_ok-left.ensures.0.height, c.in_ok-left.ensures.1, c.requires.inside, c.requires.order, small)
 
 pub returns-then-lacks_few : goal.returns-then-lacks_few

@@ -31,7 +31,7 @@ returns g c =
     let A : Matrix = c.args.a.now.matrix in
     let sizes = c.in_ok-factors.ensures.factors.sizes in
     let factors = c.in_ok-factors.ensures.factors in
-    let form : IsFormOf p A c.in_ok-rows_form.rows_form = form_based (factors_show_rows c.height.ensures.sound factors) c.in_ok-rows_form.ensures in
+    let form : IsFormOf p A c.in_ok-rows_form.rows_form = form_based (factors_show_rows c.is_sound.ensures.entries factors) c.in_ok-rows_form.ensures in
     let columns : IsFormOf p (transposed A) c.in_ok-columns_form.columns_form =
     form_same c.in_ok-columns.columns.modulus p c.in_ok-columns.columns.matrix (transposed A) c.in_ok-columns_form.columns_form c.in_ok-columns.ensures.modulus c.in_ok-columns.ensures.matrix c.in_ok-columns_form.ensures in
     subst (IsPreparedFor p A) (sym c.in_ok-prepared.ensures) (record {

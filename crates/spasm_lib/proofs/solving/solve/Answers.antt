@@ -18,10 +18,10 @@ returns-in-Solution-clause-solved g c = λ prime.
     let p : ℕ = c.args.a.now.modulus in
     let A : Matrix = c.args.a.now.matrix in
     let B : Matrix = c.args.b.now.matrix in
-    let side : IsMatrix p B = subst (λ q. IsMatrix q B) (sym c.requires.moduli) c.height-2.ensures.sound in
+    let side : IsMatrix p B = subst (λ q. IsMatrix q B) (sym c.requires.moduli) c.is_sound-2.ensures.entries in
     let system = c.in_ok-beside in
     let found = c.in_ok-x in
-    let told = told_of p A B c.height.ensures.sound side c.requires.heights c.requires.column _ _ found.field-0 prime
+    let told = told_of p A B c.is_sound.ensures.entries side c.requires.heights c.requires.column _ _ found.field-0 prime
     system.ensures.modulus system.ensures.matrix found.ensures.tells in
     (subst (Answers p A (column B)) c.in-Solution.is told).1
 
@@ -35,10 +35,10 @@ returns-in_ok-y-in-Inconsistent-clause-solved g c = λ prime.
     let p : ℕ = c.args.a.now.modulus in
     let A : Matrix = c.args.a.now.matrix in
     let B : Matrix = c.args.b.now.matrix in
-    let side : IsMatrix p B = subst (λ q. IsMatrix q B) (sym c.requires.moduli) c.height-2.ensures.sound in
+    let side : IsMatrix p B = subst (λ q. IsMatrix q B) (sym c.requires.moduli) c.is_sound-2.ensures.entries in
     let system = c.in_ok-beside in
     let found = c.in_ok-x in
-    let told = told_of p A B c.height.ensures.sound side c.requires.heights c.requires.column _ _ found.field-0 prime
+    let told = told_of p A B c.is_sound.ensures.entries side c.requires.heights c.requires.column _ _ found.field-0 prime
     system.ensures.modulus system.ensures.matrix found.ensures.tells in
     let none = subst (Answers p A (column B)) c.in-Inconsistent.is told in
     (none, c.in_ok-y-in-Inconsistent.ensures.refutes prime none)

@@ -8,7 +8,7 @@ use Rattle.triangular_solve.proofs.PlacingRows.{row_sparse, split_row}
 use Rattle.triangular_solve.proofs.pivot_rows.place_row.Goals as goal
 
 pub split-requires-clause-row : goal.split-requires-clause-row
-split-requires-clause-row c = row_sparse (c.modulus.ensures.sound.each c.args.i c.requires.inside) c.cols.ensures.support c.vals.ensures.values
+split-requires-clause-row c = row_sparse (c.is_sound.ensures.entries.each c.args.i c.requires.inside) c.cols.ensures.support c.vals.ensures.values
     (ap (λ (r : ResidueRow). r.modulus) c.clear.ensures ∙ c.requires.sums.0) (ap length c.clear-2.ensures.row ∙ length_zeros (length c.args.passed.now.row) ∙ c.requires.passed.1)
 
 pub split-requires-clause-clear : goal.split-requires-clause-clear
@@ -41,5 +41,5 @@ returns-clause-row c = (c.drain.ensures.row.0 ∙ c.clear-3.ensures.modulus, c.d
 
 pub returns-clause-matrix : goal.returns-clause-matrix
 returns-clause-matrix c = c.in_ok-append.ensures.matrix ∙ ap (with_row c.args.placed.now.matrix) (c.in_ok-drain.ensures.ok
-    ∙ split_row c.args.rows.now.matrix c.args.order.now c.args.i ((c.modulus.ensures.sound.each c.args.i c.requires.inside).len ∙ sym (ap length c.clear-2.ensures.row ∙ length_zeros (length c.args.passed.now.row) ∙ c.requires.passed.1))
+    ∙ split_row c.args.rows.now.matrix c.args.order.now c.args.i ((c.is_sound.ensures.entries.each c.args.i c.requires.inside).len ∙ sym (ap length c.clear-2.ensures.row ∙ length_zeros (length c.args.passed.now.row) ∙ c.requires.passed.1))
     c.cols.ensures.support c.vals.ensures.values c.in_ok-split.ensures.split)

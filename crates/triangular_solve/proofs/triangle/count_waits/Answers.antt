@@ -49,9 +49,9 @@ loop-pair-preserved c =
           let col : slice_index columns k ≡ d = ap (λ (xs : List ℕ). slice_index xs k) c.requires.columns in
           let old : slice_index c.deref_mut.result.now k ≡ column_count A (take i pairs) d = ap (λ (xs : List ℕ). slice_index xs k) c.deref_mut.ensures.value ∙ c.loop-pair.invariant.counts k l in
           let next : slice_index new k ≡ column_count A (take i pairs ++ q ∷ []) d = elim (cases_eq (entry A q.row (slice_index columns k)) 0) [
-            | inl z ↦ c.raise.ensures.kept k (omega arith) (λ m. of_support c.height.ensures.sound q.row inside (slice_index columns k) (subst (λ (xs : List ℕ). Contains xs (slice_index columns k)) c.cols.ensures.support m) z)
+            | inl z ↦ c.raise.ensures.kept k (omega arith) (λ m. of_support c.is_sound.ensures.entries q.row inside (slice_index columns k) (subst (λ (xs : List ℕ). Contains xs (slice_index columns k)) c.cols.ensures.support m) z)
                 ∙ omega (arith, old, count_push A (take i pairs) q d, flag_zero A q.row d (ap (entry A q.row) (sym col) ∙ z))
-            | inr n ↦ c.raise.ensures.raised k (omega arith) (subst (λ (xs : List ℕ). Contains xs (slice_index columns k)) (sym c.cols.ensures.support) (in_support c.height.ensures.sound q.row inside (slice_index columns k) n))
+            | inr n ↦ c.raise.ensures.raised k (omega arith) (subst (λ (xs : List ℕ). Contains xs (slice_index columns k)) (sym c.cols.ensures.support) (in_support c.is_sound.ensures.entries q.row inside (slice_index columns k) n))
                 ∙ omega (arith, old, count_push A (take i pairs) q d, flag_one A q.row d (λ z. n (ap (entry A q.row) col ∙ z)))
           ] in
           ap (λ (xs : List ℕ). slice_index xs k) back ∙ next ∙ ap (λ (l : List Pair). column_count A l d) (sym (take_more pairs i no_pair c.loop-pair-test.true));

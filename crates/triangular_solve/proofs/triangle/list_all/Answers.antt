@@ -35,7 +35,7 @@ lower-requires-clause-some c = λ k lk t.
     let kp : k < length pairs = omega (arith, lk, ap length c.requires.columns, length-map pairs (λ (p : Pair). p.col)) in
     let col : slice_index c.args.columns.now k ≡ col_at pairs k = ap (λ (xs : List ℕ). slice_index xs k) c.requires.columns in
     let here = subst (λ (xs : List ℕ). Contains xs (slice_index c.args.columns.now k)) c.cols.ensures.support t in
-    let n = of_support c.height.ensures.sound q.row (c.requires.pivots.nonzero q (inv.others q m)).0 (slice_index c.args.columns.now k) here in
+    let n = of_support c.is_sound.ensures.entries q.row (c.requires.pivots.nonzero q (inv.others q m)).0 (slice_index c.args.columns.now k) here in
     omega (arith, inv.counts k kp, ap (column_count A inv.left) col, count_some A inv.left q (slice_index c.args.columns.now k) m n)
 
 pub loop-place-preserved : goal.loop-place-preserved
@@ -52,9 +52,9 @@ loop-place-preserved c =
     let many : length columns ≡ length pairs = ap length c.requires.columns ∙ length-map pairs (λ (p : Pair). p.col) in
     let col : (d : ℕ) → slice_index columns d ≡ col_at pairs d = λ d. ap (λ (xs : List ℕ). slice_index xs d) c.requires.columns in
     let has : (d : ℕ) → entry A q.row (col_at pairs d) ≢ 0 → Contains c.cols.result.now (slice_index columns d) = λ d n.
-    subst (λ (xs : List ℕ). Contains xs (slice_index columns d)) (sym c.cols.ensures.support) (in_support c.height.ensures.sound q.row nq (slice_index columns d) (λ z. n (ap (entry A q.row) (sym (col d)) ∙ z))) in
+    subst (λ (xs : List ℕ). Contains xs (slice_index columns d)) (sym c.cols.ensures.support) (in_support c.is_sound.ensures.entries q.row nq (slice_index columns d) (λ z. n (ap (entry A q.row) (sym (col d)) ∙ z))) in
     let off : (d : ℕ) → entry A q.row (col_at pairs d) ≡ 0 → ¬ Contains c.cols.result.now (slice_index columns d) = λ d z t.
-    of_support c.height.ensures.sound q.row nq (slice_index columns d) (subst (λ (xs : List ℕ). Contains xs (slice_index columns d)) c.cols.ensures.support t) (ap (entry A q.row) (col d) ∙ z) in
+    of_support c.is_sound.ensures.entries q.row nq (slice_index columns d) (subst (λ (xs : List ℕ). Contains xs (slice_index columns d)) c.cols.ensures.support t) (ap (entry A q.row) (col d) ∙ z) in
     rw c.in_ok-push.ensures.items (listing_goes c.requires.pivots inv place c.next_ready.new.queue c.lower.new.waits c.lower.new.queue some
     c.lower.auto.waits
     (λ d l n. c.in_ok-lower.ensures.lowered d (omega arith) (has d n))

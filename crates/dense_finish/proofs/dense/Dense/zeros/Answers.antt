@@ -19,4 +19,4 @@ returns-clause-vector g c =
     let items : c.resize.new.self.items ≡ replicate n x =
     c.in_ok-resize.ensures.items ∙ resized_empty n c.in_ok-places.places.len x c.in_ok-places.places.items c.in_ok-places.ensures.items c.in_ok-places.ensures.len in
     subst (IsVector c.args.p.now n) (sym (ap (map g.W.Residue.value) items ∙ filled_zeros g.W.Residue.value n x c.of.ensures))
-    (zeros_vector c.args.p.now n (omega (arith, c.p.ensures.two_or_more, c.p.ensures.value)))
+    (zeros_vector c.args.p.now n (omega (arith, c.is_sound.ensures.two_or_more)))

@@ -17,7 +17,7 @@ pub loop-t-init : goal.loop-t-init
 loop-t-init c = record {
   all = refl;
   taken = λ t k l lk. absurd (omega arith);
-  small = λ t k. omega (arith, zeros_at 32 64 t k, c.p.ensures.two_or_more, c.p.ensures.value);
+  small = λ t k. omega (arith, zeros_at 32 64 t k, c.is_sound.ensures.two_or_more);
   cleared = λ t l. absurd (omega arith);
   ahead = λ t l. refl;
 }

@@ -8,7 +8,7 @@ use Rattle.dense_finish.proofs.TakingOut.{vector_set}
 use Rattle.dense_finish.proofs.panel.Panel.unit_rows.Goals as goal
 
 pub set-requires-clause-residue : goal.set-requires-clause-residue
-set-requires-clause-residue g c κs within = omega (arith, c.p.ensures.two_or_more, c.p.ensures.value)
+set-requires-clause-residue g c κs within = omega (arith, c.is_sound.ensures.two_or_more)
 
 pub loop-k-preserved : goal.loop-k-preserved
 loop-k-preserved g c =
@@ -23,7 +23,7 @@ loop-k-preserved g c =
     let column : c.index.result.now ≡ slice_index panel.columns k = c.index.ensures ∙ get_or_default fields.columns.items k _ 0 (omega (arith, fields.columns.ok.0)) ∙ ap (λ l. slice_index l k) same in
     let row : v ≡ unit_row panel.width (slice_index panel.columns k) = c.set.ensures ∙ (λ i. slice_set ((c.in_ok-row.ensures.row ∙ ap zeros width) i) (column i) 1) in
     let vector : IsVector c.args.p.now panel.width v =
-    rw c.set.ensures (vector_set _ 1 (omega (arith, c.p.ensures.two_or_more, c.p.ensures.value)) (subst (λ n. IsVector c.args.p.now n c.in_ok-row.row) width c.in_ok-row.ensures.vector)) in
+    rw c.set.ensures (vector_set _ 1 (omega (arith, c.is_sound.ensures.two_or_more)) (subst (λ n. IsVector c.args.p.now n c.in_ok-row.row) width c.in_ok-row.ensures.vector)) in
     let there : v ≡ unit_row panel.width (slice_index panel.columns (length units)) = row ∙ ap (λ t. unit_row panel.width (slice_index panel.columns t)) (sym c.loop-k.invariant.long) in
     rw c.in_ok-push.ensures.items record {
       long = length-append units (v ∷ []) ∙ ap (λ t. t + 1) c.loop-k.invariant.long;

@@ -25,7 +25,7 @@ pub rest_with-rest-requires-clause-sparse : goal.rest_with-rest-requires-clause-
 rest_with-rest-requires-clause-sparse c =
     let is : IsRowByNumbers c.self.inside.numbering c.self.inside.kept.modulus c.args.cols.now c.args.vals.now c.in_ok-row.row =
     subst (λ p. IsRowByNumbers c.self.inside.numbering p c.args.cols.now c.args.vals.now c.in_ok-row.row) c.modulus-p.ensures c.in_ok-row.ensures in
-    row_sparse c.height.ensures.sound c.self.invariant.0 c.width.ensures.sound (behind_itself c.self.inside.numbering) is c.height-2.ensures.sound c.cols.ensures.support c.vals.ensures.values
+    row_sparse c.is_sound.ensures.rows c.self.invariant.0 c.is_sound-2.ensures (behind_itself c.self.inside.numbering) is c.is_sound-3.ensures.entries c.cols.ensures.support c.vals.ensures.values
 
 pub returns-then-not-have_come-clause-found : goal.returns-then-not-have_come-clause-found
 returns-then-not-have_come-clause-found c =
@@ -33,14 +33,14 @@ returns-then-not-have_come-clause-found c =
     subst (λ (g : ResidueMatrix). IsSparse g.modulus g.matrix.width c.args.cols.now c.args.vals.now) (sym c.self.view_is) c.requires in
     subst (λ (g : ResidueMatrix). (false ≡ true) ↔ IsCombination g.modulus g.matrix (spread g.matrix.width c.args.cols.now c.args.vals.now)) c.self.view_is (
       λ e. absurd (false≢true e),
-      λ v. absurd (false≢true (sym c.if-not-have_come.true ∙ c.have_come.ensures.1 (combination_come c.height.ensures.sound c.self.invariant.0 sparse v))),
+      λ v. absurd (false≢true (sym c.if-not-have_come.true ∙ c.have_come.ensures.1 (combination_come c.is_sound.ensures.rows c.self.invariant.0 sparse v))),
     )
 
 pub returns-clause-found : goal.returns-clause-found
 returns-clause-found c =
     let is : IsRowByNumbers c.self.inside.numbering c.self.inside.kept.modulus c.args.cols.now c.args.vals.now c.in_ok-row.row =
     subst (λ p. IsRowByNumbers c.self.inside.numbering p c.args.cols.now c.args.vals.now c.in_ok-row.row) c.modulus-p.ensures c.in_ok-row.ensures in
-    let found = row_found c.height.ensures.sound c.self.invariant.0 c.width.ensures.sound (behind_itself c.self.inside.numbering) is c.height-2.ensures.sound c.cols.ensures.support c.vals.ensures.values in
+    let found = row_found c.is_sound.ensures.rows c.self.invariant.0 c.is_sound-2.ensures (behind_itself c.self.inside.numbering) is c.is_sound-3.ensures.entries c.cols.ensures.support c.vals.ensures.values in
     let none = no_support c.self.inside.kept.matrix.width c.in_ok-rest.field-0.row c.in_ok-rest.ensures.rest.vector.len in
     let zero = c.in_ok-rest.ensures.rest.zero in
     let long : length c.cols-3.result.now ≡ length (support c.in_ok-rest.field-0.row) = ap length c.cols-3.ensures.support in

@@ -18,5 +18,5 @@ returns c =
     ap₂ (λ (p : ℕ) (A : Matrix). record { modulus = p; matrix = A; leads = c.in_ok-made_by.field-0.leads }) c.into_rows.ensures.modulus c.into_rows.ensures.matrix in
     subst (λ (g : ResidueMatrix). AreRowsOfForm g c.into_rows.result) c.self.view_is (
       leads,
-      form_of_same c.in_ok-rows.ensures.modulus refl (settled_seen c.in_ok-settled.ensures.sound c.width.ensures.sound c.self.invariant.0 o s) form made,
+      form_of_same c.in_ok-rows.ensures.modulus refl (settled_seen c.in_ok-settled.ensures.sound c.is_sound.ensures c.self.invariant.0 o s) form made,
     )

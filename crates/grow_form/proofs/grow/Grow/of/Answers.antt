@@ -25,7 +25,7 @@ pub loop-i-preserved : goal.loop-i-preserved
 loop-i-preserved c = record {
   inside = omega (arith, c.in-Some.ensures.below);
   spans = spans_next c.args.rows.now c.loop-i.grow c.append.new.self c.loop-i.from c.in-Some.i c.cols.result.now c.vals.result.now c.in_ok-append.field-0
-      c.height.ensures.sound c.in-Some.ensures c.cols.ensures.support c.vals.ensures.values c.loop-i.invariant.spans c.in_ok-append.ensures.ok;
+      c.is_sound.ensures.entries c.in-Some.ensures c.cols.ensures.support c.vals.ensures.values c.loop-i.invariant.spans c.in_ok-append.ensures.ok;
 }
 
 pub loop-i-smaller : goal.loop-i-smaller
@@ -34,4 +34,4 @@ loop-i-smaller c =
 
 pub returns : goal.returns
 returns c =
-    spans_all c.args.rows.now c.loop-i.grow c.loop-i.from c.height.ensures.sound c.loop-i.invariant.inside c.in_default.ensures c.loop-i.invariant.spans
+    spans_all c.args.rows.now c.loop-i.grow c.loop-i.from c.is_sound.ensures.entries c.loop-i.invariant.inside c.in_default.ensures c.loop-i.invariant.spans

@@ -19,4 +19,4 @@ returns-clause-rank c =
     moved_matrix (length c.self.inside.numbering.arrivals) (number_of c.self.inside.numbering) (omega (arith, c.height.ensures.sound.two_or_more)) c.height.ensures.sound.matrix in
     subst (HasRank c.self.inside.kept.modulus A) (sym c.height.ensures.value)
     (rank_of_independent c.rref_exists.ensures c.span_fixes_height.ensures c.self.inside.kept.modulus A A prime
-    m m refl (seen_independent c.height.ensures.sound c.width.ensures.sound c.self.invariant.0) (λ v. ((λ x. x), (λ x. x)))))
+    m m refl (seen_independent c.height.ensures.sound c.is_sound.ensures c.self.invariant.0) (λ v. ((λ x. x), (λ x. x)))))

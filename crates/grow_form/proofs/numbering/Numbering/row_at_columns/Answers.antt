@@ -30,5 +30,5 @@ returns c =
     let width : c.self.inside.width ≡ length c.args.self.now.arrivals = sym (long_arrivals c.self.inside.width c.self.inside.columns.keys) ∙ ap (λ (N : NumberedColumns). length N.arrivals) c.self.view_is in
     let all : c.deref.result.now ≡ row_triples 0 (map (column_numbered c.args.self.now) c.args.numbers.now) c.args.vals.now =
     c.deref.ensures.value ∙ c.loop-k.invariant ∙ renamed_all (column_numbered c.args.self.now) c.args.numbers.now c.args.vals.now c.loop-k.k c.requires.sparse.long (omega (arith, c.loop-k-test.false)) in
-    built_at_columns (subst IsNumbering c.self.view_is c.self.invariant) (omega (arith, c.p.ensures.value, c.p.ensures.two_or_more)) c.requires.sparse c.requires.used c.in_ok-row.ensures.modulus
+    built_at_columns (subst IsNumbering c.self.view_is c.self.invariant) (omega (arith, c.is_sound.ensures.two_or_more)) c.requires.sparse c.requires.used c.in_ok-row.ensures.modulus
     (c.in_ok-row.ensures.matrix ∙ ap₂ (λ (n : ℕ) (ts : List (ℕ × ℕ × ℕ)). built c.args.p.now 1 n (map triple ts)) width all)

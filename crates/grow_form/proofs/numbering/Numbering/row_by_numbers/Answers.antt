@@ -22,5 +22,5 @@ returns c =
     let room : c.self.inside.room ≡ c.args.self.now.room = ap (λ (N : NumberedColumns). N.room) c.self.view_is in
     let all : c.deref.result.now ≡ row_triples 0 (map (number_of c.args.self.now) c.args.cols.now) c.args.vals.now =
     c.deref.ensures.value ∙ c.loop-k.invariant ∙ renamed_all (number_of c.args.self.now) c.args.cols.now c.args.vals.now c.loop-k.k c.requires.sparse.long (omega (arith, c.loop-k-test.false)) in
-    built_by_numbers (subst IsNumbering c.self.view_is c.self.invariant) (omega (arith, c.p.ensures.value, c.p.ensures.two_or_more)) c.requires.sparse c.requires.come c.in_ok-row.ensures.modulus
+    built_by_numbers (subst IsNumbering c.self.view_is c.self.invariant) (omega (arith, c.is_sound.ensures.two_or_more)) c.requires.sparse c.requires.come c.in_ok-row.ensures.modulus
     (c.in_ok-row.ensures.matrix ∙ ap₂ (λ (n : ℕ) (ts : List (ℕ × ℕ × ℕ)). built c.args.p.now 1 n (map triple ts)) room all)

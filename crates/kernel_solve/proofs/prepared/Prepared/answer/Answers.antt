@@ -17,7 +17,7 @@ pub times-requires : goal.times-requires
 times-requires c =
     let fit = c.self.invariant.0 in
     let B : Matrix = c.args.b.now.matrix in
-    vector_moved (column_vector c.modulus.ensures.sound (omega (arith, c.requires.column)))
+    vector_moved (column_vector c.is_sound.ensures.entries (omega (arith, c.requires.column)))
     (c.requires.modulus ∙ sym (ap (λ (q : Preparation). q.modulus) c.self.view_is) ∙ sym fit.relations_modulus)
     (c.requires.height ∙ sym (ap (λ (q : Preparation). q.height) c.self.view_is) ∙ sym fit.relations_width)
     (sym (c.deref.ensures.value ∙ c.in_ok-side.ensures))
@@ -27,7 +27,7 @@ overflow_cast-k c =
     let R : ResidueMatrix = c.self.inside.relations in
     let first : IsFirstNonzero c.in_ok-products.products.items c.in-Some.k = subst (λ xs. IsFirstNonzero xs c.in-Some.k) c.deref-2.ensures.value c.in-Some.ensures in
     let many : length c.in_ok-products.products.items ≡ R.matrix.height = ap length c.in_ok-products.ensures ∙ length_list_of R.matrix.height _ in
-    record { fits = omega (arith, first.inside, many, c.height.ensures.value, c.height.ensures.bound) }
+    record { fits = omega (arith, first.inside, many, c.is_sound-2.ensures.height) }
 
 pub refuting-requires-clause-row : goal.refuting-requires-clause-row
 refuting-requires-clause-row c =
@@ -46,15 +46,15 @@ refuting-requires-clause-residue c =
     let R : ResidueMatrix = c.self.inside.relations in
     let first : IsFirstNonzero c.in_ok-products.products.items c.in-Some.k = subst (λ xs. IsFirstNonzero xs c.in-Some.k) c.deref-2.ensures.value c.in-Some.ensures in
     let many : length c.in_ok-products.products.items ≡ R.matrix.height = ap length c.in_ok-products.ensures ∙ length_list_of R.matrix.height _ in
-    let positive = c.height.ensures.sound in
+    let positive = c.is_sound-2.ensures.entries in
     let vector : IsVector R.modulus R.matrix.height c.in_ok-products.products.items =
     subst (IsVector R.modulus R.matrix.height) (sym c.in_ok-products.ensures) (apply_vector R.modulus R.matrix c.deref.result.now
-    (omega (arith, c.modulus.ensures.two_or_more, c.modulus.ensures.value, c.requires.modulus, ap (λ (q : Preparation). q.modulus) c.self.view_is, c.self.invariant.0.relations_modulus))) in
+    (omega (arith, c.is_sound.ensures.two_or_more, c.requires.modulus, ap (λ (q : Preparation). q.modulus) c.self.view_is, c.self.invariant.0.relations_modulus))) in
     omega (arith, c.index.ensures, get_or_default_zero c.in_ok-products.products.items c.in-Some.k c.index.result.now first.inside, vector.residues c.in-Some.k (omega (arith, first.inside, many)))
 
 pub solution-requires : goal.solution-requires
 solution-requires c =
-    vector_moved (column_vector c.modulus.ensures.sound (omega (arith, c.requires.column))) c.requires.modulus c.requires.height (sym (c.deref-3.ensures.value ∙ c.in_ok-side.ensures))
+    vector_moved (column_vector c.is_sound.ensures.entries (omega (arith, c.requires.column))) c.requires.modulus c.requires.height (sym (c.deref-3.ensures.value ∙ c.in_ok-side.ensures))
 
 pub returns-in-Some : goal.returns-in-Some
 returns-in-Some c =
@@ -63,7 +63,7 @@ returns-in-Some c =
     let B : Matrix = c.args.b.now.matrix in
     let products : List ℕ = c.in_ok-products.products.items in
     let first : IsFirstNonzero products c.in-Some.k = subst (λ xs. IsFirstNonzero xs c.in-Some.k) c.deref-2.ensures.value c.in-Some.ensures in
-    let sound : IsMatrix s.left.modulus B = subst (λ n. IsMatrix n B) (c.requires.modulus ∙ sym (ap (λ (q : Preparation). q.modulus) c.self.view_is)) c.modulus.ensures.sound in
+    let sound : IsMatrix s.left.modulus B = subst (λ n. IsMatrix n B) (c.requires.modulus ∙ sym (ap (λ (q : Preparation). q.modulus) c.self.view_is)) c.is_sound.ensures.entries in
     let high : B.height ≡ s.left.matrix.height = c.requires.height ∙ sym (ap (λ (q : Preparation). q.height) c.self.view_is) in
     let are : products ≡ apply R.modulus R.matrix (column B) = c.in_ok-products.ensures ∙ ap (apply R.modulus R.matrix) (c.deref.ensures.value ∙ c.in_ok-side.ensures) in
     let value : c.index.result.now ≡ slice_index products c.in-Some.k = c.index.ensures ∙ get_or_default_zero products c.in-Some.k c.index.result.now first.inside in
@@ -78,7 +78,7 @@ returns c =
     let B : Matrix = c.args.b.now.matrix in
     let products : List ℕ = c.in_ok-products.products.items in
     let none : AreZeroBehind products 0 = subst (λ xs. AreZeroBehind xs 0) c.deref-2.ensures.value c.in_default.ensures in
-    let sound : IsMatrix s.left.modulus B = subst (λ n. IsMatrix n B) (c.requires.modulus ∙ sym (ap (λ (q : Preparation). q.modulus) c.self.view_is)) c.modulus.ensures.sound in
+    let sound : IsMatrix s.left.modulus B = subst (λ n. IsMatrix n B) (c.requires.modulus ∙ sym (ap (λ (q : Preparation). q.modulus) c.self.view_is)) c.is_sound.ensures.entries in
     let high : B.height ≡ s.left.matrix.height = c.requires.height ∙ sym (ap (λ (q : Preparation). q.height) c.self.view_is) in
     let side : c.deref-3.result.now ≡ column B = c.deref-3.ensures.value ∙ c.in_ok-side.ensures in
     let are : products ≡ apply R.modulus R.matrix (column B) = c.in_ok-products.ensures ∙ ap (apply R.modulus R.matrix) (c.deref.ensures.value ∙ c.in_ok-side.ensures) in

@@ -46,7 +46,7 @@ pub column_of-requires-clause-small : goal.column_of-requires-clause-small
 column_of-requires-clause-small c =
     let fit = c.self.invariant.0 in
     let whole = with_items_is c.in_ok-x.x c.reduce.new.x (c.reduce.ensures.vector.len ∙ fit.null_width ∙ sym c.in_ok-x.ensures.vector.len ∙ sym c.in_ok-x.x.ok.0) in
-    omega (arith, ap length (c.deref-4.ensures.value ∙ whole), c.reduce.ensures.vector.len, c.width.ensures.value, c.width.ensures.bound)
+    omega (arith, ap length (c.deref-4.ensures.value ∙ whole), c.reduce.ensures.vector.len, c.is_sound.ensures.width)
 
 pub column_of-requires-clause-residues : goal.column_of-requires-clause-residues
 column_of-requires-clause-residues c =

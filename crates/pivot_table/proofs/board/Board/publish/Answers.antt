@@ -24,8 +24,7 @@ word_of_pair-requires c =
     let fits = seat_fits _ _ _ _ c.self.view_is c.seat.view_is c.requires.seat in
     let low : r < it.me.0.matrix.height = subst (λ (o : Option ℕ). IfSome o (λ k. k < it.me.0.matrix.height)) c.in-Some.is c.seat.invariant.7 in
     let tall = ap (λ (m : Matrix). m.height) fits.1 in
-    let value = c.height.ensures.value in
-    let bound = c.height.ensures.bound in
+    let bound = c.is_sound.ensures.height in
     omega arith
 
 pub compare_exchange-found-requires : goal.compare_exchange-found-requires

@@ -15,7 +15,7 @@ loop-k-init c = record {
       let n = length c.args.passed.now.row in
       subst (λ (w : List ℕ). IsSplitting p c.args.self.now c.args.cols.now c.args.vals.now 0 n c.args.sums.now.row w) (sym c.requires.none)
       (subst (λ (w : List ℕ). IsSplitting p c.args.self.now c.args.cols.now c.args.vals.now 0 n w (zeros n)) (sym (ap (λ (r : ResidueRow). r.row) c.requires.clear))
-      (splitting_none p n c.args.self.now c.args.cols.now c.args.vals.now c.requires.below (omega (arith, c.modulus.ensures.value, c.modulus.ensures.two_or_more, c.requires.modulus))));
+      (splitting_none p n c.args.self.now c.args.cols.now c.args.vals.now c.requires.below (omega (arith, c.is_sound.ensures.two_or_more, c.requires.modulus))));
 }
 
 pub push-requires-clause-behind : goal.push-requires-clause-behind
@@ -26,7 +26,7 @@ loop-k-preserved c = elim c.match-find.branch [
   | in-Some w ↦ rw w.sums-is (rw w.passed-is record {
     sums = (w.add.ensures.modulus ∙ c.loop-k.invariant.sums.0, ap length w.add.ensures.row ∙ length-set c.loop-k.sums.row w.in-Some.place _ ∙ c.loop-k.invariant.sums.1);
     passed = c.loop-k.invariant.passed;
-    splitting = splitting_inside (omega (arith, c.modulus.ensures.value, c.modulus.ensures.two_or_more, c.requires.modulus)) c.requires.distinct c.requires.row c.loop-k.invariant.splitting c.loop-k-test.true w.in-Some.place w.in-Some.ensures _
+    splitting = splitting_inside (omega (arith, c.is_sound.ensures.two_or_more, c.requires.modulus)) c.requires.distinct c.requires.row c.loop-k.invariant.splitting c.loop-k-test.true w.in-Some.place w.in-Some.ensures _
         (w.add.ensures.row ∙ ap (λ m. slice_set c.loop-k.sums.row w.in-Some.place ((slice_index c.loop-k.sums.row w.in-Some.place + slice_index c.args.vals.now c.loop-k.k) % m)) c.loop-k.invariant.sums.0);
   })
   | in-None+in_ok-push-in-None w ↦ rw w.sums-is (rw w.passed-is record {

@@ -14,7 +14,7 @@ append_sums-requires-clause-width c =
     c.in_ok-flatten.ensures.sums.1 ∙ ap (λ (r : ResidueRow). length r.row) c.requires.clear ∙ length_zeros (length c.args.pivots.now.columns) ∙ sym c.requires.flat.width
 
 pub returns-clause-flat : goal.returns-clause-flat
-returns-clause-flat c = flat_more c.requires.flat c.entries.ensures c.requires.next c.in_ok-flatten.ensures.tail c.append_sums.ensures.modulus c.in_ok-append_sums.ensures.matrix
+returns-clause-flat c = flat_more c.requires.flat c.is_sound.ensures c.requires.next c.in_ok-flatten.ensures.tail c.append_sums.ensures.modulus c.in_ok-append_sums.ensures.matrix
 
 pub returns-clause-height : goal.returns-clause-height
 returns-clause-height c = ap (λ (M : Matrix). M.height) c.in_ok-append_sums.ensures.matrix

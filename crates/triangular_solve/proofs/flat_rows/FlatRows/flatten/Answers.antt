@@ -40,7 +40,7 @@ loop-k-preserved c =
     let alike = takes_alike c.in_ok-come_in.ensures in
     record {
       sums = (alike.0 ∙ c.loop-k.invariant.sums.0, alike.1 ∙ c.loop-k.invariant.sums.1);
-      flattening = flattening_more (omega (arith, (c.modulus-modulus.ensures.value ∙ ap (λ (r : ResidueMatrix). r.modulus) c.rows-rows.ensures.rows), c.modulus-modulus.ensures.two_or_more)) c.rows-rows.ensures.placed c.requires.flat c.entries.ensures (pivot_behind (pivot_at c.rows-rows.ensures.rows c.rows-rows.ensures.placed (omega (arith, c.requires.next, c.requires.flat.count)) (omega (arith, c.modulus-modulus.ensures.value, c.modulus-modulus.ensures.two_or_more)) c.modulus-modulus.ensures.sound c.cols.ensures.support c.vals.ensures.values))
+      flattening = flattening_more (omega (arith, (c.modulus-modulus.ensures.value ∙ ap (λ (r : ResidueMatrix). r.modulus) c.rows-rows.ensures.rows), c.modulus-modulus.ensures.two_or_more)) c.rows-rows.ensures.placed c.requires.flat c.is_sound.ensures (pivot_behind (pivot_at c.rows-rows.ensures.rows c.rows-rows.ensures.placed (omega (arith, c.requires.next, c.requires.flat.count)) (omega (arith, c.modulus-modulus.ensures.value, c.modulus-modulus.ensures.two_or_more)) c.modulus-modulus.ensures.sound c.cols.ensures.support c.vals.ensures.values))
           c.loop-k.invariant.flattening c.loop-k-test.true (c.loop-k.invariant.sums.0 ∙ ap (λ (r : ResidueRow). r.modulus) c.requires.clear) (omega (arith, pivot_before (pivot_at c.rows-rows.ensures.rows c.rows-rows.ensures.placed (omega (arith, c.requires.next, c.requires.flat.count)) (omega (arith, c.modulus-modulus.ensures.value, c.modulus-modulus.ensures.two_or_more)) c.modulus-modulus.ensures.sound c.cols.ensures.support c.vals.ensures.values) c.loop-k.k c.loop-k-test.true, c.requires.next))
           (c.mul.ensures.value ∙ ap (λ m. (c.inverse-inverse.result * slice_index (behind_first c.vals.result.now) c.loop-k.k) % m) (c.modulus-modulus.ensures.value ∙ ap (λ (r : ResidueMatrix). r.modulus) c.rows-rows.ensures.rows)) c.in_ok-come_in.ensures;
     }

@@ -9,7 +9,7 @@ pub loop-place-init : goal.loop-place-init
 loop-place-init c = record {
   sums = c.requires.sums;
   coefficients = (refl, refl);
-  eliminating = eliminating_none c.args.self.now c.args.sums.now.row c.args.coefficients.now.row (omega (arith, c.requires.modulus, c.modulus.ensures.value, c.modulus.ensures.two_or_more)) c.requires.sums.vector c.requires.none;
+  eliminating = eliminating_none c.args.self.now c.args.sums.now.row c.args.coefficients.now.row (omega (arith, c.requires.modulus, c.is_sound.ensures.two_or_more)) c.requires.sums.vector c.requires.none;
 }
 
 pub push-requires-clause-column : goal.push-requires-clause-column
@@ -30,7 +30,7 @@ pub loop-place-preserved-in-Continue-1 : goal.loop-place-preserved-in-Continue-1
 loop-place-preserved-in-Continue-1 c = record {
   sums = c.in-Some.ensures.sums;
   coefficients = (c.push.ensures.modulus ∙ c.loop-place.invariant.coefficients.0, ap length c.in_ok-push.ensures.ok ∙ length-set c.loop-place.coefficients.row _ _ ∙ c.loop-place.invariant.coefficients.1);
-  eliminating = eliminating_more (omega (arith, c.requires.modulus, c.modulus.ensures.value, c.modulus.ensures.two_or_more)) c.loop-place.invariant.eliminating c.in-Some.ensures.some c.in_ok-push.ensures.ok;
+  eliminating = eliminating_more (omega (arith, c.requires.modulus, c.is_sound.ensures.two_or_more)) c.loop-place.invariant.eliminating c.in-Some.ensures.some c.in_ok-push.ensures.ok;
 }
 
 pub loop-place-smaller : goal.loop-place-smaller
@@ -40,7 +40,7 @@ pub loop-place-preserved : goal.loop-place-preserved
 loop-place-preserved c = record {
   sums = c.in-Some.ensures.sums;
   coefficients = c.loop-place.invariant.coefficients;
-  eliminating = eliminating_skips (omega (arith, c.requires.modulus, c.modulus.ensures.value, c.modulus.ensures.two_or_more)) c.loop-place.invariant.eliminating c.in-Some.ensures.some (omega (arith, c.if-factor-gt0.false));
+  eliminating = eliminating_skips (omega (arith, c.requires.modulus, c.is_sound.ensures.two_or_more)) c.loop-place.invariant.eliminating c.in-Some.ensures.some (omega (arith, c.if-factor-gt0.false));
 }
 
 pub returns-clause-zero : goal.returns-clause-zero

@@ -19,7 +19,7 @@ loop-init c = (
   c.requires.sums,
   (
     zeros c.args.self.now.rows.matrix.height,
-    eliminating_none c.args.self.now c.args.sums.now.row _ (omega (arith, ap (λ (P : PlacedRows). P.rows.modulus) c.self.view_is, c.modulus.ensures.value, c.modulus.ensures.two_or_more)) c.requires.sums.vector refl,
+    eliminating_none c.args.self.now c.args.sums.now.row _ (omega (arith, ap (λ (P : PlacedRows). P.rows.modulus) c.self.view_is, c.is_sound.ensures.two_or_more)) c.requires.sums.vector refl,
   ),
 )
 
@@ -32,7 +32,7 @@ pub loop-preserved : goal.loop-preserved
 loop-preserved c =
     let t = some_of c.eliminate_next.result c.eliminate_next.ensures.some (sym c.is_some.ensures ∙ c.loop-test.true) in (
       c.eliminate_next.ensures.sums,
-      (_, eliminating_more (omega (arith, ap (λ (P : PlacedRows). P.rows.modulus) c.self.view_is, c.modulus.ensures.value, c.modulus.ensures.two_or_more)) c.loop.invariant.1.1 t.1 refl),
+      (_, eliminating_more (omega (arith, ap (λ (P : PlacedRows). P.rows.modulus) c.self.view_is, c.is_sound.ensures.two_or_more)) c.loop.invariant.1.1 t.1 refl),
     )
 
 pub returns-clause-zero : goal.returns-clause-zero
