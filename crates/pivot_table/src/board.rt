@@ -241,8 +241,8 @@ impl<'a> Board<'a> {
         requires { IsSeatOf self seat }
         ensures rows { result.book.rows ≡ self.entry.rows }
         ensures room { HasRoom self.entry.rows.matrix result.book }
-        ensures begins { StartsWith result.book.pairs self.entry.pairs }
-        ensures seen { StartsWith result.book.pairs seat.chair.seen }
+        ensures begins { StartsWith result.book.pairs self.entry.pairs
+            × StartsWith result.book.pairs seat.chair.seen }
         ensures tall { length result.done ≡ self.entry.rows.matrix.height }
         ensures settled { (r : ℕ) → IsDone result.done r
             → StandsOrIsDead self.entry.rows.matrix result.book.pairs r }

@@ -120,6 +120,11 @@ AscendWhereNonzero columns sums = (k t : ℕ) → k < t → t < length columns �
     slice_index sums t ≢ 0 →
     slice_index columns k < slice_index columns t
 
+-- a row's sums on these columns ascend where they are not 0, and its other entries stand in none of the columns
+pub record AreDisjointParts (columns sums passed : List ℕ) : Type 0 where
+  pub ascending : AscendWhereNonzero columns sums
+  pub apart : (i : ℕ) → i < length columns → slice_index passed (slice_index columns i) ≡ 0
+
 -- the places of a row's entries from one on and before another
 pub record PlaceRange : Type 0 where
   pub from : ℕ

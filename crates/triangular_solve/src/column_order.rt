@@ -9,7 +9,7 @@ ghost use Rattle.sparse_rows.specs.Stored.{IsSparse, spread};
 ghost use Rattle.sparse_rows.specs.declared.rows.TheConstants.{LARGEST_SIZE};
 ghost use Rattle.triangular_solve.specs.AscendingColumns.{IsPlaceOf};
 ghost use Rattle.triangular_solve.specs.Accumulator.{IsClear};
-ghost use Rattle.triangular_solve.specs.PivotRows.{AppendsBefore, HaveDistinctColumns, AscendWhereNonzero, HasPivotsFirst, IsAlike, IsOrdering, IsOrderOf, IsSplitRow, place_range};
+ghost use Rattle.triangular_solve.specs.PivotRows.{AppendsBefore, HaveDistinctColumns, AreDisjointParts, HasPivotsFirst, IsAlike, IsOrdering, IsOrderOf, IsSplitRow, place_range};
 
 use crate::accumulator::Accumulator;
 use crate::ascending_columns::AscendingColumns;
@@ -141,9 +141,7 @@ impl ColumnOrder {
         requires none { rest.old.row ≡ zeros (length rest.old.row) }
         requires distinct { HaveDistinctColumns self.now }
         requires below { AreBelow (length rest.old.row) self.now }
-        requires ascending { AscendWhereNonzero self.now sums.old.row }
-        requires apart { (i : ℕ) → i < length self.now →
-            slice_index passed.now.row (slice_index self.now i) ≡ 0 }
+        requires parts { AreDisjointParts self.now sums.old.row passed.now.row }
         ensures sums { IsAlike sums.old sums.new }
         ensures rest { IsAlike rest.old rest.new }
         ensures joined { OnOk result (IsSplitRow self.now rest.new.row sums.old.row passed.now.row) }

@@ -1,6 +1,7 @@
 // Whether flat rows are cheaper than walks, by samples.
 ghost use Rattle.std.specs.Prelude.{◌≡◌, IfOk};
 
+use crate::row_entries::RowEntries;
 use crate::triangle::Triangle;
 use crate::work::Work;
 use std::alloc::{AllocError, Global};
@@ -40,7 +41,11 @@ impl FlatEstimate {
         for k in 0..SAMPLES {
             let from = (k * height / SAMPLES) as u32;
             if let Some(i) = rows.next_filled(from) {
-                let counts = work.count(alloc, triangle.pivot_rows(), rows.cols(i), rows.vals(i))?;
+                let row = RowEntries {
+                    cols: rows.cols(i),
+                    vals: rows.vals(i),
+                };
+                let counts = work.count(alloc, triangle.pivot_rows(), row)?;
                 met = met.saturating_add(counts.met);
                 left = left.saturating_add(counts.left);
             }

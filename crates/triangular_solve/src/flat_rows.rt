@@ -10,6 +10,7 @@ ghost use Rattle.triangular_solve.specs.Scattered.{IsScattered};
 
 use crate::accumulator::Accumulator;
 use crate::pivot_rows::PivotRows;
+use crate::row_entries::RowEntries;
 use crate::scattered_rows::ScatteredRows;
 use crate::touched_sums::TouchedSums;
 use sparse_rows::Sparse;
@@ -184,19 +185,18 @@ impl FlatRows {
         (self.tails.modulus().neg(value), cols, vals)
     }
 
-    // Makes a zero row what the pivots leave of the row that stands in these columns and values. What is left behind in the room is
+    // Makes a zero row what the pivots leave of a row. What is left behind in the room is
     // to be cleared.
     pub(crate) fn rest_by(
         &self,
         pivots: &PivotRows,
-        cols: &[u32],
-        vals: &[u64],
+        row: RowEntries<'_>,
         sums: &mut Accumulator,
         passed: &mut Sparse,
         rest: &mut Sparse,
     ) -> Result<(), AllocError>
         requires flat { AreAllFlat pivots.now self.now }
-        requires row { IsSparse pivots.now.rows.modulus (length passed.old.row) cols.now vals.now }
+        requires row { IsSparse pivots.now.rows.modulus (length passed.old.row) row.cols.now row.vals.now }
         requires room { IsRoomFor pivots.now sums.old passed.old }
         requires below { AreBelow (length passed.old.row) pivots.now.columns }
         requires rest { rest.old
@@ -204,39 +204,39 @@ impl FlatRows {
         ensures sums { IsAlike sums.old sums.new }
         ensures passed { IsAlike passed.old passed.new }
         ensures rest { IsAlike rest.old rest.new }
-        ensures left { OnOk result (IsFlatRest pivots.now (spread (length passed.old.row) cols.now vals.now)
+        ensures left { OnOk result (IsFlatRest pivots.now (spread (length passed.old.row) row.entry.cols.now row.entry.vals.now)
             rest.new.row) }
     {
-        self.take_row(pivots, cols, vals, sums, passed)?;
+        self.take_row(pivots, row, sums, passed)?;
         pivots.order().join(sums, passed, rest)?;
         // The call's contract tells that the rest holds residues.
         rest.is_sound();
         Ok(())
     }
 
-    // Splits the row that stands in these columns and values: its entries in the columns of the pivot rows are taken in, the others
+    // Splits a row: its entries in the columns of the pivot rows are taken in, the others
     // stay entries of a row.
     fn take_row(
         &self,
         pivots: &PivotRows,
-        cols: &[u32],
-        vals: &[u64],
+        row: RowEntries<'_>,
         sums: &mut Accumulator,
         passed: &mut Sparse,
     ) -> Result<(), AllocError>
         requires flat { AreAllFlat pivots.now self.now }
-        requires row { IsSparse pivots.now.rows.modulus (length passed.old.row) cols.now vals.now }
+        requires row { IsSparse pivots.now.rows.modulus (length passed.old.row) row.cols.now row.vals.now }
         requires room { IsRoomFor pivots.now sums.old passed.old }
         requires below { AreBelow (length passed.old.row) pivots.now.columns }
         ensures sums { IsAlike sums.old sums.new }
         ensures passed { IsAlike passed.old passed.new }
-        ensures taken { OnOk result (IsTakenRow pivots.now (spread (length passed.old.row) cols.now vals.now)
+        ensures taken { OnOk result (IsTakenRow pivots.now (spread (length passed.old.row) row.entry.cols.now row.entry.vals.now)
             sums.new.row passed.new.row) }
     {
         // The calls' contracts tell the range of the modulus, and that the flat rows are residues.
         passed.is_sound();
         self.tails.is_sound();
         let order = pivots.order();
+        let RowEntries { cols, vals } = row;
         for k in 0..cols.len() {
             match order.find(cols[k]) {
                 Some(place) => self.take_in(place, vals[k], sums),

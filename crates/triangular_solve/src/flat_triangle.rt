@@ -8,6 +8,7 @@ ghost use Rattle.triangular_solve.specs.Reduced.{FitsRest, IsSchurRow, workspace
 use crate::flat_estimate::FlatEstimate;
 use crate::flat_rows::FlatRows;
 use crate::pivot_rows::PivotRows;
+use crate::row_entries::RowEntries;
 use crate::triangle::Triangle;
 use crate::work::Work;
 use sparse_rows::Sparse;
@@ -98,7 +99,8 @@ impl<'t, 'a> FlatTriangle<'t, 'a> {
             rest.new.row) }
     {
         rest.clear();
-        work.flat_rest(alloc, self.pivots, &self.flat, cols, vals, rest)?;
+        let row = RowEntries { cols, vals };
+        work.flat_rest(alloc, self.pivots, &self.flat, row, rest)?;
         Ok(())
     }
 }

@@ -16,6 +16,7 @@ mod led;
 mod pivot_rows;
 mod queue;
 mod reduced;
+mod row_entries;
 mod scattered_rows;
 mod touched_sums;
 mod triangle;

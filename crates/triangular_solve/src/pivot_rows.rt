@@ -5,7 +5,7 @@ ghost use Rattle.residue_words.specs.Matrix.{IsVector, entry, zeros};
 ghost use Rattle.row_space.specs.Factors.{row_at, col_at};
 ghost use Rattle.sparse_rows.specs.ColumnSet.{AllZero};
 ghost use Rattle.sparse_rows.specs.Rows.{AreBelow, AreOccupied, selected};
-ghost use Rattle.sparse_rows.specs.Stored.{IsSparse, spread, with_row};
+ghost use Rattle.sparse_rows.specs.Stored.{IsSparse, spread};
 ghost use Rattle.sparse_rows.specs.declared.rows.TheConstants.{LARGEST_SIZE};
 ghost use Rattle.pivot_table.specs.Order.{Triangular};
 ghost use Rattle.triangular_solve.specs.Accumulator.{IsClear};
@@ -217,28 +217,20 @@ fn place_rows(
     let mut passed = Sparse::new(alloc, rows.width(), modulus);
     let mut row = Sparse::new(alloc, width, modulus);
     for k in 0..pairs.len() {
-        place_row(
-            rows,
-            pairs[k].row,
-            order,
-            &mut sums,
-            &mut passed,
-            &mut row,
-            &mut placed,
-        )?;
+        put_in_order(rows, pairs[k].row, order, &mut sums, &mut passed, &mut row)?;
+        placed.append(&row)?;
     }
     Ok(placed)
 }
 
-// Appends row i, with its columns in this order. The sums and the two rows are room for it.
-fn place_row(
+// Makes a row that of row i with its columns in this order. The sums and the passed row are room for it.
+fn put_in_order(
     rows: &Rows,
     i: u32,
     order: &ColumnOrder,
     sums: &mut Accumulator,
     passed: &mut Sparse,
     row: &mut Sparse,
-    placed: &mut Rows,
 ) -> Result<(), AllocError>
     requires inside { i < rows.now.matrix.height }
     requires distinct { HaveDistinctColumns order.now }
@@ -247,15 +239,10 @@ fn place_row(
     requires passed { (passed.old.modulus ≡ rows.now.modulus)
         × (length passed.old.row ≡ rows.now.matrix.width) }
     requires row { (row.old.modulus ≡ rows.now.modulus) × (length row.old.row ≡ length order.now) }
-    requires modulus { placed.old.modulus ≡ rows.now.modulus }
-    requires width { placed.old.matrix.width ≡ length order.now }
-    requires height { placed.old.matrix.height < LARGEST_SIZE }
     ensures sums { OnOk result (IsAlike sums.old sums.new) }
     ensures passed { OnOk result (IsAlike passed.old passed.new) }
     ensures row { OnOk result (IsAlike row.old row.new) }
-    ensures modulus { placed.new.modulus ≡ placed.old.modulus }
-    ensures matrix { OnOk result (placed.new.matrix
-        ≡ with_row placed.old.matrix (row_on rows.now.matrix order.now i)) }
+    ensures ordered { OnOk result (row.new.row ≡ row_on rows.now.matrix order.now i) }
 {
     sums.clear();
     passed.clear();
@@ -264,7 +251,6 @@ fn place_row(
     rows.is_sound();
     order.split(rows.cols(i), rows.vals(i), sums, passed)?;
     sums.drain(row)?;
-    placed.append(row)?;
     Ok(())
 }
 

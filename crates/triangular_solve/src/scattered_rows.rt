@@ -102,5 +102,7 @@ impl ScatteredRows {
     #[inline(always)]
     pub(crate) fn is_sound(&self)
         ensures { IsMatrix self.now.modulus self.now.matrix }
-    {}
+    {
+        self.cols.len();
+    }
 }

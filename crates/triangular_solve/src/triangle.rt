@@ -16,6 +16,7 @@ use crate::ascending_columns::AscendingColumns;
 use crate::pivot_rows::PivotRows;
 use crate::queue::Queue;
 use crate::reduced::Reduced;
+use crate::row_entries::RowEntries;
 use crate::work::Work;
 use pivot_table::{Book, Pair};
 use sparse_rows::{Rows, Sparse};
@@ -126,8 +127,7 @@ impl<'a> Triangle<'a> {
         work.reduce(
             alloc,
             &self.pivots,
-            cols,
-            vals,
+            RowEntries { cols, vals },
             &mut reduced.rest,
             &mut reduced.coefficients,
         )?;
@@ -155,7 +155,7 @@ impl<'a> Triangle<'a> {
             rest.new.row) }
     {
         rest.clear();
-        work.rest(alloc, &self.pivots, cols, vals, rest)?;
+        work.rest(alloc, &self.pivots, RowEntries { cols, vals }, rest)?;
         Ok(())
     }
 

@@ -12,6 +12,7 @@ ghost use Rattle.triangular_solve.specs.Reduced.{workspace_of};
 use crate::accumulator::Accumulator;
 use crate::flat_rows::FlatRows;
 use crate::pivot_rows::PivotRows;
+use crate::row_entries::RowEntries;
 use crate::triangle::Triangle;
 use sparse_rows::Sparse;
 use std::alloc::{AllocError, Global};
@@ -65,17 +66,16 @@ impl Work {
         })
     }
 
-    // Reduces the row that stands in these columns and values to two zero rows, and is clean after it.
+    // Reduces a row to two zero rows, and is clean after it.
     pub(crate) fn reduce(
         &mut self,
         alloc: Global,
         pivots: &PivotRows,
-        cols: &[u32],
-        vals: &[u64],
+        row: RowEntries<'_>,
         rest: &mut Sparse,
         coefficients: &mut Sparse,
     ) -> Result<(), AllocError>
-        requires row { IsSparse self.old.modulus self.old.width cols.now vals.now }
+        requires row { IsSparse self.old.modulus self.old.width row.cols.now row.vals.now }
         requires modulus { self.old.modulus ≡ pivots.now.rows.modulus }
         requires below { AreBelow self.old.width pivots.now.columns }
         requires rest { rest.old ≡ record { modulus = self.old.modulus; row = zeros self.old.width } }
@@ -84,14 +84,13 @@ impl Work {
         ensures work { self.new ≡ self.old }
         ensures rest { IsAlike rest.old rest.new }
         ensures coefficients { IsAlike coefficients.old coefficients.new }
-        ensures reduced { OnOk result (ArePivotsReduced pivots.now (spread self.old.width cols.now vals.now)
+        ensures reduced { OnOk result (ArePivotsReduced pivots.now (spread self.old.width row.entry.cols.now row.entry.vals.now)
             rest.new.row coefficients.new.row) }
     {
         fit(alloc, pivots, &mut self.sums)?;
         let done = reduce_by(
             pivots,
-            cols,
-            vals,
+            row,
             &mut self.sums,
             &mut self.passed,
             rest,
@@ -107,21 +106,20 @@ impl Work {
         &mut self,
         alloc: Global,
         pivots: &PivotRows,
-        cols: &[u32],
-        vals: &[u64],
+        row: RowEntries<'_>,
         rest: &mut Sparse,
     ) -> Result<(), AllocError>
-        requires row { IsSparse self.old.modulus self.old.width cols.now vals.now }
+        requires row { IsSparse self.old.modulus self.old.width row.cols.now row.vals.now }
         requires modulus { self.old.modulus ≡ pivots.now.rows.modulus }
         requires below { AreBelow self.old.width pivots.now.columns }
         requires rest { rest.old ≡ record { modulus = self.old.modulus; row = zeros self.old.width } }
         ensures work { self.new ≡ self.old }
         ensures rest { IsAlike rest.old rest.new }
         ensures reduced { OnOk result ((coefficients : List ℕ) ×
-            ArePivotsReduced pivots.now (spread self.old.width cols.now vals.now) rest.new.row coefficients) }
+            ArePivotsReduced pivots.now (spread self.old.width row.entry.cols.now row.entry.vals.now) rest.new.row coefficients) }
     {
         fit(alloc, pivots, &mut self.sums)?;
-        let done = rest_by(pivots, cols, vals, &mut self.sums, &mut self.passed, rest);
+        let done = rest_by(pivots, row, &mut self.sums, &mut self.passed, rest);
         self.sums.clear();
         self.passed.clear();
         done
@@ -133,42 +131,40 @@ impl Work {
         alloc: Global,
         pivots: &PivotRows,
         flat: &FlatRows,
-        cols: &[u32],
-        vals: &[u64],
+        row: RowEntries<'_>,
         rest: &mut Sparse,
     ) -> Result<(), AllocError>
         requires flat { AreAllFlat pivots.now flat.now }
-        requires row { IsSparse self.old.modulus self.old.width cols.now vals.now }
+        requires row { IsSparse self.old.modulus self.old.width row.cols.now row.vals.now }
         requires modulus { self.old.modulus ≡ pivots.now.rows.modulus }
         requires below { AreBelow self.old.width pivots.now.columns }
         requires rest { rest.old ≡ record { modulus = self.old.modulus; row = zeros self.old.width } }
         ensures work { self.new ≡ self.old }
         ensures rest { IsAlike rest.old rest.new }
         ensures left { OnOk result
-            (IsFlatRest pivots.now (spread self.old.width cols.now vals.now) rest.new.row) }
+            (IsFlatRest pivots.now (spread self.old.width row.entry.cols.now row.entry.vals.now) rest.new.row) }
     {
         fit(alloc, pivots, &mut self.sums)?;
-        let done = flat.rest_by(pivots, cols, vals, &mut self.sums, &mut self.passed, rest);
+        let done = flat.rest_by(pivots, row, &mut self.sums, &mut self.passed, rest);
         self.sums.clear();
         self.passed.clear();
         done
     }
 
-    // How many entries of pivot rows are met where this row is reduced, and how many are left in their columns.
+    // How many entries of pivot rows are met if a row is reduced, and how many are left in their columns.
     pub(crate) fn count(
         &mut self,
         alloc: Global,
         pivots: &PivotRows,
-        cols: &[u32],
-        vals: &[u64],
+        row: RowEntries<'_>,
     ) -> Result<Counts, AllocError>
-        requires row { IsSparse self.old.modulus self.old.width cols.now vals.now }
+        requires row { IsSparse self.old.modulus self.old.width row.cols.now row.vals.now }
         requires modulus { self.old.modulus ≡ pivots.now.rows.modulus }
         requires below { AreBelow self.old.width pivots.now.columns }
         ensures work { self.new ≡ self.old }
     {
         fit(alloc, pivots, &mut self.sums)?;
-        let done = count_by(pivots, cols, vals, &mut self.sums, &mut self.passed);
+        let done = count_by(pivots, row, &mut self.sums, &mut self.passed);
         self.sums.clear();
         self.passed.clear();
         done
@@ -194,17 +190,16 @@ fn fit(alloc: Global, pivots: &PivotRows, sums: &mut Accumulator) -> Result<(), 
     Ok(())
 }
 
-// Reduces the row that stands in these columns and values to two zero rows. What is left behind in the room is to be cleared.
+// Reduces a row to two zero rows. What is left behind in the room is to be cleared.
 fn reduce_by(
     pivots: &PivotRows,
-    cols: &[u32],
-    vals: &[u64],
+    row: RowEntries<'_>,
     sums: &mut Accumulator,
     passed: &mut Sparse,
     rest: &mut Sparse,
     coefficients: &mut Sparse,
 ) -> Result<(), AllocError>
-    requires row { IsSparse pivots.now.rows.modulus (length passed.old.row) cols.now vals.now }
+    requires row { IsSparse pivots.now.rows.modulus (length passed.old.row) row.cols.now row.vals.now }
     requires room { IsRoomFor pivots.now sums.old passed.old }
     requires below { AreBelow (length passed.old.row) pivots.now.columns }
     requires rest { rest.old ≡ record { modulus = passed.old.modulus; row = zeros (length passed.old.row) } }
@@ -215,10 +210,10 @@ fn reduce_by(
     ensures rest { IsAlike rest.old rest.new }
     ensures coefficients { IsAlike coefficients.old coefficients.new }
     ensures reduced { OnOk result (ArePivotsReduced pivots.now
-        (spread (length passed.old.row) cols.now vals.now)
+        (spread (length passed.old.row) row.entry.cols.now row.entry.vals.now)
         rest.new.row coefficients.new.row) }
 {
-    pivots.order().split(cols, vals, sums, passed)?;
+    pivots.order().split(row.cols, row.vals, sums, passed)?;
     pivots.eliminate(sums, coefficients)?;
     pivots.order().join(sums, passed, rest)?;
     // The call's contract tells that the rest holds residues.
@@ -229,13 +224,12 @@ fn reduce_by(
 // The same without coefficients.
 fn rest_by(
     pivots: &PivotRows,
-    cols: &[u32],
-    vals: &[u64],
+    row: RowEntries<'_>,
     sums: &mut Accumulator,
     passed: &mut Sparse,
     rest: &mut Sparse,
 ) -> Result<(), AllocError>
-    requires row { IsSparse pivots.now.rows.modulus (length passed.old.row) cols.now vals.now }
+    requires row { IsSparse pivots.now.rows.modulus (length passed.old.row) row.cols.now row.vals.now }
     requires room { IsRoomFor pivots.now sums.old passed.old }
     requires below { AreBelow (length passed.old.row) pivots.now.columns }
     requires rest { rest.old ≡ record { modulus = passed.old.modulus; row = zeros (length passed.old.row) } }
@@ -243,10 +237,10 @@ fn rest_by(
     ensures passed { IsAlike passed.old passed.new }
     ensures rest { IsAlike rest.old rest.new }
     ensures reduced { OnOk result ((coefficients : List ℕ) ×
-        ArePivotsReduced pivots.now (spread (length passed.old.row) cols.now vals.now)
+        ArePivotsReduced pivots.now (spread (length passed.old.row) row.entry.cols.now row.entry.vals.now)
         rest.new.row coefficients) }
 {
-    pivots.order().split(cols, vals, sums, passed)?;
+    pivots.order().split(row.cols, row.vals, sums, passed)?;
     pivots.eliminate_all(sums);
     pivots.order().join(sums, passed, rest)?;
     // The call's contract tells that the rest holds residues.
@@ -254,21 +248,20 @@ fn rest_by(
     Ok(())
 }
 
-// What is met and left where the row that stands in these columns and values is reduced.
+// What is met and left if a row is reduced.
 fn count_by(
     pivots: &PivotRows,
-    cols: &[u32],
-    vals: &[u64],
+    row: RowEntries<'_>,
     sums: &mut Accumulator,
     passed: &mut Sparse,
 ) -> Result<Counts, AllocError>
-    requires row { IsSparse pivots.now.rows.modulus (length passed.old.row) cols.now vals.now }
+    requires row { IsSparse pivots.now.rows.modulus (length passed.old.row) row.cols.now row.vals.now }
     requires room { IsRoomFor pivots.now sums.old passed.old }
     requires below { AreBelow (length passed.old.row) pivots.now.columns }
     ensures sums { IsAlike sums.old sums.new }
     ensures passed { IsAlike passed.old passed.new }
 {
-    pivots.order().split(cols, vals, sums, passed)?;
+    pivots.order().split(row.cols, row.vals, sums, passed)?;
     let met = pivots.count_walk(sums);
     let left = sums.count();
     Ok(Counts { met, left })

@@ -4,4 +4,4 @@ use Rattle.sparse_rows.specs.Stored.{IsSparse}
 use Rattle.triangular_solve.proofs.work.rest_by.Goals as goal
 
 pub split-requires-clause-row : goal.split-requires-clause-row
-split-requires-clause-row c = subst (λ m. IsSparse m (length c.args.passed.now.row) c.args.cols.now c.args.vals.now) (sym (ap (λ (r : ResidueRow). r.modulus) c.requires.room.clear)) c.requires.row
+split-requires-clause-row c = subst (λ m. IsSparse m (length c.args.passed.now.row) c.args.row.cols.now c.args.row.vals.now) (sym (ap (λ (r : ResidueRow). r.modulus) c.requires.room.clear)) c.requires.row

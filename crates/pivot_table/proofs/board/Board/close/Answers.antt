@@ -121,10 +121,10 @@ returns-clause-last c =
     (c.of-3.ensures ∙ starts_same c.self.inside.first (length key.pairs) c.read_starts.new.starts.items (map (start_in k.rows) (drop (length key.pairs) k.history)) first starts))
 
 pub returns-clause-begins : goal.returns-clause-begins
-returns-clause-begins c = last_begins c.args.self.rows.matrix c.args.self.pairs c.args.seat (record { book = c.of.result; done = c.of-2.result; starts = c.of-3.result }) (returns-clause-last c)
-
-pub returns-clause-seen : goal.returns-clause-seen
-returns-clause-seen c = last_seen c.args.self.rows.matrix c.args.self.pairs c.args.seat (record { book = c.of.result; done = c.of-2.result; starts = c.of-3.result }) (returns-clause-last c)
+returns-clause-begins c = (
+  last_begins c.args.self.rows.matrix c.args.self.pairs c.args.seat (record { book = c.of.result; done = c.of-2.result; starts = c.of-3.result }) (returns-clause-last c),
+  last_seen c.args.self.rows.matrix c.args.self.pairs c.args.seat (record { book = c.of.result; done = c.of-2.result; starts = c.of-3.result }) (returns-clause-last c),
+)
 
 pub returns-clause-settled : goal.returns-clause-settled
 returns-clause-settled c = last_settled c.args.self.rows.matrix c.args.self.pairs c.args.seat (record { book = c.of.result; done = c.of-2.result; starts = c.of-3.result }) (returns-clause-last c)

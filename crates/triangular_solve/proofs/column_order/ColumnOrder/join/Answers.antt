@@ -28,7 +28,7 @@ push-requires-clause-column c =
 
 pub push-requires-clause-behind : goal.push-requires-clause-behind
 push-requires-clause-behind c = λ k le l.
-    joining_behind c.width-width.ensures.sound c.requires.distinct c.requires.apart c.loop-place.invariant.joining c.requires.ascending c.loop-place.invariant.vector.len c.in-Some.ensures.some c.index-column.result.now (column_is _ c.self.view_is (omega (arith, c.in-Some.ensures.some.inside, c.loop-place.invariant.vector.len)) c.index-column.ensures)
+    joining_behind c.width-width.ensures.sound c.requires.distinct c.requires.parts.apart c.loop-place.invariant.joining c.requires.parts.ascending c.loop-place.invariant.vector.len c.in-Some.ensures.some c.index-column.result.now (column_is _ c.self.view_is (omega (arith, c.in-Some.ensures.some.inside, c.loop-place.invariant.vector.len)) c.index-column.ensures)
     c.in_ok-at.ensures.appended k le
 
 pub loop-place-smaller : goal.loop-place-smaller
@@ -42,11 +42,11 @@ loop-place-preserved c =
       sums = (c.in-Some.ensures.modulus ∙ inv.sums.0, ap length t.after ∙ length-set c.loop-place.sums.row c.in-Some.place 0 ∙ inv.sums.1);
       rest = (c.push.ensures.modulus ∙ c.in_ok-at.ensures.alike.0 ∙ inv.rest.0, ap length c.in_ok-push.ensures.ok ∙ length-set c.append_before.new.to.row _ _ ∙ c.in_ok-at.ensures.alike.1 ∙ inv.rest.1);
       vector = taken_vector (omega (arith, inv.vector.residues c.in-Some.place (omega (arith, t.inside, inv.vector.len)))) inv.vector t;
-      joining = joining_step c.width-width.ensures.sound c.requires.distinct c.requires.apart inv.joining c.requires.ascending inv.vector.len t c.index-column.result.now (column_is _ c.self.view_is (omega (arith, c.in-Some.ensures.some.inside, c.loop-place.invariant.vector.len)) c.index-column.ensures) c.in_ok-at.ensures.appended
+      joining = joining_step c.width-width.ensures.sound c.requires.distinct c.requires.parts.apart inv.joining c.requires.parts.ascending inv.vector.len t c.index-column.result.now (column_is _ c.self.view_is (omega (arith, c.in-Some.ensures.some.inside, c.loop-place.invariant.vector.len)) c.index-column.ensures) c.in_ok-at.ensures.appended
           (omega (arith, (column_is _ c.self.view_is (omega (arith, c.in-Some.ensures.some.inside, c.loop-place.invariant.vector.len)) c.index-column.ensures), c.requires.below c.in-Some.place (omega (arith, t.inside, inv.vector.len)), c.in_ok-at.ensures.alike.1, inv.rest.1)) c.in_ok-push.ensures.ok;
     }
 
 pub returns-clause-joined : goal.returns-clause-joined
 returns-clause-joined c =
     let inv = c.loop-place.invariant in
-    joining_ends c.width-width.ensures.sound c.requires.distinct c.requires.apart inv.joining c.requires.vector.len inv.vector.len c.in_default.ensures.none.1 (subst (λ n. AreBelow n c.args.self.now) c.requires.alike.1 c.requires.below) c.width-width.result c.width-width.ensures.value c.in_ok-append_before.ensures.appended
+    joining_ends c.width-width.ensures.sound c.requires.distinct c.requires.parts.apart inv.joining c.requires.vector.len inv.vector.len c.in_default.ensures.none.1 (subst (λ n. AreBelow n c.args.self.now) c.requires.alike.1 c.requires.below) c.width-width.result c.width-width.ensures.value c.in_ok-append_before.ensures.appended

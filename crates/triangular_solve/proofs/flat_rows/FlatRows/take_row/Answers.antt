@@ -12,7 +12,7 @@ pub loop-k-init : goal.loop-k-init
 loop-k-init c = record {
   sums = (refl, refl);
   passed = (refl, refl);
-  taking = taking_none (length c.args.passed.now.row) c.args.cols.now c.args.vals.now (omega (arith, c.is_sound.ensures.two_or_more, c.requires.room.modulus)) c.order-order.ensures.placed c.requires.below
+  taking = taking_none (length c.args.passed.now.row) c.args.row.cols.now c.args.row.vals.now (omega (arith, c.is_sound.ensures.two_or_more, c.requires.room.modulus)) c.order-order.ensures.placed c.requires.below
       (ap (λ (r : ResidueRow). r.row) c.requires.room.clear) c.requires.room.zero;
 }
 
@@ -26,12 +26,12 @@ loop-k-preserved c = elim c.match-find.branch [
       rw w.sums-is (rw w.passed-is record {
         sums = ((takes_alike w.take_in.ensures).0 ∙ c.loop-k.invariant.sums.0, (takes_alike w.take_in.ensures).1 ∙ c.loop-k.invariant.sums.1);
         passed = c.loop-k.invariant.passed;
-        taking = taking_inside (omega (arith, c.is_sound.ensures.two_or_more, c.requires.room.modulus)) c.order-order.ensures.placed c.requires.flat c.is_sound-2.ensures same c.requires.row c.loop-k.invariant.taking c.loop-k-test.true w.in-Some.place (subst (λ xs. IsPlaceOf xs (slice_index c.args.cols.now c.loop-k.k) w.in-Some.place) c.order-order.ensures.columns w.in-Some.ensures) w.take_in.ensures;
+        taking = taking_inside (omega (arith, c.is_sound.ensures.two_or_more, c.requires.room.modulus)) c.order-order.ensures.placed c.requires.flat c.is_sound-2.ensures same c.requires.row c.loop-k.invariant.taking c.loop-k-test.true w.in-Some.place (subst (λ xs. IsPlaceOf xs (slice_index c.args.row.cols.now c.loop-k.k) w.in-Some.place) c.order-order.ensures.columns w.in-Some.ensures) w.take_in.ensures;
       })
   | in-None+in_ok-push-in-None w ↦ rw w.sums-is (rw w.passed-is record {
     sums = c.loop-k.invariant.sums;
     passed = (w.push.ensures.modulus ∙ c.loop-k.invariant.passed.0, ap length w.in_ok-push-in-None.ensures.ok ∙ length-set c.loop-k.passed.row _ _ ∙ c.loop-k.invariant.passed.1);
-    taking = taking_outside c.requires.row c.loop-k.invariant.taking c.loop-k-test.true (subst (λ xs. ¬ Contains xs (slice_index c.args.cols.now c.loop-k.k)) c.order-order.ensures.columns w.in-None.ensures) w.in_ok-push-in-None.ensures.ok;
+    taking = taking_outside c.requires.row c.loop-k.invariant.taking c.loop-k-test.true (subst (λ xs. ¬ Contains xs (slice_index c.args.row.cols.now c.loop-k.k)) c.order-order.ensures.columns w.in-None.ensures) w.in_ok-push-in-None.ensures.ok;
   })
 ]
 

@@ -1,11 +1,10 @@
 use Rattle.std.proofs.Common.{◌∙◌, length, sym, ap, ap₂, subst}
 use Rattle.residue_words.specs.Matrix.{zeros}
 use Rattle.sparse_rows.specs.Rows.{AreBelow, ResidueRow}
-use Rattle.sparse_rows.specs.Stored.{with_row}
 use Rattle.sparse_rows.proofs.Loops.{length_zeros}
 use Rattle.triangular_solve.proofs.Accumulating.{as_row}
 use Rattle.triangular_solve.proofs.PlacingRows.{row_sparse, split_row}
-use Rattle.triangular_solve.proofs.pivot_rows.place_row.Goals as goal
+use Rattle.triangular_solve.proofs.pivot_rows.put_in_order.Goals as goal
 
 pub split-requires-clause-row : goal.split-requires-clause-row
 split-requires-clause-row c = row_sparse (c.is_sound.ensures.entries.each c.args.i c.requires.inside) c.cols.ensures.support c.vals.ensures.values
@@ -24,9 +23,6 @@ pub drain-requires-clause-none : goal.drain-requires-clause-none
 drain-requires-clause-none c = c.clear-3.ensures.row ∙ ap zeros (c.requires.row.1
     ∙ sym (c.split.ensures.sums.1 ∙ ap (λ (r : ResidueRow). length r.row) c.clear.ensures ∙ length_zeros (length c.args.sums.now.row) ∙ c.requires.sums.1))
 
-pub append-requires-clause-width : goal.append-requires-clause-width
-append-requires-clause-width c = c.drain.ensures.row.1 ∙ ap length c.clear-3.ensures.row ∙ length_zeros (length c.args.row.now.row) ∙ c.requires.row.1 ∙ sym c.requires.width
-
 pub returns-clause-sums : goal.returns-clause-sums
 returns-clause-sums c = (
   c.drain.ensures.sums.0 ∙ c.split.ensures.sums.0 ∙ ap (λ (r : ResidueRow). r.modulus) c.clear.ensures,
@@ -39,7 +35,7 @@ returns-clause-passed c = (c.split.ensures.passed.0 ∙ c.clear-2.ensures.modulu
 pub returns-clause-row : goal.returns-clause-row
 returns-clause-row c = (c.drain.ensures.row.0 ∙ c.clear-3.ensures.modulus, c.drain.ensures.row.1 ∙ ap length c.clear-3.ensures.row ∙ length_zeros (length c.args.row.now.row))
 
-pub returns-clause-matrix : goal.returns-clause-matrix
-returns-clause-matrix c = c.in_ok-append.ensures.matrix ∙ ap (with_row c.args.placed.now.matrix) (c.in_ok-drain.ensures.ok
+pub returns-clause-ordered : goal.returns-clause-ordered
+returns-clause-ordered c = c.in_ok-drain.ensures.ok
     ∙ split_row c.args.rows.now.matrix c.args.order.now c.args.i ((c.is_sound.ensures.entries.each c.args.i c.requires.inside).len ∙ sym (ap length c.clear-2.ensures.row ∙ length_zeros (length c.args.passed.now.row) ∙ c.requires.passed.1))
-    c.cols.ensures.support c.vals.ensures.values c.in_ok-split.ensures.split)
+    c.cols.ensures.support c.vals.ensures.values c.in_ok-split.ensures.split
