@@ -45,6 +45,10 @@ pub record IsBasisUpTo (t : TriangleState) (to : ℕ) (U : ResidueMatrix) : Type
   pub independent : IsPrime t.rows.modulus → IsIndependent t.rows.modulus U.matrix
   pub span : IsPrime t.rows.modulus → SameSpan t.rows.modulus part.rows.matrix U.matrix
 
+-- next is a basis with these rows too: of what is left up to `to`, if the old one is up to where they begin
+abbrev pub IsBasisWith : SchurRows → ResidueMatrix → ResidueMatrix → Type 0
+IsBasisWith left old next = (t : TriangleState) (from to : ℕ) → IsBasisUpTo t from old → IsPartTo t false from to left → IsBasisUpTo t to next
+
 -- of the n entries of a row those other than 0 stand in these columns
 abbrev pub IsInColumns : List ℕ → ℕ → List ℕ → Type 0
 IsInColumns columns n v = (j : ℕ) → j < n → slice_index v j ≢ 0 → Contains columns j

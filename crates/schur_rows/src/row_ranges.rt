@@ -58,8 +58,7 @@ pub(crate) fn part_of(
     // The call's contract tells how high a matrix is.
     rows.is_sound();
     let mut part = no_rows(alloc, pass, to - from)?;
-    let mut left = pass.reducer.room(alloc);
-    append_rows(alloc, pass, from, to, work, &mut left, &mut part)?;
+    append_rows(alloc, pass, from, to, work, &mut part)?;
     Ok(part)
 }
 
@@ -79,21 +78,19 @@ pub(crate) fn part_by_caller(
     part_of(alloc, pass, from, to, &mut work)
 }
 
-// Appends what is left of the rows from `from` up to `to`. It passes through `left`.
+// Appends what is left of the rows from `from` up to `to`.
 fn append_rows(
     alloc: Global,
     pass: Pass,
     from: u32,
     to: u32,
     work: &mut Work,
-    left: &mut Reduced,
     part: &mut SchurRows,
 ) -> Result<(), AllocError>
     requires work { work.old ≡ workspace_of pass.reducer.now }
     requires order { from ≤ to }
     requires inside { to ≤ pass.reducer.now.rows.matrix.height }
     requires numbers { HasNumbers pass.reducer.now.pairs pass.pivot_rows.now }
-    requires sizes { HasSizesOf pass.reducer.now left.old }
     requires part { IsPartTo pass.reducer.now pass.with_coefficients from from part.old }
     ensures work { work.new ≡ work.old }
     ensures part { OnOk result (IsPartTo pass.entry.reducer.now pass.entry.with_coefficients
@@ -103,10 +100,11 @@ fn append_rows(
     // The calls' contracts tell how high a matrix of residues is, and that the pivots are triangular.
     rows.is_sound();
     pass.reducer.is_sound();
+    let mut left = pass.reducer.room(alloc);
     let mut next = from;
     while let Some(i) = next_below(rows, next, to) {
         append_zeros(part, i - next)?;
-        append_left(alloc, pass, i, work, left, part)?;
+        append_left(alloc, pass, i, work, &mut left, part)?;
         next = i + 1;
     }
     append_zeros(part, to - next)?;

@@ -3,7 +3,7 @@ ghost use Rattle.std.specs.Prelude.{◌≡◌, ◌<◌, ◌≤◌, ◌↔◌, �
 ghost use Rattle.sparse_rows.specs.declared.rows.TheConstants.{LARGEST_SIZE};
 ghost use Rattle.sparse_rows.specs.Rows.{AreRising, above};
 ghost use Rattle.schur_rows.specs.PivotNumbers.{HasNumbers};
-ghost use Rattle.schur_rows.specs.Streamed.{IsBasisOf, IsBasisUpTo, IsFullFor, IsRestBasis, HasColumnsLeft};
+ghost use Rattle.schur_rows.specs.Streamed.{IsBasisOf, IsBasisUpTo, IsBasisWith, IsFullFor, IsRestBasis, HasColumnsLeft};
 
 use crate::dealing::Dealing;
 use crate::pass::Pass;
@@ -141,7 +141,8 @@ fn basis_of<C: Dealing + Finishing>(
         let before = basis.height();
         let count = size.rows_below(before, columns, independent);
         let to = end_of(pass.reducer, pass.pivot_rows, from, count);
-        basis = basis_with(crew, alloc, pass, workers, basis, from, to)?;
+        let left = left_between(crew, alloc, pass, workers, from, to)?;
+        basis = basis_with(crew, alloc, basis, left, workers)?;
         independent = basis.height().saturating_sub(before) >= count / 2;
         from = to;
     }
@@ -200,27 +201,21 @@ fn are_among(columns: &[u32], others: &[u32]) -> bool
     true
 }
 
-// A basis of what is left of the rows up to `to`, from one of what is left of those up to `from`.
-fn basis_with<C: Dealing + Finishing>(
+// A basis of the rows of a basis and of these, which are left of the rows behind.
+fn basis_with<C: Finishing>(
     crew: &C,
     alloc: Global,
-    pass: Pass,
-    workers: u32,
     basis: Rows,
-    from: u32,
-    to: u32,
+    left: SchurRows,
+    workers: u32,
 ) -> Result<Rows, AllocError>
     requires able { C.can_work }
     requires some { 1 ≤ workers }
-    requires order { from ≤ to }
-    requires inside { to ≤ pass.reducer.now.rows.matrix.height }
-    requires numbers { HasNumbers pass.reducer.now.pairs pass.pivot_rows.now }
-    requires basis { IsBasisUpTo pass.reducer.now from basis }
-    ensures { IfOk result (IsBasisUpTo pass.entry.reducer.now to) }
+    requires modulus { left.rows.modulus ≡ basis.modulus }
+    requires width { left.rows.matrix.width ≡ basis.matrix.width }
+    requires height { basis.matrix.height + left.rows.matrix.height ≤ LARGEST_SIZE }
+    ensures { IfOk result (IsBasisWith left basis) }
 {
-    // The call's contract tells how high a matrix is.
-    pass.reducer.rows().is_sound();
-    let left = left_between(crew, alloc, pass, workers, from, to)?;
     let SchurRows { rows: below, .. } = left;
     let full = is_full_for(alloc, &below, &basis)?;
     if full {

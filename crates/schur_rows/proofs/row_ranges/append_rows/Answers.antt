@@ -6,7 +6,7 @@ pub loop-i-init : goal.loop-i-init
 loop-i-init c = record {
   low = c.requires.order;
   work = refl;
-  sizes = c.requires.sizes;
+  sizes = c.room-left.ensures;
   part = c.requires.part;
 }
 
