@@ -6,7 +6,7 @@ ghost use Rattle.row_space.specs.Solution.{IsRefutingCombination, IsSolution};
 ghost use Rattle.sparse_rows.specs.declared.rows.TheConstants.{LARGEST_SIZE};
 ghost use Rattle.kernel_solve.specs.Column.{column};
 ghost use Rattle.kernel_solve.specs.Found.{HasShape};
-ghost use Rattle.spasm_lib.specs.Solved.{AnswersSystem, HasSolutionShape, IsSolved};
+ghost use Rattle.spasm_lib.specs.Solved.{AnswersSystem, HasShapeOfRow, HasSolutionShape, IsSolved};
 
 use crate::outcome::Solution;
 use crate::team::Team;
@@ -79,28 +79,24 @@ fn refutation<C: Eliminating, G>(
 ) -> Result<Rows, AllocError>
     requires able { C.can_work }
     requires some { 1 ≤ team.now.workers }
-    requires matrix { IsMatrix a.now.modulus a.now.matrix }
-    requires side { IsMatrix b.now.modulus b.now.matrix }
     requires moduli { a.now.modulus ≡ b.now.modulus }
     requires heights { a.now.matrix.height ≡ b.now.matrix.height }
     requires column { b.now.matrix.width ≡ 1 }
     requires height { a.now.matrix.height < LARGEST_SIZE }
     requires width { a.now.matrix.width < LARGEST_SIZE }
-    ensures modulus { IfOk result (λ y. y.modulus ≡ a.now.modulus) }
-    ensures sound { IfOk result (λ y. IsMatrix y.modulus y.matrix) }
-    ensures height { IfOk result (λ y. y.matrix.height ≡ 1) }
-    ensures width { IfOk result (λ y. y.matrix.width ≡ a.now.matrix.height) }
+    ensures shape { IfOk result (HasShapeOfRow a.now.modulus a.now.matrix.height) }
     ensures refutes { IfOk result (λ y. IsPrime a.now.modulus
         → ((x : List ℕ) → ¬ IsSolution a.now.modulus a.now.matrix (column b.now.matrix) x)
         → IsRefutingCombination a.now.modulus a.now.matrix (column b.now.matrix) (row y.matrix 0)) }
 {
-    // The laws' contracts: if A x = b has no solution the refuting system has one, and it refutes.
+    // The entries of both are residues. The laws: if A x = b has no solution the refuting system has one, and it refutes.
+    a.is_sound();
+    b.is_sound();
     row_space::refuting_is_solvable();
     row_space::refuting_system_refutes();
     match told_by(team, refuting_system(team.alloc, a, b)?)? {
         Found::Solution(y) => {
             let row = y.transpose(team.alloc)?;
-            // The call's contract tells that the entries are residues.
             row.is_sound();
             Ok(row)
         }
@@ -114,14 +110,10 @@ fn refutation<C: Eliminating, G>(
 // A row of zeros.
 fn zero_row(alloc: Global, p: Modulus, width: u32) -> Result<Rows, AllocError>
     requires { width ≤ LARGEST_SIZE }
-    ensures modulus { IfOk result (λ y. y.modulus ≡ p) }
-    ensures sound { IfOk result (λ y. IsMatrix y.modulus y.matrix) }
-    ensures height { IfOk result (λ y. y.matrix.height ≡ 1) }
-    ensures width { IfOk result (λ y. y.matrix.width ≡ width) }
+    ensures { IfOk result (HasShapeOfRow p width) }
 {
     let mut row = Rows::with_room(alloc, p, width, 1, 0)?;
     row.append_zeros(1)?;
-    // The call's contract tells that the entries are residues.
     row.is_sound();
     Ok(row)
 }

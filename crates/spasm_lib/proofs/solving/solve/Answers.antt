@@ -26,9 +26,7 @@ returns-in-Solution-clause-solved g c = λ prime.
     (subst (Answers p A (column B)) c.in-Solution.is told).1
 
 pub returns-in_ok-y-in-Inconsistent-clause-shape : goal.returns-in_ok-y-in-Inconsistent-clause-shape
-returns-in_ok-y-in-Inconsistent-clause-shape g c =
-    let y = c.in_ok-y-in-Inconsistent in
-    (y.ensures.modulus, subst (λ q. IsMatrix q y.y.matrix) y.ensures.modulus y.ensures.sound, y.ensures.height, y.ensures.width)
+returns-in_ok-y-in-Inconsistent-clause-shape g c = c.in_ok-y-in-Inconsistent.ensures.shape
 
 pub returns-in_ok-y-in-Inconsistent-clause-solved : goal.returns-in_ok-y-in-Inconsistent-clause-solved
 returns-in_ok-y-in-Inconsistent-clause-solved g c = λ prime.
