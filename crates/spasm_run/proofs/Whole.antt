@@ -22,7 +22,7 @@ use Rattle.spasm_run.specs.declared.words.Task.{Task}
 use Rattle.spasm_run.specs.declared.words.Task.TheVariants as task
 use Rattle.spasm_run.specs.Answers.{EndsWith, misfit, wanted}
 use Rattle.spasm_run.specs.Contents.{Contents, matrices_alone}
-use Rattle.spasm_run.specs.Computed.{ComesOf, ComesOfContents, IsFoundIn, WasFound, answer_text, asking, is_unread_in, status_behind}
+use Rattle.spasm_run.specs.Computed.{ComesOf, ComesOfContents, IsFoundIn, WasFound, WasWritten, answer_text, asking, is_unread_in, status_behind}
 use Rattle.spasm_run.specs.Input.{HasContents, Input, WasRead, supply_behind}
 use Rattle.spasm_run.specs.Ran.{AreTooFew, HasAnswer, Explains, HasNoAnswer, HasWritten, IsAnswered, IsEither, IsMisfit, IsOffered, Ran, Run, request, whole_input}
 use Rattle.spasm_run.specs.Status.{is_unread, is_written, status_of}
@@ -299,3 +299,12 @@ ran_failed words limit old new out out' a fault was (part, rest, cut, gained) =
 -- no run whose answer was written has a status of one that wrote nothing
 pub behind_is_written : (a : Answer) → is_written (status_behind a) ≡ true
 behind_is_written a = elim (ends_done_or_no a) [ inl e ↦ ap is_written e | inr e ↦ ap is_written e ]
+
+-- what was found and how it was written tell what the run did
+pub ran_of : (words : List (List ℕ)) (limit : ℕ) (old new : SourceState) (out out' : SinkState) (found : Result Answer Status) (s : Status) → WasFound words limit found old new →
+    WasWritten found s out out' → Ran (run_between words limit old new out out') s
+ran_of words limit old new out out' (Ok a) s was written = elim written [
+  | inl w ↦ ran_done words limit old new out out' a s w.0 was w.1
+  | inr w ↦ subst (Ran (run_between words limit old new out out')) (sym w.1) (ran_failed words limit old new out out' a w.0 was w.2)
+]
+ran_of words limit old new out out' (Err e) s was written = rw written.0 (rw written.1 (ran_without words limit old new out e was))

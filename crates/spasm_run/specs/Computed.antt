@@ -1,12 +1,14 @@
 -- What is found for matrices and for words: an answer, or the status with which a run ends.
-use Rattle.std.specs.Prelude.{◌≡◌, ◌<◌, if◌then◌else◌, ℕ, List, ◌++◌, Bool, false, Some, None, Result, Ok, Err, All, codes}
+use Rattle.std.specs.Prelude.{◌≡◌, ◌⊎◌, ◌<◌, if◌then◌else◌, ℕ, List, ◌++◌, Bool, false, Some, None, Result, Ok, Err, All, codes}
 use Rattle.residue_words.specs.Matrix.{Matrix}
 use Rattle.certificates.specs.Certificate.{IsFormed, certificate_of}
 use Rattle.certificates.specs.CertificateText.{HasText, certificate_text}
 use Rattle.run_trace.specs.TraceText as trace
 use Rattle.sparse_rows.specs.declared.rows.TheConstants.{LARGEST_SIZE}
 use Rattle.sms_text.specs.Reading.{Draws, untouched}
-use Rattle.sms_text.specs.Stream.{SourceState}
+use Rattle.sms_text.specs.declared.write.WriteFault.{WriteFault}
+use Rattle.sms_text.specs.Stream.{SinkState, SourceState}
+use Rattle.sms_text.specs.Writing.{Writes}
 use Rattle.sms_text.specs.Written.{IsSmallPlace, text_of}
 use Rattle.grow_form.specs.Scripts.{AnswerFitsText, answers_text, rank_line}
 use Rattle.spasm_run.specs.declared.answer.Answer.{Answer}
@@ -109,3 +111,9 @@ pub record WasFound (words : List (List ℕ)) (limit : ℕ) (result : Result Ans
   pub draws : Draws (AreTooFew words limit) (is_unread_in result) input.bytes
       (untouched old) (supply_behind input new)
   pub found : IsFoundIn words limit input result
+
+-- How a run ends that found this, and what its output gained: an answer's whole text, or a first part of it; nothing if there is no answer.
+abbrev pub WasWritten : Result Answer Status → Status → SinkState → SinkState → Type 0
+WasWritten (Ok a) s old new = ((s ≡ status_behind a) × Writes (Ok tt) (answer_text a) old new)
+    ⊎ ((fault : WriteFault) × (s ≡ status.WriteFault) × Writes (Err fault) (answer_text a) old new)
+WasWritten (Err e) s old new = (s ≡ e) × (new ≡ old)

@@ -2,7 +2,7 @@
 ghost use Rattle.std.specs.Prelude.{◌≡◌, ◌<◌, ◌≤◌, ℕ, List, [], true, false, IfOk};
 ghost use Rattle.residue_words.specs.declared.modulus.TheConstants.{MODULUS_BOUND};
 ghost use Rattle.sms_text.specs.declared.reader.TheConstants.{LARGEST_INPUT};
-ghost use Rattle.spasm_run.specs.Computed.{IsOfSizes, IsSmall, WasFound};
+ghost use Rattle.spasm_run.specs.Computed.{IsOfSizes, IsSmall, WasFound, WasWritten};
 ghost use Rattle.spasm_run.specs.Options.{bytes_of};
 ghost use Rattle.spasm_run.specs.Answers.{wanted};
 ghost use Rattle.spasm_run.specs.Ran.{Ran, WantNothing};
@@ -79,34 +79,19 @@ pub fn run_within<'a, R: Threads + Sync, S: Source, K: Sink, E: Sink, G: Gate>(
     ensures unwritten { is_written result ≡ false → out.new ≡ out.old }
     ensures silent { is_answered result ≡ true → err.new ≡ err.old }
 {
-    let status = answer(rt, alloc, words, source, out, gate, limit);
+    let found = find(rt, alloc, words, source, gate, limit);
+    let status = write_found(out, found);
     status.tell(err);
     status
 }
 
-// Reads, computes and writes the answer.
-fn answer<'a, R: Threads + Sync, S: Source, K: Sink, G: Gate>(
-    rt: &R,
-    alloc: Global,
-    words: &'a [&'a str],
-    source: &mut S,
-    out: &mut K,
-    gate: &G,
-    limit: u64,
-) -> Status
-    requires { limit ≤ LARGEST_INPUT }
-    ensures ran { Ran (record {
-      words = bytes_of words.now;
-      limit = limit;
-      source = S.state source.old;
-      source_after = S.state source.new;
-      out = K.state out.old;
-      out_after = K.state out.new;
-    }) result }
-    ensures unread { WantNothing (bytes_of words.now) → source.new ≡ source.old }
+// Writes the answer that was found, and tells how the run ends.
+fn write_found<K: Sink>(out: &mut K, found: Result<Answer, Status>) -> Status
+    requires { IfOk found IsSmall }
+    ensures written { WasWritten found result (K.state out.old) (K.state out.new) }
     ensures unwritten { is_written result ≡ false → out.new ≡ out.old }
 {
-    match find(rt, alloc, words, source, gate, limit) {
+    match found {
         Ok(answer) => match answer.write(out) {
             Ok(()) => answer.status(),
             Err(_) => Status::WriteFault,
