@@ -23,7 +23,7 @@ use Rattle.batch_solve.specs.declared.batch_status.BatchStatus.{BatchStatus}
 use Rattle.batch_solve.specs.declared.batch_status.BatchStatus.TheVariants as status
 use Rattle.batch_solve.specs.declared.batch_words.BatchCommand.{BatchCommand}
 use Rattle.batch_solve.specs.BatchAnswers.{batch_misfit}
-use Rattle.batch_solve.specs.BatchFound.{AreFoundIn, ComesOfBatch, WereFound, is_batch_unread, replies_text}
+use Rattle.batch_solve.specs.BatchFound.{AreFoundIn, ComesOfBatch, WereFound, WereWritten, is_batch_unread, replies_text}
 use Rattle.batch_solve.specs.BatchRan.{AreTooFewForBatch, BatchRan, ExplainsBatch, HasBatchAnswer, HasNoBatchAnswer, IsBatchAnswered, IsBatchMisfit, IsBatchOffered, batch_request}
 use Rattle.batch_solve.specs.BatchStatus.{batch_status_of, is_read_fault}
 use Rattle.batch_solve.specs.BatchWords.{AcceptedBatch, AskForNoBatch}
@@ -215,3 +215,12 @@ pub ran_failed : (words : List (List ℕ)) (limit : ℕ) (old new : SourceState)
     Writes (Err fault) (replies_text replies.items) out out' → BatchRan (run_between words limit old new out out') status.WriteFault
 ran_failed words limit old new out out' replies fault was (part, rest, cut, gained) =
     ran (run_between words limit old new out out') was.input status.WriteFault was.draws (part, rest, subst (IsBatchAnswered words limit was.input) cut was.found, gained)
+
+-- what was found and how it was written tell what the batch did
+pub ran_of : (words : List (List ℕ)) (limit : ℕ) (old new : SourceState) (out out' : SinkState) (found : Replies) (s : BatchStatus) → WereFound words limit found old new →
+    WereWritten found s out out' → BatchRan (run_between words limit old new out out') s
+ran_of words limit old new out out' (Ok replies) s was written = elim written [
+  | inl w ↦ subst (BatchRan (run_between words limit old new out out')) (sym w.0) (ran_done words limit old new out out' replies was w.1)
+  | inr w ↦ subst (BatchRan (run_between words limit old new out out')) (sym w.1) (ran_failed words limit old new out out' replies w.0 was w.2)
+]
+ran_of words limit old new out out' (Err e) s was written = rw written.0 (rw written.1 (ran_without words limit old new out e was))

@@ -1,5 +1,5 @@
 -- What is found for a batch: its replies, or the status with which it ends.
-use Rattle.std.specs.Prelude.{◌≡◌, ℕ, Bool, false, List, ◌++◌, None, Some, Result, Ok, Err, Vec, All, codes, map}
+use Rattle.std.specs.Prelude.{◌≡◌, ◌⊎◌, ℕ, Bool, false, List, ◌++◌, None, Some, Result, Ok, Err, Vec, All, codes, map}
 use Rattle.std.specs.List.{flat_map}
 use Rattle.std.specs.declared.alloc.Global.{Global}
 use Rattle.residue_words.specs.Matrix.{Matrix}
@@ -7,7 +7,9 @@ use Rattle.residue_words.specs.Residues.{IsPrime}
 use Rattle.sparse_rows.specs.Rows.{ResidueMatrix}
 use Rattle.sms_text.specs.declared.kind.TextError.{TextError}
 use Rattle.sms_text.specs.Reading.{Draws, untouched}
-use Rattle.sms_text.specs.Stream.{SourceState}
+use Rattle.sms_text.specs.declared.write.WriteFault.{WriteFault}
+use Rattle.sms_text.specs.Stream.{SinkState, SourceState}
+use Rattle.sms_text.specs.Writing.{Writes}
 use Rattle.sms_text.specs.Written.{text_of}
 use Rattle.spasm_run.specs.Contents.{Contents, matrices_alone}
 use Rattle.spasm_run.specs.Computed.{HasSmallSizes}
@@ -74,3 +76,9 @@ pub record WereFound (words : List (List ℕ)) (limit : ℕ) (result : Result (V
   pub draws : Draws (AreTooFewForBatch words limit) (is_batch_unread result) input.bytes
       (untouched old) (supply_behind input new)
   pub found : AreFoundIn words limit input result
+
+-- How a batch ends that found these, and what its output gained: the whole text, or a first part of it; nothing if there are no replies.
+abbrev pub WereWritten : Result (Vec Reply Global) BatchStatus → BatchStatus → SinkState → SinkState → Type 0
+WereWritten (Ok replies) s old new = ((s ≡ status.Done) × Writes (Ok tt) (replies_text replies.items) old new)
+    ⊎ ((fault : WriteFault) × (s ≡ status.WriteFault) × Writes (Err fault) (replies_text replies.items) old new)
+WereWritten (Err e) s old new = (s ≡ e) × (new ≡ old)

@@ -6,7 +6,7 @@ ghost use Rattle.spasm_run.specs.Input.{IsOfText};
 ghost use Rattle.spasm_run.specs.Options.{bytes_of};
 ghost use Rattle.batch_solve.specs.declared.batch_words.TheConstants.{LARGEST_COUNT};
 ghost use Rattle.batch_solve.specs.BatchAnswers.{batch_misfit};
-ghost use Rattle.batch_solve.specs.BatchFound.{AreBatchReplies, ComesOfBatch, IsSmallReply, WereFound, matrices_of};
+ghost use Rattle.batch_solve.specs.BatchFound.{AreBatchReplies, ComesOfBatch, IsSmallReply, WereFound, WereWritten, matrices_of};
 ghost use Rattle.batch_solve.specs.BatchRan.{BatchRan, IsOneBatchAnswer};
 ghost use Rattle.batch_solve.specs.BatchStatus.{BatchSaysWhy, is_batch_done, is_batch_written};
 ghost use Rattle.batch_solve.specs.BatchWords.{AcceptedBatch, AskForNoBatch};
@@ -91,34 +91,19 @@ pub fn run_batch_within<'a, R: Threads + Wait + Sync, S: Source, K: Sink, E: Sin
     ensures unwritten { is_batch_written result ≡ false → out.new ≡ out.old }
     ensures silent { is_batch_done result ≡ true → err.new ≡ err.old }
 {
-    let status = answer_words(rt, alloc, words, source, out, watch, limit);
+    let found = find_replies(rt, alloc, words, source, watch, limit);
+    let status = write_found(out, found);
     status.tell(err);
     status
 }
 
-// Reads, answers and writes.
-fn answer_words<'a, R: Threads + Wait + Sync, S: Source, K: Sink, W: Watch>(
-    rt: &R,
-    alloc: Global,
-    words: &'a [&'a str],
-    source: &mut S,
-    out: &mut K,
-    watch: &W,
-    limit: u64,
-) -> BatchStatus
-    requires { limit ≤ LARGEST_INPUT }
-    ensures ran { BatchRan (record {
-      words = bytes_of words.now;
-      limit = limit;
-      source = S.state source.old;
-      source_after = S.state source.new;
-      out = K.state out.old;
-      out_after = K.state out.new;
-    }) result }
-    ensures unread { AskForNoBatch (bytes_of words.now) → source.new ≡ source.old }
+// Writes the replies that were found, and tells how the batch ends.
+fn write_found<K: Sink>(out: &mut K, found: Result<Vec<Reply>, BatchStatus>) -> BatchStatus
+    requires { IfOk found (λ replies. All IsSmallReply replies.items) }
+    ensures written { WereWritten found result (K.state out.old) (K.state out.new) }
     ensures unwritten { is_batch_written result ≡ false → out.new ≡ out.old }
 {
-    match find_replies(rt, alloc, words, source, watch, limit) {
+    match found {
         Ok(replies) => match write_replies(out, &replies) {
             Ok(()) => BatchStatus::Done,
             Err(_) => BatchStatus::WriteFault,

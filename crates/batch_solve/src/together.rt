@@ -29,6 +29,7 @@ fn team<R: Wait>(
     for number in 0..count {
         let taker = desk.split(rt, taker)?;
         workers.push(Worker {
+            alloc,
             taker,
             number,
             answered: Vec::new(alloc),
@@ -40,7 +41,6 @@ fn team<R: Wait>(
 // Runs the workers, each in a thread of its own where one can be made.
 fn run_all<R: Threads + Wait + Sync, W: Watch>(
     rt: &R,
-    alloc: Global,
     desk: &Desk,
     prepared: &Prepared,
     questions: &[Rows],
@@ -64,7 +64,7 @@ fn run_all<R: Threads + Wait + Sync, W: Watch>(
             requires { (desk.now.count ≡ length questions.now) × All (IsQuestion prepared.now) questions.now
                 × WorksAt desk.now prepared.now questions.now worker.now }
             ensures { WorksAt desk.entry.now prepared.entry.now questions.entry.now worker.exit.now }
-        { worker.run(rt, alloc, desk, prepared, questions, watch) },
+        { worker.run(rt, desk, prepared, questions, watch) },
     );
 }
 
@@ -129,6 +129,7 @@ fn gather(
     let mut workers = workers;
     while let Some(worker) = workers.pop() {
         let Worker {
+            alloc: _alloc,
             taker: _taker,
             number: _number,
             answered,
@@ -195,15 +196,7 @@ pub fn answer_all<R: Threads + Wait + Sync, W: Watch>(
     if questions.len() > 0 {
         let (desk, mut taker) = Desk::new(rt, alloc, questions.len() as u32)?;
         let mut team = team(rt, alloc, &desk, &mut taker, workers)?;
-        run_all(
-            rt,
-            alloc,
-            &desk,
-            prepared,
-            questions,
-            team.as_mut_slice(),
-            watch,
-        );
+        run_all(rt, &desk, prepared, questions, team.as_mut_slice(), watch);
         gather(prepared, questions, slots.as_mut_slice(), team, &desk);
     }
     complete(alloc, prepared, questions, slots)

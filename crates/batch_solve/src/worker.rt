@@ -17,9 +17,10 @@ pub struct Answered {
     pub reply: Reply,
 }
 
-// What one worker has: a taker at the desk, its number, and the replies that it found.
+// What one worker has: memory, a taker at the desk, its number, and the replies that it found.
 #[derive(Drop)]
 pub(crate) struct Worker {
+    pub(crate) alloc: Global,
     pub(crate) taker: Taker,
     pub(crate) number: u32,
     pub(crate) answered: Vec<Answered>,
@@ -29,7 +30,6 @@ impl Worker {
     // Answers a question, and keeps the reply.
     fn keep_answer(
         &mut self,
-        alloc: Global,
         prepared: &Prepared,
         questions: &[Rows],
         question: u32,
@@ -40,7 +40,7 @@ impl Worker {
         ensures taker { self.new.taker ≡ self.old.taker }
         ensures kept { All (IsAnsweredAt prepared.now questions.now) self.new.answered.items }
     {
-        let reply = prepared.answer(alloc, &questions[question as usize])?;
+        let reply = prepared.answer(self.alloc, &questions[question as usize])?;
         self.answered.push(Answered { question, reply })?;
         Ok(())
     }
@@ -49,7 +49,6 @@ impl Worker {
     pub(crate) fn run<R: Wait, W: Watch>(
         &mut self,
         rt: &R,
-        alloc: Global,
         desk: &Desk,
         prepared: &Prepared,
         questions: &[Rows],
@@ -65,10 +64,7 @@ impl Worker {
                 return;
             };
             watch.taken(self.number, question);
-            if self
-                .keep_answer(alloc, prepared, questions, question)
-                .is_err()
-            {
+            if self.keep_answer(prepared, questions, question).is_err() {
                 return;
             }
         }
