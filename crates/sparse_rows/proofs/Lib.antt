@@ -4,7 +4,6 @@ pub mod Building
 pub mod Cuts
 pub mod Expanding
 pub mod FilledRows
-pub mod Filling
 pub mod Grouping
 pub mod Joining
 pub mod Loops
@@ -13,6 +12,7 @@ pub mod Occurring
 pub mod Ordered
 pub mod Renaming
 pub mod Renumbering
+pub mod Sorting
 pub mod Spread
 pub mod Stored
 pub mod Summing

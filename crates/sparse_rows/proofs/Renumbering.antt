@@ -14,7 +14,7 @@ use Rattle.sparse_rows.specs.Columns.{AreOccurring, ArePlaces}
 use Rattle.sparse_rows.specs.Placed.{AreNamed, expanded, row_among}
 use Rattle.sparse_rows.specs.Rows.{AreRising, matrix_by}
 use Rattle.sparse_rows.proofs.Expanding.{among_or_not, row_at, row_unnamed, support_has}
-use Rattle.sparse_rows.proofs.Filling.{rows_low}
+use Rattle.sparse_rows.proofs.Sorting.{rows_low}
 use Rattle.sparse_rows.proofs.Loops.{sized}
 use Rattle.sparse_rows.proofs.Occurring.{contained, contains_at}
 use Rattle.sparse_rows.proofs.Renaming.{rising_once, rising_short}

@@ -1,5 +1,5 @@
 -- Cells: values at places, where a matrix has 2^32 places a row.
-use Rattle.std.specs.Prelude.{◌≡◌, ◌<◌, ◌≤◌, ◌+◌, ◌*◌, ◌-◌, ◌/◌, ◌%◌, ◌==◌, leb, if◌then◌else◌, Bool, true, ℕ, List, [], ◌∷◌, length, map, slice_index, slice_index_or, slice_range, All}
+use Rattle.std.specs.Prelude.{◌≡◌, ◌<◌, ◌≤◌, ◌+◌, ◌*◌, ◌-◌, ◌/◌, ◌%◌, ◌==◌, leb, if◌then◌else◌, Bool, true, ℕ, List, [], ◌∷◌, length, map, slice_index, slice_index_or, All}
 use Rattle.residue_words.specs.declared.modulus.TheConstants.{MODULUS_BOUND}
 use Rattle.sparse_rows.specs.declared.rows.TheConstants.{LARGEST_SIZE}
 use Rattle.std.specs.List.{range_with_len, sum_by}
@@ -42,11 +42,6 @@ pub record ArePushed (p m n : ℕ) (cells : List Cell) : Type 0 where
   pub in_range : p < MODULUS_BOUND
   pub within : All (IsWithin m n) cells
   pub residues : All (λ c. c.val < p) cells
-
--- the cells of row i stand from starts[i] up to starts[i + 1]
-abbrev pub AreGrouped : ℕ → List ℕ → List Cell → Type 0
-AreGrouped m starts cells = (i : ℕ) → i < m →
-    All (λ c. row_of c ≡ i) (slice_range cells (slice_index starts i) (slice_index starts (i + 1)))
 
 -- cells by strictly ascending places, of positive values below p
 pub record AreEntries (p : ℕ) (cells : List Cell) : Type 0 where

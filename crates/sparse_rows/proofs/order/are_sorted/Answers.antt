@@ -4,7 +4,7 @@ use Rattle.std.specs.List.Sorted.{IsNonDecreasingBy}
 use Rattle.std.proofs.lemmas.List.{take_all, take_more}
 use Rattle.std.proofs.lemmas.List.Elements.{All-push, All-weaker}
 use Rattle.sparse_rows.specs.declared.cells.Cell.{Cell}
-use Rattle.sparse_rows.proofs.Filling.{sorted_push}
+use Rattle.sparse_rows.proofs.Sorting.{sorted_push}
 use Rattle.sparse_rows.proofs.order.are_sorted.Goals as goal
 
 pub loop-cell-preserved : goal.loop-cell-preserved
