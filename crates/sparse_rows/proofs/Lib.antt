@@ -18,3 +18,4 @@ pub mod Stored
 pub mod Summing
 pub mod Supports
 pub mod Transposed
+pub mod Zeros

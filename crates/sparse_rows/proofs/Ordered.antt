@@ -6,7 +6,7 @@ use Rattle.std.proofs.lemmas.List.{get_or_append_left, get_or-map, get_or_push, 
 use Rattle.std.proofs.lemmas.List.Elements.{All-get_or, All-nil, All-push, All-weaker}
 use Rattle.std.proofs.lemmas.List.FromFn.{get_or-map-range_with_len, length-map-range_with_len, map-range_with_len_more}
 use Rattle.sparse_rows.specs.declared.cells.Cell.{Cell}
-use Rattle.sparse_rows.specs.Cells.{HaveRisingPlaces, AreCuts, AreEntries, AreOrdered, IsCut, IsRowOfPart, begun, column_of, ordered_cell, ordered_cells, place_of, row_of}
+use Rattle.sparse_rows.specs.Cells.{HaveRisingPlaces, AreCuts, AreOrdered, IsCut, IsRowOfPart, begun, column_of, ordered_cell, ordered_cells, place_of, row_of}
 use Rattle.sparse_rows.proofs.Cuts.{cuts_all, each_resized}
 use Rattle.sparse_rows.proofs.Spread.{map_range_equal}
 
@@ -194,10 +194,6 @@ module _ (starts cols vals : List ℕ) (next : ℕ) (nonzero : Bool) (h : AreOrd
       let narrow : slice_index cols k < 4294967296 = All-get_or (λ j. j < 4294967296) cols k 0 l h.narrow in
       let is : begun k starts - 1 ≡ row = omega arith in
       at ∙ ap (λ i. record { place = place_of i (slice_index cols k); val = slice_index vals k }) is
-
--- cells whose places ascend and whose values are residues other than 0 are entries
-pub ascending_entries : (p : ℕ) (kept : List Cell) → HaveRisingPlaces kept → All (λ c. 0 < c.val) kept → All (λ c. c.val < p) kept → AreEntries p kept
-ascending_entries p kept h some low = record { ascending = h; positive = some; residues = low }
 
 -- where there is no column there is no cell
 pub cells_empty : (starts cols vals : List ℕ) → length cols ≡ 0 → ordered_cells starts cols vals ≡ []

@@ -55,6 +55,11 @@ pub record AreSums (p : ℕ) (cells kept : List Cell) : Type 0 where
   pub entries : AreEntries p kept
   pub sums : (t : ℕ) → weight t kept ≡ weight t cells % p
 
+-- the cells without those whose value is 0
+abbrev pub without_zeros : List Cell → List Cell
+without_zeros [] = []
+without_zeros (c ∷ cs) = if c.val == 0 then without_zeros cs else c ∷ without_zeros cs
+
 -- the cells ascend by rows
 abbrev pub IsByRows : List Cell → Type 0
 IsByRows cells = (i k : ℕ) (d : Cell) → i ≤ k → k < length cells →

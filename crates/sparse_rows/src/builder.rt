@@ -83,12 +83,12 @@ impl RowsBuilder {
         Ok(())
     }
 
-    /// The matrix of the sums at each place. Where all was pushed in order, no value was 0, and the height is at most four times the
-    /// pushed entries and some thousand, it is made in time proportional to the height. Else what was pushed is moved to its row and
-    /// sorted within it, all in place: in time proportional to the pushed entries and the height where rows are short or pushed by
-    /// ascending columns. While that runs it takes, beside 16 bytes a pushed entry and, at first, what was pushed in order, 16 bytes for
-    /// each 512th row, and then as much as the matrix. Where the height is greater, all is sorted at once, in time and memory by the
-    /// entries alone, whatever the height.
+    /// The matrix of the sums at each place. Where all was pushed in order, and the height is at most four times the pushed entries and
+    /// some thousand, it is made in time proportional to the height; if a value was 0, the others are copied before. Else what was pushed
+    /// is moved to its row and sorted within it, all in place: in time proportional to the pushed entries and the height where rows are
+    /// short or pushed by ascending columns. While that runs it takes, beside 16 bytes a pushed entry and, at first, what was pushed in
+    /// order, 16 bytes for each 512th row, and then as much as the matrix. Where the height is greater, all is sorted at once, in time and
+    /// memory by the entries alone, whatever the height.
     pub fn finish(self) -> Result<Rows, AllocError>
         ensures modulus { IfOk result (λ rows. rows.modulus ≡ self.modulus) }
         ensures matrix { IfOk result (λ rows. rows.matrix
@@ -103,7 +103,9 @@ impl RowsBuilder {
             cells,
         } = self;
         if cells.is_empty() && ordered.are_stored(height) {
-            return Rows::from_ordered(alloc, modulus, height, width, ordered);
+            let kept = ordered.without_zeros(alloc)?;
+            kept.is_sound();
+            return Rows::from_ordered(alloc, modulus, height, width, kept);
         }
         let cells = ordered.into_cells(alloc, cells)?;
         sum_up(alloc, modulus, height, width, cells)

@@ -1,7 +1,7 @@
 // Cells that ascend by places, as the rows that they will be.
 ghost use Rattle.std.specs.Prelude.{◌≡◌, ◌<◌, ◌≤◌, ◌+◌, ◌-◌, ◌++◌, ◌∷◌, [], true, length, map, replicate, slice_index, All, IfOk, OnErr, OnOk};
 ghost use Rattle.sparse_rows.specs.declared.rows.TheConstants.{LARGEST_SIZE};
-ghost use Rattle.sparse_rows.specs.Cells.{HaveRisingPlaces, AreCuts, IsRowOfPart, column_of, place_of, row_of};
+ghost use Rattle.sparse_rows.specs.Cells.{HaveRisingPlaces, AreCuts, IsRowOfPart, column_of, place_of, row_of, without_zeros};
 
 use crate::cells::{Cell, place_of};
 use crate::entry_room::make_room;
@@ -84,12 +84,48 @@ impl OrderedCells {
         Ok(())
     }
 
-    // Whether they can be stored as a matrix of this height is: none is 0, and the rows are few enough for each to be stored.
-    pub(crate) fn are_stored(&self, height: u32) -> bool
-        ensures positive { result ≡ true → All (λ c. 0 < c.val) self.now }
-        ensures ascending { HaveRisingPlaces self.now }
+    // The law of their order, for proofs: it does nothing.
+    #[inline(always)]
+    pub(crate) fn is_sound(&self)
+        ensures { HaveRisingPlaces self.now }
     {
-        self.nonzero && stores_every_row(height, self.cols.len())
+        let _ = &self.starts;
+    }
+
+    // Whether the rows of a matrix of this height are few enough for each to be stored.
+    pub(crate) fn are_stored(&self, height: u32) -> bool {
+        stores_every_row(height, self.cols.len())
+    }
+
+    // The same without those whose value is 0: if there are such, in time by all cells and rows, and as much memory again.
+    pub(crate) fn without_zeros(self, alloc: Global) -> Result<OrderedCells, AllocError>
+        requires { All (λ c. row_of c < LARGEST_SIZE) self }
+        ensures { IfOk result (λ kept. kept ≡ without_zeros self) }
+    {
+        if self.nonzero {
+            return Ok(self);
+        }
+        let mut kept = OrderedCells::new(alloc);
+        let mut row = 0;
+        for k in 0..self.cols.len() {
+            row = row_at(&self.starts, row, k);
+            kept.push_nonzero(row as u32, self.cols[k], self.vals[k])?;
+        }
+        Ok(kept)
+    }
+
+    // Appends a cell at row i and column j, if its value isn't 0.
+    fn push_nonzero(&mut self, i: u32, j: u32, v: u64) -> Result<(), AllocError>
+        requires row { i < LARGEST_SIZE }
+        requires behind { All (λ c. c.place < place_of i j) self.old }
+        ensures zero { v ≡ 0 → OnOk result (self.new ≡ self.old) }
+        ensures nonzero { 0 < v → OnOk result (self.new ≡ self.old
+            ++ record { place = place_of i j; val = v } ∷ []) }
+    {
+        if v == 0 {
+            return Ok(());
+        }
+        self.push(i, j, v)
     }
 
     // Their columns and values, without room for more, and where rows 0, 1, .., height - 1 begin.
