@@ -53,7 +53,7 @@ impl RowsBuilder {
         ensures { IfOk result (λ b. b ≡ record { modulus = p; height = m; width = n; pushed = [] }) }
     {
         // The call tells the range of the modulus.
-        let _ = p.p();
+        p.is_sound();
         Ok(RowsBuilder {
             alloc,
             modulus: p,

@@ -54,7 +54,7 @@ impl<'a> FilledInEither<'a> {
             (λ i. self.new ≡ matrices_from self.old.left self.old.right (i + 1)) }
     {
         // The proof that i + 1 is no overflow wants to know how high a matrix is.
-        let _ = self.left.height();
+        self.left.is_sound();
         let Some(i) = self.upcoming() else {
             return None;
         };

@@ -116,7 +116,7 @@ impl Rows {
         ensures err { OnErr result (self.new.matrix ≡ self.old.matrix) }
     {
         // The call tells that the stored rows are a matrix of residues.
-        let _ = self.stored.height();
+        self.stored.is_sound();
         if self.every_row {
             self.stored.append_slices(cols, vals)?;
             self.height += 1;
@@ -192,7 +192,7 @@ impl Rows {
         ensures err { OnErr result (self.new.matrix ≡ self.old.matrix) }
     {
         // The call tells that the stored rows are a matrix of residues.
-        let _ = self.stored.height();
+        self.stored.is_sound();
         if self.every_row {
             self.stored.append_zeros(count)?;
             self.height += count;
@@ -348,7 +348,7 @@ impl Rows {
         ensures sound { IsMatrix self.now.modulus self.now.matrix }
     {
         // The proof wants what the modulus says of the stored rows.
-        let _ = self.stored.modulus();
+        self.stored.is_sound();
         self.height
     }
 
@@ -432,7 +432,7 @@ impl Rows {
     {
         let mut filled = Vec::new(alloc);
         // The proof that i + 1 is no overflow wants to know how high a matrix is.
-        let _ = self.height();
+        self.is_sound();
         let mut from = 0;
         while let Some(i) = self.next_filled(from) {
             filled.push(i)?;
@@ -455,7 +455,7 @@ impl Rows {
     {
         let mut triples = Vec::with_capacity(alloc, self.entries() as usize)?;
         // The proof that i + 1 is no overflow wants to know how high a matrix is.
-        let _ = self.height();
+        self.is_sound();
         let mut from = 0;
         while let Some(i) = self.next_filled(from) {
             self.list_row(i, &mut triples)?;
@@ -472,7 +472,7 @@ impl Rows {
         ensures matrix { IfOk result (λ rows. rows.matrix ≡ narrowed self.now.matrix columns.now) }
     {
         // The proof wants that the stored rows are residues.
-        let _ = self.stored.modulus();
+        self.stored.is_sound();
         Ok(Rows {
             height: self.height,
             stored: self.stored.narrowed(alloc, columns)?,
@@ -492,7 +492,7 @@ impl Rows {
         ensures matrix { IfOk result (λ rows. rows.matrix ≡ widened self.now.matrix width columns.now) }
     {
         // The proof wants that the stored rows are residues.
-        let _ = self.stored.modulus();
+        self.stored.is_sound();
         Ok(Rows {
             height: self.height,
             stored: self.stored.widened(alloc, width, columns)?,
@@ -507,7 +507,7 @@ impl Rows {
         ensures matrix { IfOk result (λ rows. rows.matrix ≡ transposed self.now.matrix) }
     {
         // The proof wants that the stored rows are residues.
-        let _ = self.stored.modulus();
+        self.stored.is_sound();
         let width = self.stored.width();
         if stores_every_row(width, self.stored.entries() as usize) {
             let stored = self.stored.transpose(alloc)?;
@@ -538,7 +538,7 @@ impl Rows {
         ensures matrix { IfOk result (λ rows. rows.matrix ≡ beside self.now.matrix right.now.matrix) }
     {
         // The call tells that `right` is a matrix of residues, and how high a matrix is.
-        let _ = right.height();
+        right.is_sound();
         let mut rows = self.room_beside(alloc, right)?;
         let mut row = Sparse::new(alloc, rows.width(), self.modulus());
         let mut filled = FilledInEither::of(self, right);
@@ -662,7 +662,8 @@ impl Rows {
         ensures row { OnOk result (to.new.row ≡ row self.now.matrix i ++ row right.now.matrix i) }
     {
         // The proof wants that both are matrices of residues.
-        let _ = (self.modulus(), right.modulus());
+        self.is_sound();
+        right.is_sound();
         to.clear();
         self.copy_shifted(i, 0, to)?;
         right.copy_shifted(i, self.width(), to)?;
@@ -675,7 +676,6 @@ impl Rows {
         requires modulus { to.old.modulus ≡ self.now.modulus }
         requires width { by + self.now.matrix.width ≤ length to.old.row }
         requires narrow { by + self.now.matrix.width ≤ LARGEST_SIZE }
-        requires sound { IsMatrix self.now.modulus self.now.matrix }
         requires behind { IsZeroBetween by (length to.old.row) to.old.row }
         ensures modulus { to.new.modulus ≡ to.old.modulus }
         ensures length { length to.new.row ≡ length to.old.row }
@@ -684,6 +684,7 @@ impl Rows {
         ensures after { OnOk result (IsZeroBetween (by + self.now.matrix.width)
             (length to.old.row) to.new.row) }
     {
+        self.is_sound();
         let cols = self.cols(i);
         let vals = self.vals(i);
         for k in 0..cols.len() {

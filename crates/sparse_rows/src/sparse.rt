@@ -39,7 +39,7 @@ impl Sparse {
         ensures row { result.row ≡ zeros n }
     {
         // The call tells the range of the modulus.
-        let _ = p.p();
+        p.is_sound();
         Sparse {
             modulus: p,
             width: n,
@@ -54,7 +54,7 @@ impl Sparse {
         ensures row { IfOk result (λ row. row.row ≡ zeros n) }
     {
         // The call tells the range of the modulus.
-        let _ = p.p();
+        p.is_sound();
         Ok(Sparse {
             modulus: p,
             width: n,

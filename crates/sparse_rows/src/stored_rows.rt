@@ -58,7 +58,7 @@ impl StoredRows {
         ensures matrix { IfOk result (λ rows. rows.matrix ≡ record { height = 0; width = width; rows = [] }) }
     {
         // The call tells the range of the modulus.
-        let _ = modulus.p();
+        modulus.is_sound();
         let mut starts = Vec::with_capacity(alloc, height as usize + 1)?;
         starts.push(0)?;
         room.cols.clear();
@@ -141,7 +141,7 @@ impl StoredRows {
         ensures matrix { IfOk result (λ rows. rows.matrix ≡ matrix_of_cells height width cells.now) }
     {
         // The call tells the range of the modulus.
-        let _ = modulus.p();
+        modulus.is_sound();
         Ok(StoredRows {
             modulus,
             width,
@@ -166,7 +166,7 @@ impl StoredRows {
         ensures matrix { IfOk result (λ rows. rows.matrix ≡ matrix_of_cells height width cells) }
     {
         // The call tells the range of the modulus.
-        let _ = modulus.p();
+        modulus.is_sound();
         let parts = cells.into_rows(height)?;
         Ok(StoredRows {
             modulus,
@@ -175,6 +175,20 @@ impl StoredRows {
             cols: parts.cols,
             vals: parts.vals,
         })
+    }
+
+    // The law of its sizes, its modulus and its entries, for proofs: it does nothing.
+    #[inline(always)]
+    pub(crate) fn is_sound(&self)
+        ensures height { self.now.matrix.height ≤ LARGEST_SIZE }
+        ensures width { self.now.matrix.width ≤ LARGEST_SIZE }
+        ensures two_or_more { 2 ≤ self.now.modulus }
+        ensures in_range { self.now.modulus < MODULUS_BOUND }
+        ensures entries { IsMatrix self.now.modulus self.now.matrix }
+    {
+        self.height();
+        self.width();
+        self.modulus();
     }
 
     // How many rows the matrix has.

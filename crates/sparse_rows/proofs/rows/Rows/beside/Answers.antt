@@ -25,7 +25,7 @@ loop-i-init c =
 pub append_at-requires-clause-small : goal.append_at-requires-clause-small
 append_at-requires-clause-small c =
     let filled = c.loop-i.invariant.2 in
-    omega (arith, c.in-Some.ensures.row.below, ap (λ f. f.left.height) filled, c.requires.heights, c.height.ensures.value, c.height.ensures.bound)
+    omega (arith, c.in-Some.ensures.row.below, ap (λ f. f.left.height) filled, c.requires.heights, c.is_sound.ensures.height)
 
 pub append_at-requires-clause-low : goal.append_at-requires-clause-low
 append_at-requires-clause-low c =
@@ -43,7 +43,7 @@ loop-i-preserved c =
     let behind : h + (i - h) ≡ i = omega (arith, n.low) in
     let zeros : with_zeros c.loop-i.rows.matrix (i - h) ≡ first_beside A B i =
     ap (λ m. with_zeros m (i - h)) c.loop-i.invariant.1.matrix
-    ∙ beside_zeros c.modulus.ensures.sound c.height.ensures.sound c.requires.heights h (i - h) (omega (arith, n.below)) (λ k a b. n.left k (omega arith) (omega arith)) (λ k a b. n.right k (omega arith) (omega arith))
+    ∙ beside_zeros c.modulus.ensures.sound c.is_sound.ensures.entries c.requires.heights h (i - h) (omega (arith, n.below)) (λ k a b. n.left k (omega arith) (omega arith)) (λ k a b. n.right k (omega arith) (omega arith))
     ∙ ap (first_beside A B) behind in
     let made : c.append_at.new.self.matrix ≡ first_beside A B (i + 1) =
     c.in_ok-append_at.ensures.matrix ∙ ap (λ m. with_row m c.row_beside.new.to.row) zeros ∙ beside_more A B i _ _ c.in_ok-row_beside.ensures.row in (
@@ -64,6 +64,6 @@ returns-clause-matrix c =
     let h : ℕ = c.loop-i.rows.matrix.height in
     let behind : h + (A.height - h) ≡ A.height = omega (arith, c.loop-i.invariant.0) in
     let z : AreBothZeroFrom A B h = subst (λ f. AreBothZeroFrom f.left f.right f.from) c.loop-i.invariant.2 c.in_default.ensures.row in
-    c.in_ok-append_zeros.ensures.matrix ∙ ap₂ with_zeros c.loop-i.invariant.1.matrix (ap₂ ◌-◌ c.height-2.ensures.value c.height-3.ensures.value)
-    ∙ beside_zeros c.modulus.ensures.sound c.height.ensures.sound c.requires.heights h (A.height - h) (omega arith) (λ k a b. z.0 k (omega arith) (omega arith)) (λ k a b. z.1 k (omega arith) (omega (arith, c.requires.heights)))
+    c.in_ok-append_zeros.ensures.matrix ∙ ap₂ with_zeros c.loop-i.invariant.1.matrix (ap₂ ◌-◌ c.height.ensures.value c.height-2.ensures.value)
+    ∙ beside_zeros c.modulus.ensures.sound c.is_sound.ensures.entries c.requires.heights h (A.height - h) (omega arith) (λ k a b. z.0 k (omega arith) (omega arith)) (λ k a b. z.1 k (omega arith) (omega (arith, c.requires.heights)))
     ∙ ap (first_beside A B) behind

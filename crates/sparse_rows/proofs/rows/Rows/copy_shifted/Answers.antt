@@ -37,4 +37,4 @@ pub returns-clause-after : goal.returns-clause-after
 returns-clause-after c = λ j a b.
     let e : c.args.by + (j - c.args.by) ≡ j = omega arith in
     ap (slice_index c.loop-k.to.row) (sym e) ∙ copied c (j - c.args.by) (omega arith)
-    ∙ get_or_past (row c.args.self.now.matrix c.args.i) (j - c.args.by) 0 (omega (arith, (c.requires.sound.each c.args.i c.requires.row).len))
+    ∙ get_or_past (row c.args.self.now.matrix c.args.i) (j - c.args.by) 0 (omega (arith, (c.is_sound.ensures.entries.each c.args.i c.requires.row).len))

@@ -27,7 +27,7 @@ returns-clause-row c =
     let A = c.args.self.now in
     let B = c.args.right.now in
     beside_row (row A.matrix c.args.i) (row B.matrix c.args.i) c.copy_shifted.new.to.row c.copy_shifted-2.new.to.row A.matrix.width B.matrix.width
-    (c.modulus.ensures.sound.each c.args.i c.requires.row).len (c.modulus-2.ensures.sound.each c.args.i (omega (arith, c.requires.row, c.requires.heights))).len
+    (c.is_sound.ensures.entries.each c.args.i c.requires.row).len (c.is_sound-2.ensures.entries.each c.args.i (omega (arith, c.requires.row, c.requires.heights))).len
     (c.copy_shifted-2.ensures.length ∙ c.copy_shifted.ensures.length ∙ ap length c.clear.ensures.row ∙ length_zeros _ ∙ c.requires.length)
     (λ j l. ap (slice_index c.copy_shifted.new.to.row) (let e : j ≡ 0 + j = omega arith in e) ∙ c.in_ok-copy_shifted.ensures.inside j l)
     (λ j l. c.in_ok-copy_shifted-2.ensures.before j (omega (arith, c.width.ensures.value)))

@@ -1,4 +1,3 @@
-use Rattle.std.proofs.Common.{arith}
 use Rattle.sparse_rows.specs.declared.cells.Cell.{Cell}
 use Rattle.sparse_rows.proofs.Cuts.{cells_matrix, cells_stored}
 use Rattle.sparse_rows.proofs.stored_rows.StoredRows.from_cells.Goals as goal
@@ -11,7 +10,7 @@ pub invariant_of-result : goal.invariant_of-result
 invariant_of-result c =
     rw (c.in_ok-columns.ensures, c.in_ok-values.ensures)
     (cells_stored _ _ _ _ _ c.in_ok-row_starts.ensures c.requires.entries c.requires.within some c.requires.height_small c.requires.width_small
-    (omega (arith, c.p.ensures.value, c.p.ensures.two_or_more)) (omega (arith, c.p.ensures.value, c.p.ensures.in_range)))
+    c.is_sound.ensures.two_or_more c.is_sound.ensures.in_range)
 
 pub returns-clause-matrix : goal.returns-clause-matrix
 returns-clause-matrix c =
