@@ -4,7 +4,7 @@ use Rattle.std.specs.List.{All}
 use Rattle.std.specs.List.Sorted.{IsPermutation}
 use Rattle.std.proofs.lemmas.Bool.{cases_eq, cond-true, cond-false, eq-eqb, ne_eqb}
 use Rattle.std.proofs.lemmas.List.Elements.{All-get_or, All-push, All-weaker}
-use Rattle.std.proofs.lemmas.List.Sorted.{All-permutation, sum_by-IsPermutation}
+use Rattle.std.proofs.lemmas.List.Sorted.{All-permutation, IsPermutation-refl, sum_by-IsPermutation}
 use Rattle.std.proofs.lemmas.List.Sums.{sum_by-cons}
 use native.Mathlib.Nat.{mod-eq_of_lt, zero-mod}
 use Rattle.residue_words.specs.Matrix.{list_of}
@@ -66,6 +66,10 @@ entries_sums p cells e = record {
         sym (mod-eq_of_lt low)
   ];
 }
+
+-- so they make the matrix that is built of them
+pub entries_built : (p m n : ℕ) (cells : List Cell) → n ≤ 2147483648 → AreEntries p cells → matrix_by m n (λ i j. weight (place_of i j) cells) ≡ built p m n (map triple_of cells)
+entries_built p m n cells small e = sums_built p m n cells cells cells small (IsPermutation-refl cells) (entries_sums p cells e)
 
 -- one cell more behind others
 pub pushed_more : (p m n : ℕ) (first cells : List Cell) (c : Cell) → ArePushed p m n (first ++ cells) → IsWithin m n c → c.val < p → ArePushed p m n (first ++ (cells ++ c ∷ []))

@@ -5,6 +5,7 @@ pub mod Cuts
 pub mod Expanding
 pub mod FilledRows
 pub mod Grouping
+pub mod InLists
 pub mod Joining
 pub mod Loops
 pub mod Marking

@@ -76,6 +76,18 @@ pub record AreCuts (m : ℕ) (cells : List Cell) (starts : List ℕ) : Type 0 wh
   pub long : length starts ≡ m + 1
   pub each : (i : ℕ) → i ≤ m → IsCut cells i (slice_index starts i)
 
+-- cells of value 0 that stand in these rows
+abbrev pub in_rows : List ℕ → List Cell
+in_rows rows = map (λ i. record { place = place_of i 0; val = 0 }) rows
+
+-- the cells that three lists have at one place after another
+abbrev pub listed_cell : List ℕ → List ℕ → List ℕ → ℕ → Cell
+listed_cell rows columns values k =
+    record { place = place_of (slice_index rows k) (slice_index columns k); val = slice_index values k }
+
+abbrev pub listed_cells : List ℕ → List ℕ → List ℕ → List Cell
+listed_cells rows columns values = map (listed_cell rows columns values) (range_with_len 0 (length rows))
+
 -- the cells in rows of other numbers
 abbrev pub renumbered : List ℕ → List Cell → List Cell
 renumbered [] cs = []

@@ -92,6 +92,13 @@ abbrev pub sum_at : ℕ → ℕ → List Triple → ℕ
 sum_at i j [] = 0
 sum_at i j (t ∷ ts) = (if t.i == i && t.j == j then t.v else 0) + sum_at i j ts
 
+-- the triples that three lists have at one place after another
+abbrev pub listed_triple : List ℕ → List ℕ → List ℕ → ℕ → Triple
+listed_triple rows columns values k = record { i = slice_index rows k; j = slice_index columns k; v = slice_index values k }
+
+abbrev pub listed_triples : List ℕ → List ℕ → List ℕ → List Triple
+listed_triples rows columns values = map (listed_triple rows columns values) (range_with_len 0 (length rows))
+
 -- the matrix of m x n that is built of these triples: at each place the sum modulo p
 abbrev pub built : ℕ → ℕ → ℕ → List Triple → Matrix
 built p m n ts = matrix_by m n (λ i j. sum_at i j ts % p)

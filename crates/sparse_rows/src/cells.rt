@@ -1,6 +1,6 @@
 // What is pushed: a value at a place, in one word beside it.
 ghost use Rattle.std.specs.Prelude.{◌≡◌, length, map, All, IfOk, ◌<◌, ◌≤◌, ◌^◌};
-ghost use Rattle.sparse_rows.specs.Cells.{AreCuts, IsByRows, column_of, place_of, renumbered, row_of};
+ghost use Rattle.sparse_rows.specs.Cells.{AreCuts, IsByRows, column_of, listed_cells, place_of, renumbered, row_of};
 
 use std::alloc::{AllocError, Global};
 
@@ -63,6 +63,24 @@ pub(crate) fn row_starts(
     }
     starts.resize(height as usize + 1, cells.len())?;
     Ok(starts)
+}
+
+// The cells that three lists have at one place after another.
+pub(crate) fn listed(
+    alloc: Global,
+    rows: &[u32],
+    columns: &[u32],
+    values: &[u64],
+) -> Result<Vec<Cell>, AllocError>
+    requires columns { length columns.now ≡ length rows.now }
+    requires values { length values.now ≡ length rows.now }
+    ensures { IfOk result (λ cells. cells.items ≡ listed_cells rows.now columns.now values.now) }
+{
+    let mut cells = Vec::with_capacity(alloc, rows.len())?;
+    for k in 0..rows.len() {
+        cells.push(Cell::new(rows[k], columns[k], values[k]))?;
+    }
+    Ok(cells)
 }
 
 // The columns of the cells.

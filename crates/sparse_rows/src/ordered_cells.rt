@@ -1,7 +1,7 @@
 // Cells that ascend by places, as the rows that they will be.
-ghost use Rattle.std.specs.Prelude.{◌≡◌, ◌<◌, ◌≤◌, ◌+◌, ◌-◌, ◌++◌, ◌∷◌, [], true, length, map, replicate, slice_index, All, IfOk, OnErr, OnOk};
+ghost use Rattle.std.specs.Prelude.{ℕ, ◌≡◌, ◌<◌, ◌≤◌, ◌+◌, ◌-◌, ◌++◌, ◌∷◌, [], true, length, map, replicate, slice_index, All, IfOk, OnErr, OnOk};
 ghost use Rattle.sparse_rows.specs.declared.rows.TheConstants.{LARGEST_SIZE};
-ghost use Rattle.sparse_rows.specs.Cells.{HaveRisingPlaces, AreCuts, IsRowOfPart, column_of, place_of, row_of, without_zeros};
+ghost use Rattle.sparse_rows.specs.Cells.{HaveRisingPlaces, AreCuts, IsRowOfPart, column_of, in_rows, place_of, row_of, without_zeros};
 
 use crate::cells::{Cell, place_of};
 use crate::entry_room::make_room;
@@ -168,6 +168,21 @@ impl OrderedCells {
         cells.extend_from_slice(&others)?;
         Ok(cells)
     }
+}
+
+// Where rows 0, 1, .., height - 1 begin, and where the last ends, if the items of a list stand in these rows.
+pub(crate) fn starts_of(alloc: Global, height: u32, rows: &[u32]) -> Result<Vec<usize>, AllocError>
+    requires below { (k : ℕ) → k < length rows.now → slice_index rows.now k < height }
+    requires ascending { (k t : ℕ) → k ≤ t → t < length rows.now →
+        slice_index rows.now k ≤ slice_index rows.now t }
+    ensures { IfOk result (λ starts. AreCuts height (in_rows rows.now) starts.items) }
+{
+    let mut starts = Vec::with_capacity(alloc, height as usize + 1)?;
+    for k in 0..rows.len() {
+        begin_rows(&mut starts, rows[k], k)?;
+    }
+    starts.resize(height as usize + 1, rows.len())?;
+    Ok(starts)
 }
 
 // Lets the rows up to row i begin at this place, as far as they haven't begun.

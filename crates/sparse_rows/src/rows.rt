@@ -8,15 +8,15 @@ ghost use Rattle.residue_words.specs.Residues.{sum_below};
 ghost use Rattle.sparse_rows.specs.Columns.{GoTo};
 ghost use Rattle.sparse_rows.specs.Placed.{AgreeBelow, IsZeroBetween, HasRowAt};
 ghost use Rattle.sparse_rows.specs.Cells.{AreEntries, IsWithin, matrix_of_cells, place_of, weight};
-ghost use Rattle.sparse_rows.specs.Rows.{above, AllFit, AppendsFirst, AreBelow, AreEnough, AreFilled, AreOccupied, AreRising, AreZeroFrom, FitsMatrix, IsNextFilled, beside, built, entry_count, identity, matrix_by, narrowed, nonzeros, row_triples, selected, support, transposed, triple, triples_of, widened, with_zeros};
+ghost use Rattle.sparse_rows.specs.Rows.{above, AllFit, AppendsFirst, AreBelow, AreEnough, AreFilled, AreOccupied, AreRising, AreZeroFrom, FitsMatrix, IsNextFilled, beside, built, entry_count, identity, listed_triples, matrix_by, narrowed, nonzeros, row_triples, selected, support, transposed, triple, triples_of, widened, with_zeros};
 ghost use Rattle.sparse_rows.specs.Stored.{IsSparse, spread, with_row, with_sparse_row};
 
 use crate::builder::RowsBuilder;
-use crate::cells::{Cell, renumbered, row_numbers};
+use crate::cells::{Cell, listed, renumbered, row_numbers};
 use crate::column_lists::{first_from, occurring, place_of, places_among};
 use crate::entry_room::EntryRoom;
 use crate::filled_in_either::FilledInEither;
-use crate::ordered_cells::OrderedCells;
+use crate::ordered_cells::{OrderedCells, RowParts, starts_of};
 use crate::sparse::Sparse;
 use crate::stored_rows::StoredRows;
 use residue_words::Modulus;
@@ -251,6 +251,49 @@ impl Rows {
         }
         let rows = Rows::from_triples(alloc, m, n, p, triples)?;
         Ok(Some(rows))
+    }
+
+    /// The same of entries in three lists that ascend strictly by rows and, within a row, by columns, none of which is 0. Where each row
+    /// is stored, columns and values are copied as they stand, in the time of one copy and a pass over the rows.
+    pub fn from_entries_in_order(
+        alloc: Global,
+        p: Modulus,
+        m: u32,
+        n: u32,
+        rows: &[u32],
+        columns: &[u32],
+        values: &[u64],
+    ) -> Result<Rows, AllocError>
+        requires height { m ≤ LARGEST_SIZE }
+        requires width { n ≤ LARGEST_SIZE }
+        requires columns { length columns.now ≡ length rows.now }
+        requires values { length values.now ≡ length rows.now }
+        requires inside { (k : ℕ) → k < length rows.now → FitsMatrix m n p
+            (slice_index rows.now k, slice_index columns.now k, slice_index values.now k) }
+        requires positive { (k : ℕ) → k < length rows.now → 0 < slice_index values.now k }
+        requires order { (k : ℕ) → k + 1 < length rows.now →
+            place_of (slice_index rows.now k) (slice_index columns.now k)
+            < place_of (slice_index rows.now (k + 1)) (slice_index columns.now (k + 1)) }
+        ensures modulus { IfOk result (λ made. made.modulus ≡ p) }
+        ensures matrix { IfOk result (λ made. made.matrix
+            ≡ built p m n (listed_triples rows.now columns.now values.now)) }
+    {
+        p.is_sound();
+        if !stores_every_row(m, rows.len()) {
+            let cells = listed(alloc, rows, columns, values)?;
+            return Rows::from_cells(alloc, p, m, n, &cells);
+        }
+        let parts = RowParts {
+            starts: starts_of(alloc, m, rows)?,
+            cols: Vec::from_slice(alloc, columns)?,
+            vals: Vec::from_slice(alloc, values)?,
+        };
+        Ok(Rows {
+            height: m,
+            stored: StoredRows::of_parts(p, n, parts),
+            every_row: true,
+            rows: Vec::new(alloc),
+        })
     }
 
     // The matrix with these entries, which ascend by places. It takes 12 bytes an entry and 8 bytes a row.

@@ -6,14 +6,14 @@ ghost use Rattle.std.specs.Option.{MatchOption};
 ghost use Rattle.residue_words.specs.Matrix.{IsMatrix, row};
 ghost use Rattle.sparse_rows.specs.Cells.{AreEntries, IsWithin, matrix_of_cells, place_of, weight};
 ghost use Rattle.sparse_rows.specs.Rows.{above, AreBelow, AreEnough, AreOccupied, AreRising, AreZeroFrom, IsNextFilled, entry_count, matrix_by, narrowed, nonzeros, support, transposed, widened, with_zeros};
-ghost use Rattle.sparse_rows.specs.Stored.{IsSparse, spread, with_row, with_sparse_row};
+ghost use Rattle.sparse_rows.specs.Stored.{IsSparse, IsStored, spread, stored_matrix, with_row, with_sparse_row};
 
 use crate::cells::{Cell, columns, row_starts, values};
 use crate::column_lists::{named_columns, occurring, places_among};
 use crate::consecutive_parts::{append_starts, part, part_numbers};
 use crate::counting_sort::group;
 use crate::entry_room::{EntryRoom, write_behind};
-use crate::ordered_cells::OrderedCells;
+use crate::ordered_cells::{OrderedCells, RowParts};
 use residue_words::Modulus;
 use std::alloc::{AllocError, Global};
 use std::marker::Model;
@@ -189,6 +189,22 @@ impl StoredRows {
         self.height();
         self.width();
         self.modulus();
+    }
+
+    // The rows that begin at these places, with these columns and values.
+    pub(crate) fn of_parts(modulus: Modulus, width: u32, parts: RowParts) -> StoredRows
+        requires { IsStored modulus width parts.starts.items parts.cols.items parts.vals.items }
+        ensures modulus { result.modulus ≡ modulus }
+        ensures matrix { result.matrix
+            ≡ stored_matrix width parts.starts.items parts.cols.items parts.vals.items }
+    {
+        StoredRows {
+            modulus,
+            width,
+            starts: parts.starts,
+            cols: parts.cols,
+            vals: parts.vals,
+        }
     }
 
     // How many rows the matrix has.
