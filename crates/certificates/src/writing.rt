@@ -11,7 +11,7 @@ use sparse_rows::Rows;
 
 /// Writes the text of a certificate: its first line, a line for each pivot, and its matrices.
 ///
-/// The sink is given blocks of more than 4096 bytes, and a last one of what is left. It takes no memory, and time proportional to the
+/// The sink is given blocks of more than 28672 bytes, and a last one of what is left. It takes no memory, and time proportional to the
 /// pivots and the entries. `read` reads what was written as the same certificate: `written_certificate_reads_back` says so.
 pub fn write<K: Sink>(out: &mut K, certificate: &Certificate) -> Result<(), WriteFault>
     requires formed { IsFormed certificate.now.l.modulus certificate.now }

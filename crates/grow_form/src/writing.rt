@@ -8,7 +8,7 @@ use sms_text::{BlockWriter, Sink, WriteFault, add_rows};
 
 /// Writes the answers one after another: `rank R`, the text of a form, `yes` or `no`.
 ///
-/// The sink is given blocks of more than 4096 bytes, and a last one of what is left. It takes no memory.
+/// The sink is given blocks of more than 28672 bytes, and a last one of what is left. It takes no memory.
 pub fn write_answers<K: Sink>(out: &mut K, answers: &[Answer]) -> Result<(), WriteFault>
     requires { All AnswerFitsText answers.now }
     ensures { Writes result (answers_text answers.now) (K.state out.old) (K.state out.new) }

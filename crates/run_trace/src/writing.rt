@@ -9,7 +9,7 @@ use sms_text::{BlockWriter, Sink, WriteFault};
 
 /// Writes the text of a trace: its first line, and a line for each publication.
 ///
-/// The sink is given blocks of more than 4096 bytes, and a last one of what is left. It takes no memory, and time proportional to the
+/// The sink is given blocks of more than 28672 bytes, and a last one of what is left. It takes no memory, and time proportional to the
 /// publications. `read` reads what was written as the same trace: `written_trace_reads_back` says so.
 pub fn write<K: Sink>(out: &mut K, trace: &Trace) -> Result<(), WriteFault>
     requires { HasTraceText trace.now }

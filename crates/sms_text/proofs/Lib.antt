@@ -12,11 +12,13 @@ pub mod Moving
 pub mod Parts
 pub mod PlainLines
 pub mod Pulls
+pub mod PutLines
 pub mod Puts
 pub mod ReadingMatrices
 pub mod RoundTrip
 pub mod Runs
 pub mod Scripts
+pub mod SixDigits
 pub mod Told
 pub mod Values
 pub mod Words

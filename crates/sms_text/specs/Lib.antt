@@ -11,6 +11,7 @@ pub mod Parts
 pub mod PlainLines
 pub mod Reading
 pub mod ReadingRows
+pub mod SixDigits
 pub mod Spelling
 pub mod Stream
 pub mod Text

@@ -6,14 +6,16 @@ ghost use Rattle.sms_text.specs.Writing.{Writes, Adds, output};
 ghost use Rattle.sms_text.specs.Written.{row_text, text_of};
 
 use crate::block_writer::BlockWriter;
+use crate::row_lines::RowLines;
 use crate::stream::Sink;
 use crate::write::WriteFault;
 use sparse_rows::Rows;
+use std::cmp::min;
 
 /// Writes the text of a matrix of at most `LARGEST_TEXT_SIZE` rows and columns: its header line, a line for each entry that isn't 0, rows and
 /// columns ascending, and the closing line.
 ///
-/// The sink is given blocks of more than 4096 bytes, and a last one of what is left. It takes no memory, and time proportional to the
+/// The sink is given blocks of more than 28672 bytes, and a last one of what is left. It takes no memory, and time proportional to the
 /// entries, and to the height where it is about as large. `read_rows` reads what was written as the same matrix: `written_text_reads_back` says so.
 pub fn write_rows<K: Sink>(out: &mut K, rows: &Rows) -> Result<(), WriteFault>
     requires height { rows.now.matrix.height ≤ LARGEST_TEXT_SIZE }
@@ -49,19 +51,21 @@ pub fn add_rows<K: Sink>(
 {
     let height = rows.height();
     blocks.add_head(out, height, rows.width())?;
+    let mut lines = RowLines::new();
     let mut from = 0;
     while let Some(i) = rows.next_filled(from) {
-        add_row(out, blocks, rows, i)?;
+        add_row(out, blocks, &mut lines, rows, i)?;
         from = i + 1;
     }
     blocks.add_end(out)?;
     Ok(())
 }
 
-// Adds the lines of row i.
+// Adds the lines of row i, of 64 entries at a time.
 fn add_row<K: Sink>(
     out: &mut K,
     blocks: &mut BlockWriter,
+    lines: &mut RowLines,
     rows: &Rows,
     i: u32,
 ) -> Result<(), WriteFault>
@@ -74,8 +78,12 @@ fn add_row<K: Sink>(
 {
     let cols = rows.cols(i);
     let vals = rows.vals(i);
-    for k in 0..cols.len() {
-        blocks.add_entry(out, i + 1, cols[k] + 1, vals[k])?;
+    let mut k = 0;
+    while k < cols.len() {
+        let end = k + min(cols.len() - k, 64);
+        lines.fill(i, &cols[k..end], &vals[k..end]);
+        blocks.add(out, lines.bytes())?;
+        k = end;
     }
     Ok(())
 }

@@ -4,7 +4,8 @@ ghost use Rattle.sms_text.specs.declared.reader.TheConstants.{LARGEST_INPUT, LAR
 
 use residue_words::Modulus;
 use sms_text::{
-    Kind, MemorySink, Put, Reader, Sink, SteadySource, TextError, read_rows, write_rows,
+    Kind, MemorySink, Put, Reader, Sink, SteadySource, TextError, WriteFault, read_rows, write_end,
+    write_entry, write_head, write_rows,
 };
 use sparse_rows::Rows;
 use std::alloc::{AllocError, Global};
@@ -56,6 +57,19 @@ fn what_stands_behind_a_text_is_left(rt: HostRuntime) -> Result<(), Fail> {
     };
     assert_eq!(rt; error_behind(rt.alloc(), READ)?, Some(bad));
     Ok(())
+}
+
+// The matrix modulo p of a text.
+fn rows_modulo(alloc: Global, text: &[u8], p: &Modulus) -> Result<Rows, Fail>
+    ensures height { IfOk result (λ rows. rows.matrix.height ≤ LARGEST_TEXT_SIZE) }
+    ensures width { IfOk result (λ rows. rows.matrix.width ≤ LARGEST_TEXT_SIZE) }
+{
+    let mut source = SteadySource::new(Vec::from_slice(alloc, text)?, 512);
+    let mut reader = Reader::new(alloc, 1024)?;
+    match read_rows(&mut reader, alloc, &mut source, p) {
+        Ok(rows) => Ok(rows),
+        Err(_) => Err(Fail::new("not read")),
+    }
 }
 
 // The matrix modulo 7 of a text that is read in pieces.
@@ -115,21 +129,65 @@ fn what_is_written_reads_back(rt: HostRuntime) -> Result<(), Fail> {
 
 #[test]
 fn a_long_text_is_written_in_blocks(rt: HostRuntime) -> Result<(), Fail> {
-    let rows = Rows::identity(rt.alloc(), 3000, &Modulus::new(7))?;
+    let rows = Rows::identity(rt.alloc(), 6000, &Modulus::new(7))?;
     let mut sink = Lengths {
         count: 0,
-        least: 8192,
-        last: 8192,
+        least: 65536,
+        last: 65536,
     };
     let result = write_rows(&mut sink, &rows);
-    assert_eq!(rt;
-        (
-            result,
-            sink.least >= 4096,
-            4 <= sink.count && sink.count <= 9
-        ),
-        (Ok(()), true, true)
-    );
+    assert_eq!(rt; (result, sink.least > 28672, sink.count), (Ok(()), true, 3));
+    Ok(())
+}
+
+// Entries whose rows, columns and values have each number of digits, the least numbers and the largest.
+const NUMBERS: [(u32, u32, u64); 22] = [
+    (1, 1, 1),
+    (1, 9, 9),
+    (9, 10, 10),
+    (10, 99, 99),
+    (99, 100, 100),
+    (100, 999, 999),
+    (999, 1000, 1000),
+    (1000, 9999, 9999),
+    (9999, 10_000, 10_000),
+    (10_000, 99_999, 99_999),
+    (99_999, 100_000, 100_000),
+    (100_000, 999_999, 999_999),
+    (999_999, 1_000_000, 1_000_000),
+    (1_000_000, 9_999_999, 9_999_999),
+    (9_999_999, 10_000_000, 10_000_000),
+    (10_000_000, 99_999_999, 99_999_999),
+    (99_999_999, 100_000_000, 100_000_000),
+    (100_000_000, 999_999_999, 999_999_999),
+    (999_999_999, 1_000_000_000, 1_000_000_000),
+    (1_000_000_000, 2_147_483_647, 281_474_976_710_654),
+    (2_147_483_647, 1, 999_999_999_999),
+    (2_147_483_647, 2, 1_000_000_000_000),
+];
+
+// Their text, each number written by `itoa`.
+fn put_numbers<K: Sink>(out: &mut K) -> Result<(), WriteFault> {
+    write_head(out, 2_147_483_647, 2_147_483_647)?;
+    for (i, j, v) in &NUMBERS {
+        write_entry(out, *i, *j, *v)?;
+    }
+    write_end(out)
+}
+
+// Whether that text, read and written again, is the same.
+fn numbers_are_kept(alloc: Global) -> Result<bool, Fail> {
+    let mut first = MemorySink::new(alloc, 1024, 1024, Vec::new(alloc))?;
+    let mut second = MemorySink::new(alloc, 1024, 1024, Vec::new(alloc))?;
+    let put = put_numbers(&mut first);
+    let rows = rows_modulo(alloc, first.content(), &Modulus::new(281_474_976_710_655))?;
+    let written = write_rows(&mut second, &rows);
+    Ok(put.is_ok() && written.is_ok() && first.content() == second.content())
+}
+
+#[test]
+fn numbers_of_each_length_are_written(rt: HostRuntime) -> Result<(), Fail> {
+    assert_eq!(rt; numbers_are_kept(rt.alloc())?, true);
     Ok(())
 }
 

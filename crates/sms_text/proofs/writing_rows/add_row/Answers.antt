@@ -1,7 +1,7 @@
--- Line by line.
-use Rattle.std.proofs.Common.{length, refl, sym, ap, ◌∙◌}
+-- Some lines at a time.
+use Rattle.std.proofs.Common.{◌+◌, ◌-◌, refl, ◌∙◌, arith}
 use Rattle.std.proofs.lemmas.Result.{err_from_is_err_and}
-use Rattle.sms_text.proofs.WrittenRows.{added_nothing, added_more, added_fault, added_all, entry_lines_from, entry_lines_end, row_text_is}
+use Rattle.sms_text.proofs.WrittenRows.{added_nothing, added_more, added_fault, added_all, entry_lines_piece, entry_lines_end, row_text_is}
 use Rattle.sms_text.proofs.writing_rows.add_row.Goals as goal
 
 pub loop-k-init : goal.loop-k-init
@@ -9,15 +9,19 @@ loop-k-init g c = added_nothing _ _ _ _ refl
 
 pub loop-k-preserved : goal.loop-k-preserved
 loop-k-preserved g c =
-    added_more _ _ _ _ _ _ _ (entry_lines_from c.args.i c.loop-k.k c.cols-cols.result.now c.vals-vals.result.now c.loop-k-test.true (c.vals-vals.ensures.same_length ∙ sym (ap length c.cols-cols.ensures.support)))
-    c.loop-k.invariant c.in_ok-add_entry.ensures
+    let k = c.loop-k.k in
+    added_more _ _ _ _ _ _ _
+    (entry_lines_piece c.args.i k (k + c.min.result - k) _ c.cols-cols.result.now c.vals-vals.result.now _ (omega arith) (c.bytes.ensures.value ∙ c.fill.ensures))
+    c.loop-k.invariant c.in_ok-add.ensures.did
 
-pub returns-in_err-add_entry : goal.returns-in_err-add_entry
-returns-in_err-add_entry g c =
+pub returns-in_err-add : goal.returns-in_err-add
+returns-in_err-add g c =
+    let k = c.loop-k.k in
     let fault = err_from_is_err_and c.from_residual.result c.from_residual.ensures.1 in
     rw (fault.1, row_text_is _ _ _ c.cols-cols.result.now c.vals-vals.result.now c.requires.sound c.requires.row c.cols-cols.ensures.support c.vals-vals.ensures.values)
-    (added_fault _ _ _ _ _ _ _ _ (entry_lines_from c.args.i c.loop-k.k c.cols-cols.result.now c.vals-vals.result.now c.loop-k-test.true (c.vals-vals.ensures.same_length ∙ sym (ap length c.cols-cols.ensures.support)))
-    c.loop-k.invariant c.in_err-add_entry.ensures)
+    (added_fault _ _ _ _ _ _ _ _
+    (entry_lines_piece c.args.i k (k + c.min.result - k) (k + c.min.result) c.cols-cols.result.now c.vals-vals.result.now _ (omega arith) (c.bytes.ensures.value ∙ c.fill.ensures))
+    c.loop-k.invariant c.in_err-add.ensures.did)
 
 pub returns : goal.returns
 returns g c =

@@ -1,0 +1,12 @@
+use Rattle.std.proofs.Common.{◌≡◌, ◌+◌, ◌%◌, set, arith, length-set}
+use Rattle.std.proofs.lemmas.List.{set_comm, drop-set}
+use Rattle.sms_text.proofs.SixDigits.{pair_at}
+use Rattle.sms_text.proofs.six_digits.put_two.Goals as goal
+
+pub returns : goal.returns
+returns c =
+    let p = pair_at c.args.n c.requires.0 in
+    let at = c.args.at in
+    let bytes = c.args.bytes.now in
+    let e : at + 1 + 1 ≡ at + 2 = omega arith in
+    rw (p.0, p.1, set_comm bytes at (at + 1) _ _ (λ x. omega arith), drop-set (set bytes (at + 1) (48 + c.args.n % 10)) at _ (omega (arith, length-set bytes (at + 1) (48 + c.args.n % 10))), drop-set bytes (at + 1) _ (omega arith), e)
