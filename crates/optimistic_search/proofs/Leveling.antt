@@ -228,7 +228,7 @@ module _ (A : Matrix) (h : List Pair) (c : ℕ) (cols : List ℕ) (k : ℕ) (old
   higher : (e : ℕ) → slice_index old e ≤ slice_index new e
   higher e = elim (cases_eq e d) [ inl z ↦ omega (arith, ap (slice_index old) z, ap (slice_index new) z, higher_there) | inr ne ↦ omega (arith, others e ne) ]
 
-  pub partly_own : slice_index new c ≡ level
+  partly_own : slice_index new c ≡ level
   partly_own = elim (cases_eq d c) [
     | inl z ↦ omega (arith, ap (slice_index old) z, ap (slice_index new) z, same z, is)
     | inr ne ↦ others c (λ z. ne (sym z)) ∙ is

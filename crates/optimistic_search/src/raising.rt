@@ -1,11 +1,11 @@
 // Levels raised until they rise along each step.
-ghost use Rattle.std.specs.Prelude.{◌≡◌, ◌≢◌, ◌<◌, ◌≤◌, ◌+◌, ◌⊎◌, ℕ, [], length, slice_index};
+ghost use Rattle.std.specs.Prelude.{◌≡◌, ◌<◌, ◌≤◌, ◌⊎◌, ℕ, [], length};
 ghost use Rattle.std.specs.List.{Contains};
 ghost use Rattle.sparse_rows.specs.declared.rows.TheConstants.{LARGEST_SIZE};
 ghost use Rattle.pivot_table.specs.History.{Grown, HasCol};
 ghost use Rattle.optimistic_search.specs.Budget.{StaysUnbounded};
 ghost use Rattle.optimistic_search.specs.Levels.{AreLevels, AreRaised, AreRaisedBut};
-ghost use Rattle.optimistic_search.specs.Raising.{Stays, work};
+ghost use Rattle.optimistic_search.specs.Raising.{CanRaiseAbove, IsRaisedAbove, Stays, work};
 
 use crate::budget::Budget;
 use crate::indexed_pairs::IndexedPairs;
@@ -22,22 +22,12 @@ fn raise_column(
     level: u32,
     d: u32,
 )
-    requires width { marks.old.width ≡ pivots.now.rows.matrix.width }
-    requires long { length levels.old ≡ pivots.now.rows.matrix.width }
     requires inside { d < pivots.now.rows.matrix.width }
-    requires level { slice_index levels.old c ≡ level }
-    requires low { level < length pivots.now.pairs }
     requires few { length pivots.now.pairs ≤ LARGEST_SIZE }
-    requires fresh { ¬ Contains marks.old.list c }
-    ensures width { marks.new.width ≡ marks.old.width }
+    requires can { CanRaiseAbove pivots.now levels.old marks.old c level }
+    ensures can { CanRaiseAbove pivots.now levels.new marks.new c level }
+    ensures raised { IsRaisedAbove c level d levels.old levels.new }
     ensures kept { (e : ℕ) → Contains marks.old.list e → Contains marks.new.list e }
-    ensures fresh { ¬ Contains marks.new.list c }
-    ensures others { (e : ℕ) → e ≢ d → slice_index levels.new e ≡ slice_index levels.old e }
-    ensures long { length levels.new ≡ length levels.old }
-    ensures raised { slice_index levels.old d ≤ slice_index levels.new d }
-    ensures own { d ≢ c → level < slice_index levels.new d }
-    ensures same { d ≡ c → slice_index levels.new d ≡ slice_index levels.old d }
-    ensures by_one { Stays levels.old levels.new d ⊎ (slice_index levels.new d ≡ level + 1) }
     ensures marked { Stays levels.old levels.new d ⊎ (HasCol pivots.now.pairs d → Contains marks.new.list d) }
     ensures work { work pivots.now levels.new marks.new ≤ work pivots.now levels.old marks.old }
 {
