@@ -59,9 +59,16 @@ impl<L: Ledger> CountedMarks<L> {
     pub(crate) fn len(&self) -> usize
         ensures value { result ≡ length self.now.list }
         ensures bound { result ≤ self.now.width }
-        ensures distinct { AreDistinct self.now.list }
     {
         self.marks.len()
+    }
+
+    // The law of its marks, for proofs: it does nothing.
+    #[inline(always)]
+    pub(crate) fn is_sound(&self)
+        ensures { AreDistinct self.now.list }
+    {
+        self.marks.is_sound();
     }
 
     // The k-th marked column.
