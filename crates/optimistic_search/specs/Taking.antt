@@ -1,5 +1,5 @@
 -- What became of a row that a worker took up.
-use Rattle.std.specs.Prelude.{◌≡◌, ℕ, None, List, ◌++◌, length, take}
+use Rattle.std.specs.Prelude.{◌≡◌, ℕ, false, None, Some, List, ◌++◌, length, take}
 use Rattle.residue_words.specs.Matrix.{Matrix}
 use Rattle.residue_words.specs.declared.plain.Pair.{Pair}
 use Rattle.pivot_table.specs.History.{pair, Dead, LeastAlive}
@@ -8,6 +8,15 @@ use Rattle.pivot_table.specs.Board.{BoardState, SeatState, IsSeatOf}
 use Rattle.optimistic_search.specs.Walked.{Walked}
 use Rattle.optimistic_search.specs.declared.taken.Taken.{Taken}
 use Rattle.optimistic_search.specs.declared.taken.Taken.TheVariants as taken
+
+-- the seat and the walk are of this board and have the same list; the row is in hand, unpublished, and open
+pub record IsTrying (b : BoardState) (s : SeatState) (w : Walked) (r : ℕ) : Type 0 where
+  pub seat : IsSeatOf b s
+  pub rows : w.rows ≡ b.rows
+  pub pairs : w.pairs ≡ s.chair.seen
+  pub hand : s.chair.hand ≡ Some r
+  pub unpublished : s.chair.published ≡ false
+  pub current : w.current ≡ Some r
 
 -- the seat and the walk are of this board and have the same list; no row is in hand, and none is open
 pub record IsIdle (b : BoardState) (s : SeatState) (w : Walked) : Type 0 where

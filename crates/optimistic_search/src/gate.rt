@@ -22,6 +22,20 @@ pub trait Gate: Sync {
     fn at(&self, worker: u32, point: Point);
 }
 
+// A worker, and the gate that it calls.
+#[derive(Drop)]
+pub(crate) struct Caller<'g, G: Gate> {
+    pub(crate) gate: &'g G,
+    pub(crate) worker: u32,
+}
+
+impl<'g, G: Gate> Caller<'g, G> {
+    // Calls the gate at the point.
+    pub(crate) fn at(&self, point: Point) {
+        self.gate.at(self.worker, point);
+    }
+}
+
 /// The gate that does nothing.
 #[derive(Clone, Copy, Debug)]
 pub struct Open;

@@ -1,12 +1,11 @@
 // A worker's treatment of one row on a board that several workers share.
-ghost use Rattle.std.specs.Prelude.{◌≡◌, ◌<◌, ◌≤◌, ℕ, false, Some, None, IfSome, IfNone, length, min};
+ghost use Rattle.std.specs.Prelude.{◌≡◌, ◌<◌, ◌≤◌, IfSome, IfNone, length, min};
 ghost use Rattle.residue_words.specs.declared.plain.Pair.{Pair};
-ghost use Rattle.pivot_table.specs.Board.{IsSeatOf};
 ghost use Rattle.pivot_table.specs.Core.{seeing};
 ghost use Rattle.optimistic_search.specs.Cost.{TakesItsCost, TakesTheRise};
-ghost use Rattle.optimistic_search.specs.Taking.{IsIdle, LetsGo, NoneIfBusy, TakesRow, others_seen};
+ghost use Rattle.optimistic_search.specs.Taking.{IsIdle, IsTrying, LetsGo, NoneIfBusy, TakesRow, others_seen};
 
-use crate::gate::{Gate, Point};
+use crate::gate::{Caller, Gate, Point};
 use crate::steps::Steps;
 use crate::walk::Walk;
 use pivot_table::{Board, Outcome, Seat};
@@ -30,47 +29,36 @@ fn try_once<G: Gate, L: Ledger>(
     seat: &mut Seat,
     walk: &mut Walk<'_, L>,
     row: u32,
-    worker: u32,
-    gate: &G,
+    caller: &Caller<'_, G>,
     steps: &mut Steps<L>,
 ) -> Option<Taken>
-    requires seat { IsSeatOf board.now seat.old }
-    requires rows { walk.old.rows ≡ board.now.rows }
-    requires pairs { walk.old.pairs ≡ seat.old.chair.seen }
-    requires hand { seat.old.chair.hand ≡ Some row }
-    requires unpublished { seat.old.chair.published ≡ false }
-    requires current { walk.old.current ≡ Some row }
-    ensures seat { IsSeatOf board.now seat.new }
-    ensures rows { walk.new.rows ≡ board.now.rows }
-    ensures pairs { walk.new.pairs ≡ seat.new.chair.seen }
+    requires trying { IsTrying board.now seat.old walk.old row }
+    ensures idle { IfSome result (λ _. IsIdle board.now seat.new walk.new) }
     ensures ended { IfSome result (λ t. LetsGo board.now.rows.matrix row seat.old.chair t seat.new.chair) }
-    ensures closed { IfSome result (λ _. walk.new.current ≡ None) }
     ensures free { IfSome result (λ _. steps.new ≡ steps.old) }
+    ensures trying { IfNone result (IsTrying board.now seat.new walk.new row) }
     ensures seen { IfNone result ((q : Pair) × (seat.new.chair ≡ seeing seat.old.chair q)) }
     ensures short { IfNone result
-        (length seat.new.chair.seen ≤ min board.now.rows.matrix.height board.now.rows.matrix.width) }
-    ensures current { IfNone result (walk.new.current ≡ Some row) }
+        (length seat.old.chair.seen ≤ min board.now.rows.matrix.height board.now.rows.matrix.width) }
     ensures rise { IfNone result (TakesTheRise walk.old walk.new steps.old steps.new) }
 {
     let Some(col) = walk.least_alive() else {
         board.finish_row(seat);
         walk.end();
-        gate.at(worker, Point::Dropped(row));
+        caller.at(Point::Dropped(row));
         return Some(Taken::Dropped);
     };
-    gate.at(worker, Point::Before(row, col, seat.seen()));
+    caller.at(Point::Before(row, col, seat.seen()));
     match board.publish(seat, col) {
         Outcome::Published(place) => {
-            gate.at(worker, Point::Published(place));
+            caller.at(Point::Published(place));
             walk.extend(Pair { row, col }, steps);
             board.finish_row(seat);
             Some(Taken::Published(place))
         }
         Outcome::Newer(pair) => {
             walk.extend(pair, steps);
-            gate.at(worker, Point::Newer(pair));
-            // Tells that there are no more pairs than rows, or columns.
-            let _ = seat.seen();
+            caller.at(Point::Newer(pair));
             None
         }
     }
@@ -102,10 +90,11 @@ pub fn take_row<G: Gate, L: Ledger>(
     if !board.claim(seat, row) {
         return Taken::Busy;
     }
-    gate.at(worker, Point::Claimed(row));
+    let caller = Caller { gate, worker };
+    caller.at(Point::Claimed(row));
     walk.begin(row, steps);
     loop {
-        if let Some(taken) = try_once(board, seat, walk, row, worker, gate, steps) {
+        if let Some(taken) = try_once(board, seat, walk, row, &caller, steps) {
             return taken;
         }
     }
