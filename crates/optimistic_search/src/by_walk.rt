@@ -11,47 +11,10 @@ use crate::steps::Steps;
 use crate::walk::Walk;
 use pivot_table::Book;
 use residue_words::plain::Pair;
+use sparse_rows::Rows;
 use std::alloc::{AllocError, Global};
+use std::marker::Model;
 use std::sync::ledger::Ledger;
-
-// Tries a row: where it has an alive column, the row is appended with the least. A row that is in a pair, or all of whose entries
-// are in columns of pairs, takes no step.
-pub(crate) fn try_row<L: Ledger>(
-    book: &mut Book,
-    walk: &mut Walk<'_, L>,
-    row: u32,
-    steps: &mut Steps<L>,
-)
-    requires rows { walk.old.rows ≡ book.old.rows }
-    requires pairs { walk.old.pairs ≡ book.old.pairs }
-    requires closed { walk.old.current ≡ None }
-    requires inside { row < book.old.rows.matrix.height }
-    requires room { HasRoom book.old.rows.matrix book.old }
-    ensures book_rows { book.new.rows ≡ book.old.rows }
-    ensures walk_rows { walk.new.rows ≡ walk.old.rows }
-    ensures walk_pairs { walk.new.pairs ≡ book.new.pairs }
-    ensures closed { walk.new.current ≡ None }
-    ensures room { HasRoom book.old.rows.matrix book.new }
-    ensures tried { IsTried book.old.rows.matrix row book.old.pairs book.new.pairs }
-    ensures cost { TakesItsCost book.old.rows.matrix book.old.pairs row steps.old steps.new }
-    ensures known { HasRow book.old.pairs row → steps.new ≡ steps.old }
-    ensures covered { IsCovered book.old.rows.matrix book.old.pairs row → steps.new ≡ steps.old }
-{
-    if !walk.has_candidate(row) {
-        return;
-    }
-    // Tells that the book is grown, so that there is room.
-    let _ = book.pairs();
-    walk.begin(row, steps);
-    match walk.least_alive() {
-        Some(col) => {
-            let pair = Pair { row, col };
-            book.push(pair);
-            walk.extend(pair, steps);
-        }
-        None => walk.end(),
-    }
-}
 
 // Appends these pairs to a walk with the first of them.
 pub(crate) fn follow(walk: &mut RestingWalk, pairs: &[Pair], first: usize)
@@ -68,19 +31,92 @@ pub(crate) fn follow(walk: &mut RestingWalk, pairs: &[Pair], first: usize)
     }
 }
 
+// A book with a walk over its pairs, by which rows are tried. Contracts see the matrix and the pairs.
+#[derive(Drop)]
+pub(crate) struct Search<'a, L: Ledger> {
+    book: Book<'a>,
+    walk: Walk<'a, L>,
+}
+
+impl<'a, L: Ledger> Model for Search<'a, L> {
+    ghost use Rattle.optimistic_search.specs.Indexed.{Indexed};
+    ghost use Rattle.optimistic_search.specs.Search.{IsBetweenRows};
+
+    ghost Value = { Indexed };
+
+    ghost view = { λ s. record { rows = s.book.rows; pairs = s.book.pairs } };
+
+    ghost invariant = { λ s. IsBetweenRows s.book s.walk };
+}
+
+impl<'a, L: Ledger> Search<'a, L> {
+    // Begins with a book that has room, and a walk over the first of its pairs.
+    pub(crate) fn of(book: Book<'a>, rest: RestingWalk<'a>, first: usize) -> Search<'a, L>
+        requires room { HasRoom book.rows.matrix book }
+        requires rows { rest.rows ≡ book.rows }
+        requires first { first ≤ length book.pairs }
+        requires pairs { rest.pairs ≡ take first book.pairs }
+        requires closed { rest.current ≡ None }
+        ensures rows { result.rows ≡ book.entry.rows }
+        ensures pairs { result.pairs ≡ book.entry.pairs }
+    {
+        let mut rest = rest;
+        follow(&mut rest, book.pairs(), first);
+        Search {
+            book,
+            walk: Walk::of(rest),
+        }
+    }
+
+    // The matrix.
+    pub(crate) fn rows(&self) -> &'a Rows
+        ensures { result.now ≡ self.now.rows }
+    {
+        self.book.rows()
+    }
+
+    // The book, with what was found.
+    pub(crate) fn found(self) -> Book<'a>
+        ensures rows { result.rows ≡ self.entry.rows }
+        ensures pairs { result.pairs ≡ self.entry.pairs }
+    {
+        self.book
+    }
+
+    // Tries a row: where it has an alive column, the row is appended with the least. A row that is in a pair, or all of whose
+    // entries are in columns of pairs, takes no step.
+    pub(crate) fn try_row(&mut self, row: u32, steps: &mut Steps<L>)
+        requires { row < self.old.rows.matrix.height }
+        ensures rows { self.new.rows ≡ self.old.rows }
+        ensures tried { IsTried self.old.rows.matrix row self.old.pairs self.new.pairs }
+        ensures cost { TakesItsCost self.old.rows.matrix self.old.pairs row steps.old steps.new }
+        ensures known { HasRow self.old.pairs row → steps.new ≡ steps.old }
+        ensures covered { IsCovered self.old.rows.matrix self.old.pairs row → steps.new ≡ steps.old }
+    {
+        if !self.walk.has_candidate(row) {
+            return;
+        }
+        self.walk.begin(row, steps);
+        match self.walk.least_alive() {
+            Some(col) => {
+                let pair = Pair { row, col };
+                self.book.push(pair);
+                self.walk.extend(pair, steps);
+            }
+            None => self.walk.end(),
+        }
+    }
+}
+
 // Tries each row in ascending order.
-fn try_all<L: Ledger>(book: &mut Book, walk: &mut Walk<'_, L>, steps: &mut Steps<L>)
-    requires rows { walk.old.rows ≡ book.old.rows }
-    requires pairs { walk.old.pairs ≡ book.old.pairs }
-    requires closed { walk.old.current ≡ None }
-    requires room { HasRoom book.old.rows.matrix book.old }
-    ensures rows { book.new.rows ≡ book.old.rows }
-    ensures greedy { IsGreedy book.old.rows.matrix book.old.pairs book.new.pairs }
-    ensures cost { TakesCostOfRows book.old.rows.matrix book.new.pairs book.old.rows.matrix.height
+fn try_all<L: Ledger>(search: &mut Search<'_, L>, steps: &mut Steps<L>)
+    ensures rows { search.new.rows ≡ search.old.rows }
+    ensures greedy { IsGreedy search.old.rows.matrix search.old.pairs search.new.pairs }
+    ensures cost { TakesCostOfRows search.old.rows.matrix search.new.pairs search.old.rows.matrix.height
         steps.old steps.new }
 {
-    for row in 0..book.rows().height() {
-        try_row(book, walk, row, steps);
+    for row in 0..search.rows().height() {
+        search.try_row(row, steps);
     }
 }
 
@@ -99,11 +135,10 @@ fn search_with<'a, L: Ledger>(
     let rows = book.rows();
     let many = rows.height().min(rows.width()) as usize;
     book.reserve(many.saturating_sub(book.pairs().len()))?;
-    let mut rest = RestingWalk::new(alloc, rows)?;
-    follow(&mut rest, book.pairs(), 0);
-    let mut walk = Walk::<L>::of(rest);
-    try_all(&mut book, &mut walk, steps);
-    Ok(book)
+    let rest = RestingWalk::new(alloc, rows)?;
+    let mut search = Search::<L>::of(book, rest, 0);
+    try_all(&mut search, steps);
+    Ok(search.found())
 }
 
 /// What `search` with one worker does, by a walk from each row alone: the rows are tried in ascending order, and each that has an

@@ -1,17 +1,14 @@
 // The search of several workers at once.
 ghost use Rattle.std.specs.Prelude.{◌≡◌, ◌<◌, ◌≤◌, ℕ, None, length, take, vec_len, All, IfOk};
 ghost use Rattle.pivot_table.specs.Board.{IsSeatOf};
-ghost use Rattle.pivot_table.specs.Book.{HasRoom};
-ghost use Rattle.pivot_table.specs.Closing.{IsDone};
 ghost use Rattle.pivot_table.specs.History.{Maximal, StandsOrIsDead, StartsWith};
 ghost use Rattle.optimistic_search.specs.Versions.{AreStartsOf};
 ghost use Rattle.optimistic_search.specs.Workers.{DoneAreSettled, IsTeamOf, IsWorkerOf, with_parted};
 
-use crate::by_walk::{follow, try_row};
+use crate::by_walk::{Search, follow};
 use crate::gate::Gate;
 use crate::resting_walk::RestingWalk;
 use crate::steps::Steps;
-use crate::walk::Walk;
 use crate::worker::{Worker, first_row};
 use pivot_table::{Board, Book, Closed, Marks, Seat, Starts};
 use std::alloc::{AllocError, Global};
@@ -131,47 +128,34 @@ fn join_all(board: &Board<'_>, seat: &mut Seat, workers: Vec<Worker<'_>>) -> u64
 
 // Tries a row, unless it is done.
 fn try_unless_done<L: Ledger>(
-    book: &mut Book,
-    walk: &mut Walk<'_, L>,
+    search: &mut Search<'_, L>,
     row: u32,
     done: &Marks,
     steps: &mut Steps<L>,
 )
-    requires rows { walk.old.rows ≡ book.old.rows }
-    requires pairs { walk.old.pairs ≡ book.old.pairs }
-    requires closed { walk.old.current ≡ None }
-    requires inside { row < book.old.rows.matrix.height }
-    requires tall { length done.now ≡ book.old.rows.matrix.height }
-    requires room { HasRoom book.old.rows.matrix book.old }
-    requires done { DoneAreSettled book.old.rows.matrix book.old.pairs done.now }
-    ensures book_rows { book.new.rows ≡ book.old.rows }
-    ensures walk_rows { walk.new.rows ≡ walk.old.rows }
-    ensures walk_pairs { walk.new.pairs ≡ book.new.pairs }
-    ensures closed { walk.new.current ≡ None }
-    ensures room { HasRoom book.old.rows.matrix book.new }
-    ensures begins { StartsWith book.new.pairs book.old.pairs }
-    ensures settled { StandsOrIsDead book.old.rows.matrix book.new.pairs row }
+    requires inside { row < search.old.rows.matrix.height }
+    requires tall { length done.now ≡ search.old.rows.matrix.height }
+    requires done { DoneAreSettled search.old.rows.matrix search.old.pairs done.now }
+    ensures rows { search.new.rows ≡ search.old.rows }
+    ensures begins { StartsWith search.new.pairs search.old.pairs }
+    ensures settled { StandsOrIsDead search.old.rows.matrix search.new.pairs row }
 {
     if done.is_done(row) {
         return;
     }
-    try_row(book, walk, row, steps);
+    search.try_row(row, steps);
 }
 
 // Tries each row that isn't done, in ascending order.
-fn sweep<L: Ledger>(book: &mut Book, walk: &mut Walk<'_, L>, done: &Marks, steps: &mut Steps<L>)
-    requires rows { walk.old.rows ≡ book.old.rows }
-    requires pairs { walk.old.pairs ≡ book.old.pairs }
-    requires closed { walk.old.current ≡ None }
-    requires tall { length done.now ≡ book.old.rows.matrix.height }
-    requires room { HasRoom book.old.rows.matrix book.old }
-    requires done { DoneAreSettled book.old.rows.matrix book.old.pairs done.now }
-    ensures rows { book.new.rows ≡ book.old.rows }
-    ensures begins { StartsWith book.new.pairs book.old.pairs }
-    ensures maximal { Maximal book.old.rows.matrix book.new.pairs }
+fn sweep<L: Ledger>(search: &mut Search<'_, L>, done: &Marks, steps: &mut Steps<L>)
+    requires tall { length done.now ≡ search.old.rows.matrix.height }
+    requires done { DoneAreSettled search.old.rows.matrix search.old.pairs done.now }
+    ensures rows { search.new.rows ≡ search.old.rows }
+    ensures begins { StartsWith search.new.pairs search.old.pairs }
+    ensures maximal { Maximal search.old.rows.matrix search.new.pairs }
 {
-    for row in 0..book.rows().height() {
-        try_unless_done(book, walk, row, done, steps);
+    for row in 0..search.rows().height() {
+        try_unless_done(search, row, done, steps);
     }
 }
 
@@ -198,7 +182,7 @@ fn search_with<'a, R: Threads + Sync, G: Gate, L: Ledger>(
     let Team {
         board,
         mut seat,
-        mut rest,
+        rest,
         workers: mut team,
     } = seated(alloc, &book, workers)?;
     run_all(rt, &board, gate, team.as_mut_slice());
@@ -208,12 +192,10 @@ fn search_with<'a, R: Threads + Sync, G: Gate, L: Ledger>(
         done,
         starts,
     } = board.close(seat);
-    let mut closed = closed;
-    follow(&mut rest, closed.pairs(), first);
-    let mut walk = Walk::<L>::of(rest);
+    let mut search = Search::<L>::of(closed, rest, first);
     let mut steps = Steps::<L>::new(blank);
-    sweep(&mut closed, &mut walk, &done, &mut steps);
-    Ok((closed, starts, taken.wrapping_add(steps.count())))
+    sweep(&mut search, &done, &mut steps);
+    Ok((search.found(), starts, taken.wrapping_add(steps.count())))
 }
 
 // Grows the book by several workers, and tells the starts of what they published and how many steps were taken, modulo 2^64.

@@ -5,8 +5,8 @@ use Rattle.optimistic_search.proofs.together.try_unless_done.Goals as goal
 
 pub returns-clause-begins : goal.returns-clause-begins
 returns-clause-begins g c =
-    let h = c.args.book.now.pairs in
-    tried_starts c.args.book.now.rows.matrix c.args.row h h c.try_row.new.book.pairs c.try_row.ensures.tried ([], sym (append-nil h))
+    let h = c.args.search.now.pairs in
+    tried_starts c.args.search.now.rows.matrix c.args.row h h c.try_row.new.self.pairs c.try_row.ensures.tried ([], sym (append-nil h))
 
 pub returns-clause-settled : goal.returns-clause-settled
-returns-clause-settled g c = tried_settled c.args.book.now.rows.matrix c.args.row c.args.book.now.pairs c.try_row.new.book.pairs c.try_row.ensures.tried
+returns-clause-settled g c = tried_settled c.args.search.now.rows.matrix c.args.row c.args.search.now.pairs c.try_row.new.self.pairs c.try_row.ensures.tried
