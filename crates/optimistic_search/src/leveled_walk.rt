@@ -3,8 +3,8 @@ ghost use Rattle.std.specs.Prelude.{◌≡◌, ◌<◌, ◌≤◌, ◌++◌, ◌
 ghost use Rattle.std.specs.List.{Contains};
 ghost use Rattle.pivot_table.specs.History.{Alive, Dead, Grown, HasCol, HasRow, LeastAlive, row_weight};
 ghost use Rattle.optimistic_search.specs.Budget.{StaysUnbounded};
-ghost use Rattle.optimistic_search.specs.Indexed.{IsAliveAt, LeadsTo, support_of};
-ghost use Rattle.optimistic_search.specs.Levels.{AreLevels, FreeAreLow, IsLevel, IsLow, IsOut, LowPivotalAreMarked, LowAreTaken};
+ghost use Rattle.optimistic_search.specs.Indexed.{IsAliveAt, LeadsTo};
+ghost use Rattle.optimistic_search.specs.Levels.{AreLevels, AreLimitsOf, BeginsLow, FreeAreLow, IsLow, IsOut, LowPivotalAreMarked, LowAreTaken, limits};
 ghost use Rattle.sparse_rows.specs.Rows.{AreBelow};
 ghost use Rattle.optimistic_search.specs.MarkedColumns.{AllBetween, Grows};
 ghost use Rattle.optimistic_search.specs.Reached.{AreReached};
@@ -180,43 +180,45 @@ fn pass_over(
     at
 }
 
-// Takes up the marked columns until nothing is left to take up, no candidate before place `sure` is left, or the steps are spent.
-// Answers the place of the first candidate, or `sure`.
+// Where a walk stops: above this level, and at this place of the row's support if no candidate stands before it.
+#[derive(Clone, Copy)]
+struct Stop {
+    level: u32,
+    place: usize,
+}
+
+// Takes up the marked columns until nothing is left to take up, no candidate before the walk's stop is left, or the steps are spent.
+// Answers the place of the first candidate, or that of the stop.
 fn go_on(
     pivots: &IndexedPairs,
     levels: &Levels,
     marks: &mut MarkedColumns,
     row: u32,
-    bound: u32,
-    sure: usize,
+    stop: Stop,
     budget: &mut Budget,
 ) -> usize
     requires inside { row < pivots.now.rows.matrix.height }
-    requires width { marks.old.width ≡ pivots.now.rows.matrix.width }
-    requires long { length levels.now ≡ pivots.now.rows.matrix.width }
-    requires sure { sure ≤ row_weight pivots.now.rows.matrix row }
     requires fresh { ¬ HasRow pivots.now.pairs row }
-    requires rises { IsLevel pivots.now.rows.matrix pivots.now.pairs (slice_index levels.now) }
-    requires low { FreeAreLow pivots.now.pairs (IsLow levels.now bound) (support_of pivots.now row) sure }
-    requires reached { AreReached pivots.now.rows.matrix pivots.now.pairs row marks.old.list }
-    requires begun { LowPivotalAreMarked pivots.now row (IsLow levels.now bound) marks.old.list }
+    requires width { marks.old.width ≡ pivots.now.rows.matrix.width }
+    requires stop { AreLimitsOf pivots.now row (limits levels.now stop.level stop.place) }
+    requires begins { BeginsLow pivots.now row (IsLow levels.now stop.level) marks.old.list }
     ensures width { marks.new.width ≡ marks.old.width }
     ensures before { (k : ℕ) → k < result → ¬ IsAliveAt pivots.now row k }
-    ensures there { 0 < budget.new → result < sure → IsAliveAt pivots.now row result }
-    ensures within { result ≤ sure }
+    ensures there { 0 < budget.new → result < stop.place → IsAliveAt pivots.now row result }
+    ensures within { result ≤ stop.place }
     ensures unbounded { StaysUnbounded budget.old budget.new }
 {
     let cols = pivots.rows().cols(row);
-    let mut passed = pass_over(pivots, marks, cols, 0, sure);
+    let mut passed = pass_over(pivots, marks, cols, 0, stop.place);
     let mut taken = 0;
-    while passed < sure && taken < marks.len() {
+    while passed < stop.place && taken < marks.len() {
         if budget.is_spent() {
             return passed;
         }
         let c = marks.at(taken);
-        take_up(pivots, levels, marks, c, bound, budget);
+        take_up(pivots, levels, marks, c, stop.level, budget);
         taken += 1;
-        passed = pass_over(pivots, marks, cols, passed, sure);
+        passed = pass_over(pivots, marks, cols, passed, stop.place);
     }
     passed
 }
@@ -242,10 +244,10 @@ fn first_alive(
     ensures unbounded { StaysUnbounded budget.old budget.new }
 {
     let cols = pivots.rows().cols(row);
-    let sure = sure_place(pivots, levels, cols);
-    let bound = highest(pivots, levels, cols, sure);
-    begin_at(pivots, levels, marks, row, bound);
-    go_on(pivots, levels, marks, row, bound, sure, budget)
+    let place = sure_place(pivots, levels, cols);
+    let level = highest(pivots, levels, cols, place);
+    begin_at(pivots, levels, marks, row, level);
+    go_on(pivots, levels, marks, row, Stop { level, place }, budget)
 }
 
 // Pairs of a matrix, with the level of each column: the longest path of steps that leads to it. A column that no step leads to is

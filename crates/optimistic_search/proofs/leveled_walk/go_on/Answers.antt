@@ -18,8 +18,8 @@ loop-passed-init c =
     let cols_are : c.cols-cols.result.now ≡ support (row A r) = c.cols-cols.ensures.support ∙ ap (λ (m : ResidueMatrix). support (row m.matrix r)) c.rows.ensures.value in (
       refl,
       record {
-        reached = c.requires.reached;
-        begun = c.requires.begun;
+        reached = c.requires.begins.reached;
+        begun = c.requires.begins.begun;
         goes = λ k s d l. absurd (omega arith);
         listed = omega arith;
         passes = λ k l. subst (λ xs. Contains marked (slice_index xs k) ⊎ HasCol h (slice_index xs k)) cols_are (over.ensures.passed k (omega arith) l);
@@ -49,11 +49,11 @@ returns-else-taken-len-clause-there c = λ left l.
     let A = c.args.pivots.now.rows.matrix in
     let h = c.args.pivots.now.pairs in
     let w = c.loop-passed.invariant.1 in
-    let to = limits c.args.levels.now c.args.bound c.args.sure in
+    let to = limits c.args.levels.now c.args.stop.level c.args.stop.place in
     let marked = c.loop-passed.marks.list in
     let e : c.loop-passed.taken ≡ length marked = omega (arith, w.listed, c.len.ensures.value, c.if-taken-len.false) in
-    bounded_alive c.requires.rises (subst (λ n. IsBoundedWalk A h c.args.row to (progress marked n c.loop-passed.passed)) e w)
-    c.rows.ensures.sound c.requires.inside c.requires.fresh l c.requires.sure c.requires.low
+    bounded_alive c.requires.stop.rises (subst (λ n. IsBoundedWalk A h c.args.row to (progress marked n c.loop-passed.passed)) e w)
+    c.rows.ensures.sound c.requires.inside c.requires.fresh l c.requires.stop.within c.requires.stop.low
 
 pub returns-else-taken-len-clause-before : goal.returns-else-taken-len-clause-before
 returns-else-taken-len-clause-before c = passed_dead c.loop-passed.invariant.1

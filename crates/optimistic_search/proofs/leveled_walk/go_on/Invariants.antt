@@ -6,7 +6,7 @@ use Rattle.optimistic_search.proofs.leveled_walk.go_on.Given as goal
 
 abbrev pub invariant-loop-passed : goal.invariant-loop-passed
 invariant-loop-passed l = (l.marks.width ≡ l.fn.marks.width) × IsBoundedWalk l.pivots.rows.matrix l.pivots.pairs l.row
-    (limits l.levels l.bound l.sure) (progress l.marks.list l.taken l.passed)
+    (limits l.levels l.stop.level l.stop.place) (progress l.marks.list l.taken l.passed)
     × StaysUnbounded l.fn.budget l.budget
 
 abbrev pub decreases-loop-passed : goal.decreases-loop-passed
