@@ -1,41 +1,16 @@
 // The search of one worker: the rows in ascending order, by levels.
-ghost use Rattle.std.specs.Prelude.{◌≡◌, ◌<◌, [], IsTrue, IfOk, IfSome};
+ghost use Rattle.std.specs.Prelude.{◌≡◌, ◌<◌, [], false, IsTrue, IfOk, IfSome};
 ghost use Rattle.pivot_table.specs.Greedy.{IsGreedy, IsTried};
 ghost use Rattle.pivot_table.specs.History.{Grown, StartsWith};
 ghost use Rattle.optimistic_search.specs.Budget.{IsUnbounded, StaysUnbounded};
-ghost use Rattle.pivot_table.specs.Book.{HasRoom};
 ghost use Rattle.optimistic_search.specs.Search.{IsGreedyFrom};
 
 use crate::leveled_walk::LeveledWalk;
 use pivot_table::Book;
 use residue_words::plain::Pair;
+use sparse_rows::Rows;
 use std::alloc::{AllocError, Global};
-
-// Tries a row: where it has an alive column, the row is appended with the least, unless the steps are spent.
-fn try_row(book: &mut Book, walk: &mut LeveledWalk, row: u32)
-    requires rows { walk.old.rows ≡ book.old.rows }
-    requires pairs { walk.old.pairs ≡ book.old.pairs }
-    requires inside { row < book.old.rows.matrix.height }
-    requires room { HasRoom book.old.rows.matrix book.old }
-    requires left { 0 < walk.old.left }
-    ensures book_rows { book.new.rows ≡ book.old.rows }
-    ensures walk_rows { walk.new.rows ≡ walk.old.rows }
-    ensures walk_pairs { walk.new.pairs ≡ book.new.pairs }
-    ensures room { HasRoom book.old.rows.matrix book.new }
-    ensures tried { 0 < walk.new.left → IsTried book.old.rows.matrix row book.old.pairs book.new.pairs }
-    ensures unbounded { StaysUnbounded walk.old.left walk.new.left }
-{
-    // Tells that the book is grown, so that there is room.
-    let _ = book.pairs();
-    match walk.least_alive(row) {
-        Some(col) => {
-            let pair = Pair { row, col };
-            book.push(pair);
-            walk.push(pair);
-        }
-        None => {}
-    }
-}
+use std::marker::Model;
 
 // Appends these pairs to a walk with none.
 fn follow(walk: &mut LeveledWalk, pairs: &[Pair])
@@ -50,27 +25,77 @@ fn follow(walk: &mut LeveledWalk, pairs: &[Pair])
     }
 }
 
+// A book with a walk over its pairs by levels, by which rows are tried. Contracts see what they see of the walk.
+#[derive(Drop)]
+struct LeveledSearch<'a> {
+    book: Book<'a>,
+    walk: LeveledWalk<'a>,
+}
+
+impl<'a> Model for LeveledSearch<'a> {
+    ghost use Rattle.optimistic_search.specs.Levels.{Leveled};
+    ghost use Rattle.optimistic_search.specs.Search.{IsLeveled};
+
+    ghost Value = { Leveled };
+
+    ghost view = { λ s. record { rows = s.book.rows; pairs = s.book.pairs; left = s.walk.left } };
+
+    ghost invariant = { λ s. IsLeveled s.book s.walk };
+}
+
+impl<'a> LeveledSearch<'a> {
+    // The matrix.
+    fn rows(&self) -> &'a Rows
+        ensures { result.now ≡ self.now.rows }
+    {
+        self.book.rows()
+    }
+
+    // Whether more steps were taken than the walk may.
+    fn is_spent(&self) -> bool
+        ensures yes { IsTrue result → self.now.left ≡ 0 }
+        ensures no { result ≡ false → 0 < self.now.left }
+    {
+        self.walk.is_spent()
+    }
+
+    // Tries a row: where it has an alive column, the row is appended with the least, unless the steps are spent.
+    fn try_row(&mut self, row: u32)
+        requires inside { row < self.old.rows.matrix.height }
+        requires left { 0 < self.old.left }
+        ensures rows { self.new.rows ≡ self.old.rows }
+        ensures tried { 0 < self.new.left → IsTried self.old.rows.matrix row self.old.pairs self.new.pairs }
+        ensures unbounded { StaysUnbounded self.old.left self.new.left }
+    {
+        match self.walk.least_alive(row) {
+            Some(col) => {
+                let pair = Pair { row, col };
+                self.book.push(pair);
+                self.walk.push(pair);
+            }
+            None => {}
+        }
+    }
+}
+
 // Tries each row that has an entry, in ascending order, until the steps are spent; the others are dead. Tells whether it tried all.
-fn try_all(book: &mut Book, walk: &mut LeveledWalk) -> bool
-    requires rows { walk.old.rows ≡ book.old.rows }
-    requires pairs { walk.old.pairs ≡ book.old.pairs }
-    requires room { HasRoom book.old.rows.matrix book.old }
-    ensures rows { book.new.rows ≡ book.old.rows }
-    ensures greedy { IsTrue result → IsGreedy book.old.rows.matrix book.old.pairs book.new.pairs }
-    ensures unbounded { IsUnbounded walk.old.left → IsTrue result }
+fn try_all(search: &mut LeveledSearch) -> bool
+    ensures rows { search.new.rows ≡ search.old.rows }
+    ensures greedy { IsTrue result → IsGreedy search.old.rows.matrix search.old.pairs search.new.pairs }
+    ensures unbounded { IsUnbounded search.old.left → IsTrue result }
 {
-    let rows = book.rows();
+    let rows = search.rows();
     // The call tells how high a matrix is: the next row's number is no overflow.
     rows.is_sound();
     let mut from = 0;
     while let Some(row) = rows.next_filled(from) {
-        if walk.is_spent() {
+        if search.is_spent() {
             return false;
         }
-        try_row(book, walk, row);
+        search.try_row(row);
         from = row + 1;
     }
-    !walk.is_spent()
+    !search.is_spent()
 }
 
 // Tries each row in ascending order, and appends those that have an alive column with the least, until more than so many steps were
@@ -87,8 +112,9 @@ fn search_by_levels(alloc: Global, book: Book, most: u64) -> Result<(Book, bool)
     book.reserve(many.saturating_sub(book.pairs().len()))?;
     let mut walk = LeveledWalk::new(alloc, rows, most)?;
     follow(&mut walk, book.pairs());
-    let whole = try_all(&mut book, &mut walk);
-    Ok((book, whole))
+    let mut search = LeveledSearch { book, walk };
+    let whole = try_all(&mut search);
+    Ok((search.book, whole))
 }
 
 // Tries each row in ascending order, and appends those that have an alive column with the least. It takes all memory first.

@@ -1,5 +1,5 @@
 // Pairs of a matrix with an index by columns.
-ghost use Rattle.std.specs.Prelude.{◌≡◌, ◌<◌, ◌≤◌, ◌++◌, ◌∷◌, [], ℕ, length, IfOk, IsTrue, MatchOption, false};
+ghost use Rattle.std.specs.Prelude.{◌≡◌, ◌<◌, ◌++◌, ◌∷◌, [], IfOk, IsTrue, MatchOption, false};
 ghost use Rattle.std.specs.List.{Contains};
 ghost use Rattle.residue_words.specs.Matrix.{IsMatrix};
 ghost use Rattle.pivot_table.specs.History.{pair, Dead, HasRow, HasCol, Nonzero};

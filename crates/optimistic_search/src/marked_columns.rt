@@ -1,5 +1,5 @@
 // Marked columns.
-ghost use Rattle.std.specs.Prelude.{◌≡◌, ◌<◌, ◌≤◌, ◌+◌, ◌++◌, ◌∷◌, [], length, slice_index, ℕ, IsTrue, ◌↔◌, IfOk, MatchOption};
+ghost use Rattle.std.specs.Prelude.{◌≡◌, ◌<◌, ◌≤◌, ◌+◌, ◌++◌, ◌∷◌, [], length, slice_index, IsTrue, ◌↔◌, IfOk, MatchOption};
 ghost use Rattle.std.specs.List.{Contains};
 ghost use Rattle.sparse_rows.specs.Rows.{AreBelow};
 ghost use Rattle.optimistic_search.specs.MarkedColumns.{AllBetween, AreDistinct, AreNone, Grows, LosesLast};

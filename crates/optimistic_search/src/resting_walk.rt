@@ -1,7 +1,6 @@
 // A walk that no ledger counts yet.
 ghost use Rattle.std.specs.Prelude.{◌≡◌, ◌++◌, ◌∷◌, [], None, IfOk};
 ghost use Rattle.pivot_table.specs.History.{HasCol, HasRow, Nonzero};
-ghost use Rattle.optimistic_search.specs.Walked.{extended};
 
 use crate::indexed_pairs::IndexedPairs;
 use crate::marked_columns::MarkedColumns;

@@ -1,5 +1,5 @@
 // The search of several workers at once.
-ghost use Rattle.std.specs.Prelude.{◌≡◌, ◌<◌, ◌≤◌, ℕ, None, length, take, vec_len, All, IfOk};
+ghost use Rattle.std.specs.Prelude.{◌≡◌, ◌<◌, None, length, All, IfOk};
 ghost use Rattle.pivot_table.specs.Board.{IsSeatOf};
 ghost use Rattle.pivot_table.specs.History.{Maximal, StandsOrIsDead, StartsWith};
 ghost use Rattle.optimistic_search.specs.Versions.{AreStartsOf};

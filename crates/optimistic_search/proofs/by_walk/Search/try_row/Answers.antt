@@ -1,4 +1,4 @@
-use Rattle.std.proofs.Common.{ℕ, List, ◌≡◌, ◌+◌, ◌++◌, ◌∷◌, [], length, Some, None, subst, sym, ap, ◌∙◌, refl, arith}
+use Rattle.std.proofs.Common.{ℕ, ◌≡◌, ◌+◌, ◌++◌, ◌∷◌, [], length, Some, None, subst, sym, ap, ◌∙◌, refl, arith}
 use Rattle.std.proofs.lemmas.List.{length_push}
 use Rattle.residue_words.specs.declared.plain.Pair.{Pair}
 use Rattle.sparse_rows.specs.Rows.{ResidueMatrix}
