@@ -2,6 +2,7 @@
 ghost use Rattle.dense_finish.specs.Block.{AreVectors, block_row, entry_of};
 ghost use Rattle.dense_finish.specs.Products.{AddsToEach, AreSmall, IsTile, IsWritten, columns_of, products_of, run_of, tile_products};
 ghost use Rattle.dense_finish.specs.declared.panel.TheConstants.{PANEL};
+ghost use Rattle.dense_finish.specs.declared.products.TheConstants.{BLOCK_ROWS, TILE_COLUMNS};
 ghost use Rattle.residue_words.specs.declared.shoup.TheConstants.{LANE_BOUND};
 ghost use Rattle.std.specs.Prelude.{◌≡◌, ◌<◌, ◌≤◌, ◌+◌, ◌-◌, ◌*◌, ◌%◌, ◌/◌, ℕ, length, replicate, slice_index};
 
@@ -235,41 +236,57 @@ fn add_run(
     }
 }
 
-// Makes the entries those of the rows of a block at the eight columns from `start` on, with the sums of the
-// products with a tile of so many rows added, as many products at a time as a sum takes. The rows are read before
-// any product, all at once: they lie far apart in memory, and a processor waits for many of them at a time.
+// Coefficients of the rows of a block with a tile of so many rows of residues, and what makes residues of the sums
+// of their products.
+#[derive(Clone, Copy)]
+struct TileProduct<'a> {
+    by: &'a [[u64; PANEL]; BLOCK_ROWS],
+    tile: &'a [[u32; TILE_COLUMNS]; PANEL],
+    height: usize,
+    folding: &'a Folding,
+    ghost high: { height ≤ PANEL },
+    ghost long: { length tile.now ≡ PANEL },
+    ghost residues: { (k l : ℕ) → k < height → l < TILE_COLUMNS → entry_of tile.now k l < folding.now.p },
+    ghost coefficients: { (t k : ℕ) → t < BLOCK_ROWS → entry_of by.now t k < folding.now.p },
+}
+
+// Makes the entries those of the rows of a block at the eight columns from `start` on, with the sums of the products
+// with the tile added, as many products at a time as a sum takes. The rows are read before any product, all at once:
+// they lie far apart in memory, and a processor waits for many of them at a time.
 fn fill_entries(
     entries: &mut [[u32; TILE_COLUMNS]; PANEL],
     rows: &[Dense<u32>],
-    by: &[[u64; PANEL]; BLOCK_ROWS],
-    tile: &[[u32; TILE_COLUMNS]; PANEL],
-    height: usize,
     start: usize,
-    folding: &Folding,
+    product: &TileProduct,
 )
     requires entries { length entries.old ≡ PANEL }
-    requires left { (t l : ℕ) → t < BLOCK_ROWS → l < TILE_COLUMNS → entry_of entries.old t l < folding.now.p }
+    requires left { (t l : ℕ) → t < BLOCK_ROWS → l < TILE_COLUMNS
+        → entry_of entries.old t l < product.now.folding.now.p }
     requires few { length rows.now ≤ BLOCK_ROWS }
     requires wide { (t : ℕ) → t < length rows.now → start + TILE_COLUMNS ≤ length (block_row rows.now t) }
     requires residues { (t l : ℕ) → t < length rows.now → l < TILE_COLUMNS
-        → entry_of rows.now t (start + l) < folding.now.p }
-    requires high { height ≤ PANEL }
-    requires long { length tile.now ≡ PANEL }
-    requires tile { (k l : ℕ) → k < height → l < TILE_COLUMNS → entry_of tile.now k l < folding.now.p }
-    requires coefficients { (t k : ℕ) → t < BLOCK_ROWS → entry_of by.now t k < folding.now.p }
+        → entry_of rows.now t (start + l) < product.now.folding.now.p }
     ensures long { length entries.new ≡ PANEL }
     ensures residues { (t l : ℕ) → t < BLOCK_ROWS → l < TILE_COLUMNS
-        → entry_of entries.new t l < folding.now.p }
+        → entry_of entries.new t l < product.now.folding.now.p }
     ensures added { (t l : ℕ) → t < length rows.now → l < TILE_COLUMNS → entry_of entries.new t l
-        ≡ (entry_of rows.now t (start + l) + products_of by.now tile.now (run_of 0 height) t l)
-        % folding.now.p }
+        ≡ (entry_of rows.now t (start + l)
+        + products_of product.now.by.now product.now.tile.now (run_of 0 product.now.height) t l)
+        % product.now.folding.now.p }
 {
     fill_tile(rows, start, entries);
     let mut first = 0;
-    while first < height {
-        let count = folding.most.min(height - first);
+    while first < product.height {
+        let count = product.folding.most.min(product.height - first);
         let run = Run { first, count };
-        add_run(entries, rows.len(), by, tile, run, folding);
+        add_run(
+            entries,
+            rows.len(),
+            product.by,
+            product.tile,
+            run,
+            product.folding,
+        );
         first += count;
     }
 }
@@ -298,37 +315,33 @@ fn write_entries(
     }
 }
 
-// Adds the sums of the products with a tile of so many rows to the rows of a block at its columns, or at the
-// first of them. The entries are room to work in, in which residues stand before and after.
+// Adds the sums of the products with a tile to the rows of a block at its columns, or at the first of them. The
+// entries are room to work in, in which residues stand before and after.
 fn add_columns(
     rows: &mut [Dense<u32>],
     entries: &mut [[u32; TILE_COLUMNS]; PANEL],
-    by: &[[u64; PANEL]; BLOCK_ROWS],
-    tile: &[[u32; TILE_COLUMNS]; PANEL],
-    height: usize,
     columns: Columns,
-    folding: &Folding,
+    product: &TileProduct,
 )
     requires few { length rows.old ≤ BLOCK_ROWS }
     requires wide { (t : ℕ) → t < length rows.old
         → columns.start + TILE_COLUMNS ≤ length (block_row rows.old t) }
     requires residues { (t l : ℕ) → t < length rows.old → l < TILE_COLUMNS
-        → entry_of rows.old t (columns.start + l) < folding.now.p }
+        → entry_of rows.old t (columns.start + l) < product.now.folding.now.p }
     requires entries { length entries.old ≡ PANEL }
-    requires left { (t l : ℕ) → t < BLOCK_ROWS → l < TILE_COLUMNS → entry_of entries.old t l < folding.now.p }
-    requires high { height ≤ PANEL }
-    requires long { length tile.now ≡ PANEL }
-    requires tile { (k l : ℕ) → k < height → l < TILE_COLUMNS → entry_of tile.now k l < folding.now.p }
-    requires coefficients { (t k : ℕ) → t < BLOCK_ROWS → entry_of by.now t k < folding.now.p }
+    requires left { (t l : ℕ) → t < BLOCK_ROWS → l < TILE_COLUMNS
+        → entry_of entries.old t l < product.now.folding.now.p }
     requires order { columns.start ≤ columns.end }
     requires narrow { columns.end ≤ columns.start + TILE_COLUMNS }
     ensures entries { length entries.new ≡ PANEL }
-    ensures left { (t l : ℕ) → t < BLOCK_ROWS → l < TILE_COLUMNS → entry_of entries.new t l < folding.now.p }
-    ensures added { AddsToEach folding.now.p columns
-        (tile_products by.now tile.now (run_of 0 height) columns.start) rows.old rows.new }
+    ensures left { (t l : ℕ) → t < BLOCK_ROWS → l < TILE_COLUMNS
+        → entry_of entries.new t l < product.now.folding.now.p }
+    ensures added { AddsToEach product.now.folding.now.p columns
+        (tile_products product.now.by.now product.now.tile.now (run_of 0 product.now.height) columns.start)
+        rows.old rows.new }
 {
-    fill_entries(entries, rows, by, tile, height, columns.start, folding);
-    write_entries(rows, entries, columns, &folding.p);
+    fill_entries(entries, rows, columns.start, product);
+    write_entries(rows, entries, columns, &product.folding.p);
 }
 
 // Adds the sums of products to the rows of a block, of entries before `columns.end`. The units are copied tile by tile, so that what
@@ -356,8 +369,13 @@ pub(crate) fn add_products(
     while end > columns.start {
         let start = end.saturating_sub(TILE_COLUMNS);
         fill_tile(units, start, &mut tile);
-        let here = Columns { start, end };
-        add_columns(rows, &mut entries, by, &tile, units.len(), here, folding);
+        let product = TileProduct {
+            by,
+            tile: &tile,
+            height: units.len(),
+            folding,
+        };
+        add_columns(rows, &mut entries, Columns { start, end }, &product);
         end = start;
     }
 }

@@ -14,5 +14,5 @@ returns-clause-added c = record {
       let start = c.args.columns.start in
       let place : start + (j - start) ≡ j = omega arith in
       c.fill_entries.ensures.added t (j - start) l (omega (arith, c.requires.narrow))
-      ∙ ap (λ x. (entry_of c.args.rows.now t x + tile_products c.args.by.now c.args.tile.now (run_of 0 c.args.height) start t j) % c.args.folding.now.p) place);
+      ∙ ap (λ x. (entry_of c.args.rows.now t x + tile_products c.args.product.now.by.now c.args.product.now.tile.now (run_of 0 c.args.product.now.height) start t j) % c.args.product.now.folding.now.p) place);
 }

@@ -1,4 +1,4 @@
-use Rattle.std.proofs.Common.{◌+◌, arith, length, refl}
+use Rattle.std.proofs.Common.{◌<◌, ◌+◌, arith, length, refl}
 use Rattle.dense_finish.specs.Block.{block_row}
 use Rattle.dense_finish.proofs.AddingEach.{adds_before, adds_none, adds_nothing, adds_vectors, each_equal, products_tile, products_zero}
 use Rattle.dense_finish.proofs.ProductSums.{zeros_at}
@@ -25,10 +25,16 @@ add_columns-requires-clause-residues c = λ t k l lk.
     let vectors = adds_vectors c.requires.residues c.loop-end.invariant.added in
     (vectors t l).residues (c.saturating_sub-start.result + k) (omega (arith, c.loop-end.invariant.within, c.requires.wide))
 
-pub add_columns-requires-clause-tile : goal.add_columns-requires-clause-tile
-add_columns-requires-clause-tile c = λ k l lk ll.
-    let start = c.saturating_sub-start.result in
-    omega (arith, c.fill_tile.ensures.filled k l lk ll, (c.requires.units k lk).residues (start + l) (omega (arith, c.loop-end.invariant.within, c.requires.wide)))
+pub invariant_of-product : goal.invariant_of-product
+invariant_of-product c = record {
+  high = c.requires.high;
+  long = c.fill_tile.ensures.long;
+  residues = λ k l lk ll.
+      let start = c.saturating_sub-start.result in
+      let less : l < 8 = ll in
+      omega (arith, c.fill_tile.ensures.filled k l lk less, (c.requires.units k lk).residues (start + l) (omega (arith, c.loop-end.invariant.within, c.requires.wide)));
+  coefficients = c.requires.coefficients;
+}
 
 pub loop-end-preserved : goal.loop-end-preserved
 loop-end-preserved c =

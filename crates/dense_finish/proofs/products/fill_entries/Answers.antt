@@ -8,7 +8,7 @@ use Rattle.dense_finish.proofs.products.fill_entries.Goals as goal
 
 pub loop-first-init : goal.loop-first-init
 loop-first-init c =
-    let p : ℕ = c.args.folding.now.p in
+    let p : ℕ = c.args.product.now.folding.now.p in
     let rows = c.args.rows.now in
     let start = c.args.start in
     record {
@@ -20,37 +20,37 @@ loop-first-init c =
       ];
       added = λ t k l lk.
           let x = entry_of rows t (start + k) in
-          let plain : x + products_of c.args.by.now c.args.tile.now (run_of 0 0) t k ≡ x = omega (arith, products_none (block_row c.args.by.now t) c.args.tile.now 0 k) in
+          let plain : x + products_of c.args.product.now.by.now c.args.product.now.tile.now (run_of 0 0) t k ≡ x = omega (arith, products_none (block_row c.args.product.now.by.now t) c.args.product.now.tile.now 0 k) in
           c.fill_tile.ensures.filled t k l lk ∙ sym (ap (λ y. y % p) plain ∙ mod-eq_of_lt (c.requires.residues t k l lk));
     }
 
 pub add_run-requires-clause-small : goal.add_run-requires-clause-small
 add_run-requires-clause-small c =
-    let f = c.args.folding.now in
+    let f = c.args.product.now.folding.now in
     let low : f.p < 2147483648 = omega (arith, f.one.in_range, f.one_modulus) in
     record {
-      long = c.requires.long;
-      inside = omega (arith, c.loop-first.invariant.within, c.requires.high);
-      coefficients = λ t k l. omega (arith, c.requires.coefficients t k l, low);
-      sums = λ t j l lj. products_small f.p f.most (block_row c.args.by.now t) c.args.tile.now _ j f.room (omega arith) (λ k. c.requires.coefficients t k l)
-          (λ k lk. c.requires.tile k j (omega (arith, c.loop-first.invariant.within, lk)) lj);
+      long = c.args.product.now.long;
+      inside = omega (arith, c.loop-first.invariant.within, c.args.product.now.high);
+      coefficients = λ t k l. omega (arith, c.args.product.now.coefficients t k l, low);
+      sums = λ t j l lj. products_small f.p f.most (block_row c.args.product.now.by.now t) c.args.product.now.tile.now _ j f.room (omega arith) (λ k. c.args.product.now.coefficients t k l)
+          (λ k lk. c.args.product.now.residues k j (omega (arith, c.loop-first.invariant.within, lk)) lj);
     }
 
 pub loop-first-preserved : goal.loop-first-preserved
 loop-first-preserved c =
-    let by = c.args.by.now in
-    let tile = c.args.tile.now in
+    let by = c.args.product.now.by.now in
+    let tile = c.args.product.now.tile.now in
     let first = c.loop-first.first in
     let count = c.min-count.result in
     record {
       within = omega (arith, c.loop-first.invariant.within);
       long = c.add_run.ensures.long;
       residues = c.add_run.ensures.residues;
-      added = λ t k l lk. plus_then c.args.folding.now.p (entry_of c.args.rows.now t (c.args.start + k)) (products_of by tile (run_of 0 first) t k) (products_of by tile (run_of first count) t k)
+      added = λ t k l lk. plus_then c.args.product.now.folding.now.p (entry_of c.args.rows.now t (c.args.start + k)) (products_of by tile (run_of 0 first) t k) (products_of by tile (run_of first count) t k)
           (products_of by tile (run_of 0 (first + count)) t k) (c.loop-first.invariant.added t k l lk) (c.add_run.ensures.added t k l lk) (products_split (block_row by t) tile first count k);
     }
 
 pub returns-clause-added : goal.returns-clause-added
 returns-clause-added c = λ t k l lk.
-    let all : c.loop-first.first ≡ c.args.height = omega (arith, c.loop-first.invariant.within, c.loop-first-test.false) in
-    c.loop-first.invariant.added t k l lk ∙ ap (λ n. (entry_of c.args.rows.now t (c.args.start + k) + products_of c.args.by.now c.args.tile.now (run_of 0 n) t k) % c.args.folding.now.p) all
+    let all : c.loop-first.first ≡ c.args.product.now.height = omega (arith, c.loop-first.invariant.within, c.loop-first-test.false) in
+    c.loop-first.invariant.added t k l lk ∙ ap (λ n. (entry_of c.args.rows.now t (c.args.start + k) + products_of c.args.product.now.by.now c.args.product.now.tile.now (run_of 0 n) t k) % c.args.product.now.folding.now.p) all
