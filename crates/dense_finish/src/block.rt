@@ -1,5 +1,5 @@
 // The dense block of a sparse matrix.
-ghost use Rattle.std.specs.Prelude.{◌≡◌, IfOk};
+ghost use Rattle.std.specs.Prelude.{IfOk};
 ghost use Rattle.std.specs.Thread.{IsSync, IsSend};
 ghost use Rattle.dense_finish.specs.Block.{IsBlock, IsBlockOf, IsDense};
 ghost use Rattle.sparse_rows.specs.Rows.{AreBelow, AreOccupied};
@@ -55,12 +55,11 @@ impl<W: Reducing> Block<W> {
         ensures block { IfOk result (IsBlockOf rows.now) }
         ensures dense { IfOk result IsDense }
     {
-        let p = rows.modulus();
         let filled = rows.filled(alloc)?;
         let columns = rows.occupied(alloc)?;
-        let entries = crew.make_block(alloc, rows, &filled, &columns, &p, workers)?;
+        let entries = crew.make_block(alloc, rows, &filled, &columns, workers)?;
         Ok(Block {
-            p,
+            p: rows.modulus(),
             height: rows.height(),
             width: rows.width(),
             rows: filled,
@@ -77,17 +76,16 @@ pub(crate) fn shared_block<R: Threads + Sync, W: Residue>(
     rows: &Rows,
     filled_rows: &[u32],
     columns: &[u32],
-    p: &Modulus,
     workers: usize,
 ) -> Result<Vec<Dense<W>>, AllocError>
-    requires modulus { W.serves p.now }
-    requires same { p.now ≡ rows.now.modulus }
+    requires modulus { W.serves rows.now.modulus }
     requires rows { AreBelow rows.now.matrix.height filled_rows.now }
     requires columns { AreOccupied rows.now.matrix columns.now }
-    ensures { IfOk result (λ block. IsBlock p.now rows.now.matrix filled_rows.now columns.now block.items) }
+    ensures { IfOk result (λ block.
+        IsBlock rows.now.modulus rows.now.matrix filled_rows.now columns.now block.items) }
 {
     if workers <= 1 {
-        return block_of(alloc, rows, filled_rows, columns, p);
+        return block_of(alloc, rows, filled_rows, columns);
     }
     // One thread begins all others: what a new one begins first is often put on its own processor, and waits there for it.
     let others = workers - 1;
@@ -95,17 +93,17 @@ pub(crate) fn shared_block<R: Threads + Sync, W: Residue>(
     let (front, back) = join(
         rt,
         || -> Result<Vec<Dense<W>>, AllocError>
-            requires { IsSync R.row × IsSend W.row × W.serves p.now × (p.now ≡ rows.now.modulus)
+            requires { IsSync R.row × IsSend W.row × W.serves rows.now.modulus
                 × AreBelow rows.now.matrix.height a.now × AreOccupied rows.now.matrix columns.now }
-            ensures { IfOk result (λ block.
-                IsBlock p.entry.now rows.entry.now.matrix a.entry.now columns.entry.now block.items) }
-        { shared_block(rt, alloc, rows, a, columns, p, 1) },
+            ensures { IfOk result (λ block. IsBlock rows.entry.now.modulus rows.entry.now.matrix
+                a.entry.now columns.entry.now block.items) }
+        { shared_block(rt, alloc, rows, a, columns, 1) },
         || -> Result<Vec<Dense<W>>, AllocError>
-            requires { IsSync R.row × IsSend W.row × W.serves p.now × (p.now ≡ rows.now.modulus)
+            requires { IsSync R.row × IsSend W.row × W.serves rows.now.modulus
                 × AreBelow rows.now.matrix.height b.now × AreOccupied rows.now.matrix columns.now }
-            ensures { IfOk result (λ block.
-                IsBlock p.entry.now rows.entry.now.matrix b.entry.now columns.entry.now block.items) }
-        { shared_block(rt, alloc, rows, b, columns, p, others) },
+            ensures { IfOk result (λ block. IsBlock rows.entry.now.modulus rows.entry.now.matrix
+                b.entry.now columns.entry.now block.items) }
+        { shared_block(rt, alloc, rows, b, columns, others) },
     );
     let mut block = front?;
     let mut rest = back?;
@@ -119,17 +117,17 @@ pub(crate) fn block_of<W: Residue>(
     rows: &Rows,
     filled_rows: &[u32],
     columns: &[u32],
-    p: &Modulus,
 ) -> Result<Vec<Dense<W>>, AllocError>
-    requires modulus { W.serves p.now }
-    requires same { p.now ≡ rows.now.modulus }
+    requires modulus { W.serves rows.now.modulus }
     requires rows { AreBelow rows.now.matrix.height filled_rows.now }
     requires columns { AreOccupied rows.now.matrix columns.now }
-    ensures { IfOk result (λ block. IsBlock p.now rows.now.matrix filled_rows.now columns.now block.items) }
+    ensures { IfOk result (λ block.
+        IsBlock rows.now.modulus rows.now.matrix filled_rows.now columns.now block.items) }
 {
+    let p = rows.modulus();
     let mut block = Vec::with_capacity(alloc, filled_rows.len())?;
     for i in filled_rows {
-        block.push(Dense::of_entries(alloc, rows.cols(*i), rows.vals(*i), columns, p)?)?;
+        block.push(Dense::of_entries(alloc, rows.cols(*i), rows.vals(*i), columns, &p)?)?;
     }
     Ok(block)
 }

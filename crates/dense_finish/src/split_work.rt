@@ -1,5 +1,5 @@
 // The work that an elimination splits, by threads or by the caller alone.
-ghost use Rattle.std.specs.Prelude.{◌≡◌, ◌<◌, ◌≤◌, length, IfOk};
+ghost use Rattle.std.specs.Prelude.{◌<◌, ◌≤◌, length, IfOk};
 ghost use Rattle.dense_finish.specs.Block.{AreLastRowsOf, AreVectors, IsBlock};
 ghost use Rattle.dense_finish.specs.Panel.{PanelReducesEach};
 ghost use Rattle.dense_finish.specs.Pivots.{CanGoOn, FindsPanel, panel_stage};
@@ -13,7 +13,6 @@ use crate::left_room::LeftRoom;
 use crate::pivots::Pivots;
 use crate::reducing::Reducing;
 use crew::{Alone, Crew, Threaded};
-use residue_words::Modulus;
 use sparse_rows::Rows;
 use std::alloc::{AllocError, Global};
 use std::thread::Threads;
@@ -35,16 +34,14 @@ pub trait Helping<W: Reducing>: Crew {
         rows: &Rows,
         filled_rows: &[u32],
         columns: &[u32],
-        p: &Modulus,
         workers: usize,
     ) -> Result<Vec<Dense<W>>, AllocError>
         requires able { Self.can_work }
-        requires modulus { W.serves p.now }
-        requires same { p.now ≡ rows.now.modulus }
+        requires modulus { W.serves rows.now.modulus }
         requires rows { AreBelow rows.now.matrix.height filled_rows.now }
         requires columns { AreOccupied rows.now.matrix columns.now }
         ensures { IfOk result (λ block.
-            IsBlock p.now rows.now.matrix filled_rows.now columns.now block.items) };
+            IsBlock rows.now.modulus rows.now.matrix filled_rows.now columns.now block.items) };
 
     /// Takes a panel's pivots out of the elimination's own rows from the first on, and finds those of these rows, while the panel's are
     /// taken out of the other rows.
@@ -80,10 +77,9 @@ impl Helping<u32> for Alone {
         rows: &Rows,
         filled_rows: &[u32],
         columns: &[u32],
-        p: &Modulus,
         _workers: usize,
     ) -> Result<Vec<Dense<u32>>, AllocError> {
-        block_of(alloc, rows, filled_rows, columns, p)
+        block_of(alloc, rows, filled_rows, columns)
     }
 
     fn find_beside(
@@ -107,10 +103,9 @@ impl Helping<u64> for Alone {
         rows: &Rows,
         filled_rows: &[u32],
         columns: &[u32],
-        p: &Modulus,
         _workers: usize,
     ) -> Result<Vec<Dense<u64>>, AllocError> {
-        block_of(alloc, rows, filled_rows, columns, p)
+        block_of(alloc, rows, filled_rows, columns)
     }
 
     fn find_beside(
@@ -134,10 +129,9 @@ impl<'a, R: Threads + Sync> Helping<u32> for Threaded<'a, R> {
         rows: &Rows,
         filled_rows: &[u32],
         columns: &[u32],
-        p: &Modulus,
         workers: usize,
     ) -> Result<Vec<Dense<u32>>, AllocError> {
-        shared_block(self.runtime, alloc, rows, filled_rows, columns, p, workers)
+        shared_block(self.runtime, alloc, rows, filled_rows, columns, workers)
     }
 
     fn find_beside(
@@ -161,10 +155,9 @@ impl<'a, R: Threads + Sync> Helping<u64> for Threaded<'a, R> {
         rows: &Rows,
         filled_rows: &[u32],
         columns: &[u32],
-        p: &Modulus,
         workers: usize,
     ) -> Result<Vec<Dense<u64>>, AllocError> {
-        shared_block(self.runtime, alloc, rows, filled_rows, columns, p, workers)
+        shared_block(self.runtime, alloc, rows, filled_rows, columns, workers)
     }
 
     fn find_beside(

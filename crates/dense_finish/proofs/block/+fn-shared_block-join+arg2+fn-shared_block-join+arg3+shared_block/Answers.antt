@@ -6,7 +6,7 @@ use Rattle.dense_finish.proofs.block.+fn-shared_block-join+arg2+fn-shared_block-
 
 pub returns : goal.returns
 returns g t c =
-    let p = c.args.p.now in
+    let p = c.args.rows.now.modulus in
     let A = c.args.rows.now.matrix in
     let filled = c.args.filled_rows.now in
     let names = c.args.columns.now in

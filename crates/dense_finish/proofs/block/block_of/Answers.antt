@@ -1,4 +1,4 @@
-use Rattle.std.proofs.Common.{ℕ, [], ◌∷◌, ◌+◌, ◌<◌, ◌≡◌, ◌∙◌, ap, ap₂, arith, length, slice_index, sym, length-append}
+use Rattle.std.proofs.Common.{ℕ, [], ◌∷◌, ◌+◌, ◌<◌, ◌≡◌, ◌∙◌, ap, ap₂, arith, length, slice_index, subst, sym, length-append}
 use Rattle.residue_words.specs.Matrix.{IsVector, entry, row}
 use Rattle.sparse_rows.specs.Stored.{entry_at}
 use Rattle.sparse_rows.proofs.Spread.{entry_support}
@@ -30,7 +30,7 @@ loop-i-preserved g c =
     ∙ entry_support (row A n) (slice_index names j) ∙ ap (λ t. entry A (slice_index c.args.filled_rows.now t) (slice_index names j)) (sym c.loop-i.invariant.long) in
     rw c.in_ok-push.ensures.items record {
       long = length-append block (v ∷ []) ∙ ap (λ t. t + 1) c.loop-i.invariant.long;
-      vectors = appended (λ t u. IsVector c.args.p.now (length names) u) block v c.in_ok-of_entries.ensures.vector c.loop-i.invariant.vectors;
+      vectors = appended (λ t u. IsVector c.args.rows.now.modulus (length names) u) block v (subst (λ p. IsVector p (length names) v) c.modulus-p.ensures.value c.in_ok-of_entries.ensures.vector) c.loop-i.invariant.vectors;
       each = λ t j l lj. appended (λ t u. slice_index u j ≡ entry A (slice_index c.args.filled_rows.now t) (slice_index names j)) block v (read j lj) (λ t l. c.loop-i.invariant.each t j l lj) t l;
     }
 

@@ -4,28 +4,25 @@ use Rattle.dense_finish.proofs.block.Block.of.Goals as goal
 
 pub returns-clause-block : goal.returns-clause-block
 returns-clause-block g c = record {
-  modulus = c.modulus-p.ensures.value;
+  modulus = c.modulus.ensures.value;
   height = c.height.ensures.value;
   width = c.width.ensures.value;
   sound = c.height.ensures.sound;
   filled = c.in_ok-filled.ensures;
   occupied = c.in_ok-columns.ensures;
-  entries = rw (c.modulus-p.ensures.value, c.deref.ensures.value, c.deref-2.ensures.value) at c.in_ok-entries.ensures;
+  entries = rw (c.deref.ensures.value, c.deref-2.ensures.value) at c.in_ok-entries.ensures;
 }
 
 pub returns-clause-dense : goal.returns-clause-dense
 returns-clause-dense g c =
-    block_dense (omega (arith, c.modulus-p.ensures.two_or_more, c.modulus-p.ensures.value)) (omega (arith, c.height.ensures.value, c.height.ensures.bound)) (omega (arith, c.width.ensures.value, c.width.ensures.bound))
+    block_dense (omega (arith, c.modulus.ensures.two_or_more, c.modulus.ensures.value)) (omega (arith, c.height.ensures.value, c.height.ensures.bound)) (omega (arith, c.width.ensures.value, c.width.ensures.bound))
     (returns-clause-block g c)
 
 pub make_block-requires-clause-able : goal.make_block-requires-clause-able
 make_block-requires-clause-able g c = c.requires.able
 
 pub make_block-requires-clause-modulus : goal.make_block-requires-clause-modulus
-make_block-requires-clause-modulus g c = rw c.modulus-p.ensures.value c.requires.modulus
-
-pub make_block-requires-clause-same : goal.make_block-requires-clause-same
-make_block-requires-clause-same g c = c.modulus-p.ensures.value
+make_block-requires-clause-modulus g c = c.requires.modulus
 
 pub make_block-requires-clause-columns : goal.make_block-requires-clause-columns
 make_block-requires-clause-columns g c = rw c.deref-2.ensures.value c.in_ok-columns.ensures
