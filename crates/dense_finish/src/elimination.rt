@@ -1,12 +1,11 @@
 // The factors of a matrix by dense elimination.
-ghost use Rattle.std.specs.Prelude.{◌<◌, ◌≤◌, All, length, IfOk, OnOk};
+ghost use Rattle.std.specs.Prelude.{◌<◌, ◌≤◌, length, IfOk, OnOk};
 ghost use Rattle.residue_words.specs.Matrix.{IsVector};
 ghost use Rattle.residue_words.specs.Residues.{IsPrime};
 ghost use Rattle.sparse_rows.specs.Rows.{AreRising};
 ghost use Rattle.sparse_rows.specs.declared.rows.TheConstants.{LARGEST_SIZE};
 ghost use Rattle.dense_finish.specs.Block.{AreLastRowsOf, AreRowsOf, AreVectors, IsDense};
-ghost use Rattle.dense_finish.specs.Panel.{PanelReducesEach};
-ghost use Rattle.dense_finish.specs.Pieces.{AreNewShares, AreReducedBy, AreReducedByAll, HasReducible, HaveReducible};
+ghost use Rattle.dense_finish.specs.Pieces.{AreNewShares};
 ghost use Rattle.dense_finish.specs.Dense.{IsFirstFree, IsPivotOf, KeepsCoefficients};
 ghost use Rattle.dense_finish.specs.Factors.{IsFactored};
 ghost use Rattle.sparse_rows.specs.Rows.{AreBelow};
@@ -18,20 +17,19 @@ use crate::factors::{Factors, left_factor};
 use crate::found::Found;
 use crate::left_room::LeftRoom;
 use crate::panel::{PANEL, Panel, zeros_before};
-use crate::pieces::{Piece, put_pieces, with_pieces};
+use crate::panel_step::PanelStep;
 use crate::pivots::Pivots;
 use crate::reducing::Reducing;
 use crate::residue::Residue;
 use crate::right_factor::RightFactor;
 use crate::share::{Share, Shares};
-use crate::shared_pieces::queue_of;
 use crate::split_work::Helping;
 use crate::taker::Taker;
 use crew::Threaded;
 use residue_words::{LANE_BOUND, Modulus};
 use sparse_rows::Rows;
 use std::alloc::{AllocError, Global};
-use std::thread::{Threads, join_mut};
+use std::thread::Threads;
 
 // How many of a panel's rows are reduced by one another one by one, before their pivots are taken out of the others at once.
 const PART: usize = 16;
@@ -40,14 +38,20 @@ const PART: usize = 16;
 // to a panel's share of it: so it is written to while they take long.
 const AHEAD: usize = 16 * PANEL;
 
-/// What stays the same during an elimination: the columns of the matrix that the block's stand for, the modulus, and the number of
-/// workers.
+/// What stays the same during an elimination: the columns of the matrix that the block's stand for and the matrix's width, the modulus,
+/// and the number of workers.
 #[derive(Clone, Copy)]
 pub struct Elimination<'a> {
     pub(crate) alloc: Global,
-    columns: &'a [u32],
+    pub(crate) columns: &'a [u32],
+    width: u32,
     pub(crate) p: Modulus,
-    workers: usize,
+    pub(crate) workers: usize,
+    ghost some: { 1 ≤ workers },
+    ghost few: { length columns.now ≤ LARGEST_SIZE },
+    ghost inside: { AreBelow width columns.now },
+    ghost rising: { AreRising columns.now },
+    ghost narrow: { width ≤ LARGEST_SIZE },
 }
 
 /// The rows of a block from `start` on and before `end`.
@@ -118,38 +122,34 @@ impl<W: Reducing> Block<W> {
         let elimination = Elimination {
             alloc,
             columns: &self.columns,
+            width: self.width,
             p: self.p,
             workers,
         };
-        elimination.eliminate(crew, self.width, &mut self.entries, left)
+        elimination.eliminate(crew, &mut self.entries, left)
     }
 }
 
 impl<'a> Elimination<'a> {
-    // Eliminates a block of a matrix of this width, panel by panel.
+    // Eliminates a block, panel by panel.
     fn eliminate<C: Helping<W>, W: Reducing>(
         &self,
         crew: &C,
-        width: u32,
         block: &mut [Dense<W>],
         left: &mut LeftRoom,
     ) -> Result<Pivots, AllocError>
         requires able { C.can_work }
         requires modulus { W.serves self.now.p }
-        requires some { 1 ≤ self.now.workers }
-        requires narrow { width ≤ LARGEST_SIZE }
         requires low { length block.old ≤ LARGEST_SIZE }
-        requires few { length self.now.columns.now ≤ LARGEST_SIZE }
-        requires inside { AreBelow width self.now.columns.now }
-        requires rising { AreRising self.now.columns.now }
         requires residues { AreVectors self.now.p (length self.now.columns.now) block.old }
-        ensures found { IfOk result (AreFound self.now.p self.now.columns.now width (length block.old)) }
+        ensures found { IfOk result
+            (AreFound self.now.p self.now.columns.now self.now.width (length block.old)) }
         ensures eliminated { IfOk result (λ pivots.
             AreEliminated self.now.p (length self.now.columns.now) (length block.old) pivots block.new) }
         ensures split { IsPrime self.now.p → IfOk result (λ pivots.
             SplitBy self.now.p self.now.columns.now pivots block.old block.new) }
     {
-        let mut pivots = Pivots::new(self.alloc, block.len(), self.columns, width, &self.p)?;
+        let mut pivots = Pivots::new(self.alloc, block.len(), self.columns, self.width, &self.p)?;
         let mut found = Found::none(self.alloc, self.columns.len());
         let mut done = 0;
         while done < block.len() {
@@ -159,7 +159,12 @@ impl<'a> Elimination<'a> {
             };
             let size = rows.end - rows.start;
             left.expect((block.len() - done).min(AHEAD), pivots.rows.len());
-            found = self.next_panel(crew, &found, rows, &mut pivots, block, left)?;
+            let step = PanelStep {
+                elimination: &*self,
+                found,
+                rows,
+            };
+            found = step.find(crew, &mut pivots, block, left)?;
             left.count(size, pivots.rows.len());
             done = rows.end;
         }
@@ -182,90 +187,8 @@ impl<'a> Elimination<'a> {
         height.min(start + most)
     }
 
-    // Takes a panel's pivots out of the rows from the first on, and finds those of these rows meanwhile.
-    fn next_panel<C: Helping<W>, W: Reducing>(
-        &self,
-        crew: &C,
-        found: &Found<W>,
-        rows: RowRange,
-        pivots: &mut Pivots,
-        block: &mut [Dense<W>],
-        left: &mut LeftRoom,
-    ) -> Result<Found<W>, AllocError>
-        requires able { C.can_work }
-        requires modulus { W.serves self.now.p }
-        requires some { 1 ≤ self.now.workers }
-        requires rows { AreRowsOf block.old rows }
-        requires ready { CanGoOn self.now.p self.now.columns.now
-            (panel_stage pivots.old found.now block.old rows.start) }
-        ensures { IfOk result (λ next. FindsPanel self.now.p self.now.columns.now
-            (panel_stage pivots.old found.now block.old rows.start)
-            (panel_stage pivots.new next block.new rows.end)) }
-    {
-        let (own, others) = block.split_at_mut(rows.end);
-        if self.workers == 1 || found.panel.is_empty() || others.is_empty() {
-            return self.find_alone(found, rows, pivots, own, others);
-        }
-        crew.find_beside(self, found, rows, pivots, own, others, left)
-    }
-
-    // Takes a panel's pivots out of the other rows, then out of its own rows from the first on, and finds those of these rows.
-    pub(crate) fn find_alone<W: Reducing>(
-        &self,
-        found: &Found<W>,
-        rows: RowRange,
-        pivots: &mut Pivots,
-        own: &mut [Dense<W>],
-        others: &mut [Dense<W>],
-    ) -> Result<Found<W>, AllocError>
-        requires modulus { W.serves self.now.p }
-        requires rows { AreLastRowsOf own.old rows }
-        requires ready { CanGoOn self.now.p self.now.columns.now
-            (panel_stage pivots.old found.now own.old rows.start) }
-        requires others { AreVectors self.now.p found.now.panel.width others.old }
-        ensures own { IfOk result (λ next. FindsPanel self.now.p self.now.columns.now
-            (panel_stage pivots.old found.now own.old rows.start)
-            (panel_stage pivots.new next own.new rows.end)) }
-        ensures others { PanelReducesEach self.now.p found.now.panel others.old others.new }
-    {
-        found.reduce_behind(others, 0, &self.p);
-        self.reduce_and_find(found, rows, pivots, own)
-    }
-
-    // The same while the other workers take the panel's pivots out of the other rows, piece by piece, as this one does when it has found
-    // those of its own.
-    pub(crate) fn find_beside<R: Threads + Sync, W: Reducing>(
-        &self,
-        rt: &R,
-        found: &Found<W>,
-        rows: RowRange,
-        pivots: &mut Pivots,
-        own: &mut [Dense<W>],
-        others: &mut [Dense<W>],
-        left: &mut LeftRoom,
-    ) -> Result<Found<W>, AllocError>
-        requires modulus { W.serves self.now.p }
-        requires several { 2 ≤ self.now.workers }
-        requires some { 0 < length others.old }
-        requires rows { AreLastRowsOf own.old rows }
-        requires ready { CanGoOn self.now.p self.now.columns.now
-            (panel_stage pivots.old found.now own.old rows.start) }
-        requires others { AreVectors self.now.p found.now.panel.width others.old }
-        ensures own { IfOk result (λ next. FindsPanel self.now.p self.now.columns.now
-            (panel_stage pivots.old found.now own.old rows.start)
-            (panel_stage pivots.new next own.new rows.end)) }
-        ensures others { IfOk result (λ _.
-            PanelReducesEach self.now.p found.now.panel others.old others.new) }
-    {
-        let (queue, pass) = queue_of(self.alloc, others)?;
-        let shares = self.shares_of(Taker::new(&queue, pass))?;
-        let (next, pieces) = self.find_and_reduce(rt, found, rows, pivots, own, shares, left)?;
-        put_pieces(pieces, others)?;
-        Ok(next)
-    }
-
     // A share for the worker that finds pivots, and one for each that helps, of the rows in the queue at which the taker stands.
-    fn shares_of<'q, W: Residue>(
+    pub(crate) fn shares_of<'q, W: Residue>(
         &self,
         mut taker: Taker<'q, W>,
     ) -> Result<Shares<'q, W>, AllocError>
@@ -279,54 +202,8 @@ impl<'a> Elimination<'a> {
         Ok(Shares { own, others })
     }
 
-    // The same where the workers have shares of the other rows: what is left of these are the pieces.
-    fn find_and_reduce<R: Threads + Sync, W: Reducing>(
-        &self,
-        rt: &R,
-        found: &Found<W>,
-        rows: RowRange,
-        pivots: &mut Pivots,
-        own: &mut [Dense<W>],
-        shares: Shares<W>,
-        left: &mut LeftRoom,
-    ) -> Result<(Found<W>, Vec<Piece<W>>), AllocError>
-        requires modulus { W.serves self.now.p }
-        requires rows { AreLastRowsOf own.old rows }
-        requires ready { CanGoOn self.now.p self.now.columns.now
-            (panel_stage pivots.old found.now own.old rows.start) }
-        requires others { HaveReducible self.now.p found.now shares }
-        ensures own { IfOk result (λ made. FindsPanel self.now.p self.now.columns.now
-            (panel_stage pivots.old found.now own.old rows.start)
-            (panel_stage pivots.new made.0 own.new rows.end)) }
-        ensures others { IfOk result (λ made.
-            AreReducedByAll self.now.p found.now.panel shares.entry made.1) }
-    {
-        let Shares {
-            own: mut own_share,
-            mut others,
-        } = shares;
-        let mut find = || -> (Result<Found<W>, AllocError>, Vec<Piece<W>>)
-            requires { W.serves self.now.p × All (HasReducible self.now.p found.now) own_share.items
-                × AreLastRowsOf own.now rows × CanGoOn self.now.p self.now.columns.now
-                (panel_stage pivots.now found.now own.now rows.start) }
-            ensures { AreReducedBy self.entry.now.p found.entry.now.panel own_share.entry.items result.1
-                × IfOk result.0 (λ next. FindsPanel self.entry.now.p self.entry.now.columns.now
-                (panel_stage pivots.entry.now found.entry.now own.entry.now rows.start)
-                (panel_stage pivots.exit.now next own.exit.now rows.end)) }
-        {
-            let next = self.reduce_and_find(found, rows, pivots, own);
-            (next, self.pieces_by(rt, found, &mut own_share))
-        };
-        let mut help = || -> Vec<Piece<W>>
-            requires { W.serves self.now.p × All (HasReducible self.now.p found.now) others.items }
-            ensures { AreReducedBy self.entry.now.p found.entry.now.panel others.entry.items result }
-        { self.pieces_and_left(rt, found, &mut others, left) };
-        let (more, (next, pieces)) = join_mut(rt, &mut help, &mut find);
-        with_pieces(next, pieces, more)
-    }
-
     // Takes a panel's pivots out of the last rows, and finds those of these rows.
-    fn reduce_and_find<W: Reducing>(
+    pub(crate) fn reduce_and_find<W: Reducing>(
         &self,
         found: &Found<W>,
         rows: RowRange,
@@ -435,12 +312,10 @@ impl<'a> Elimination<'a> {
     ) -> Result<Dense<W>, AllocError>
         requires modulus { W.serves self.now.p }
         requires row { i < LARGEST_SIZE }
-        requires few { length self.now.columns.now ≤ LARGEST_SIZE }
         requires residues { IsVector self.now.p (length self.now.columns.now) row.old }
         requires first { IsFirstFree row.old pivots.old.taken.items c }
         requires found { AreFound self.now.p self.now.columns.now pivots.old.u.matrix.width i pivots.old }
         requires inside { AreBelow pivots.old.u.matrix.width self.now.columns.now }
-        requires rising { AreRising self.now.columns.now }
         ensures pivot { IfOk result (IsPivotOf self.now.p c pivots.old.taken.items row.old) }
         ensures added { IfOk result (λ pivot.
             AddsPivot self.now.columns.now (pivot_at i c pivot) pivots.old pivots.new) }
@@ -448,7 +323,7 @@ impl<'a> Elimination<'a> {
     {
         let pivot = row.pivot_row(self.alloc, c, &pivots.taken, &self.p)?;
         row.keep_coefficients(c, &pivots.taken, &self.p);
-        pivots.push(self.alloc, i, c, &pivot, self.columns, &self.p)?;
+        pivots.push(self, i, c, &pivot)?;
         Ok(pivot)
     }
 }

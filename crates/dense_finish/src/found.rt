@@ -59,6 +59,11 @@ impl<W: Reducing> Found<W> {
         })
     }
 
+    // Whether there is no pivot.
+    pub(crate) fn is_empty(&self) -> bool {
+        self.panel.is_empty()
+    }
+
     // Takes the pivots out of the rows from `from` on.
     pub(crate) fn reduce_behind(&self, rows: &mut [Dense<W>], from: usize, p: &Modulus)
         requires modulus { W.serves p.now }

@@ -10,6 +10,7 @@ mod lane_addition;
 mod left_room;
 mod multiplier;
 mod panel;
+mod panel_step;
 mod pieces;
 mod pivots;
 mod products;

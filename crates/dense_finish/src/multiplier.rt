@@ -1,7 +1,7 @@
 // A residue prepared for products with vectors of lanes, for a modulus below 2^31.
 ghost use Rattle.residue_words.specs.Shoup.{prepared};
 ghost use Rattle.residue_words.specs.declared.shoup.TheConstants.{LANE_BOUND};
-ghost use Rattle.std.specs.Prelude.{◌≡◌, ◌<◌, ◌≤◌, ◌+◌, ◌*◌, ◌/◌, ◌%◌, ℕ, length, slice_index};
+ghost use Rattle.std.specs.Prelude.{◌≡◌, ◌<◌, ◌+◌, ◌*◌, ◌/◌, ◌%◌, ℕ, slice_index};
 
 use residue_words::{Modulus, Shoup};
 use std::simd::prelude::*;

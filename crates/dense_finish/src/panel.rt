@@ -1,5 +1,5 @@
 // The pivots of one panel, and what they leave of other rows.
-ghost use Rattle.std.specs.Prelude.{◌≡◌, ◌<◌, ◌≤◌, ◌↔◌, ℕ, length, IfOk, OnOk, OnErr, IsTrue};
+ghost use Rattle.std.specs.Prelude.{◌≡◌, ◌<◌, ◌≤◌, ◌↔◌, ℕ, length, IfOk, OnOk, IsTrue};
 ghost use Rattle.residue_words.specs.Matrix.{IsVector};
 ghost use Rattle.dense_finish.specs.Block.{AreVectors, block_row, entry_of};
 ghost use Rattle.dense_finish.specs.Panel.{ArePivots, PanelReduces, PanelReducesEach, joined_panel, no_pivots, with_pivot};

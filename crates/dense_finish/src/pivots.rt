@@ -1,11 +1,12 @@
 // The pivots that an elimination finds.
 ghost use Rattle.std.specs.Prelude.{◌≡◌, ◌<◌, ◌≤◌, ℕ, length, slice_index, IfOk, OnOk};
 ghost use Rattle.residue_words.specs.Matrix.{IsVector};
-ghost use Rattle.sparse_rows.specs.Rows.{AreBelow, AreRising};
+ghost use Rattle.sparse_rows.specs.Rows.{AreBelow};
 ghost use Rattle.sparse_rows.specs.declared.rows.TheConstants.{LARGEST_SIZE};
 ghost use Rattle.dense_finish.specs.Dense.{AppendsScattered, CanAppend};
 
 use crate::dense::Dense;
+use crate::elimination::Elimination;
 use crate::residue::Residue;
 use residue_words::Modulus;
 use residue_words::plain::Pair;
@@ -60,24 +61,30 @@ impl Pivots {
     // Puts behind these the pivot of row i at column c, which has this row in the block, with zeros before c.
     pub(crate) fn push<W: Residue>(
         &mut self,
-        alloc: Global,
+        elimination: &Elimination,
         i: u32,
         c: usize,
         row: &Dense<W>,
-        columns: &[u32],
-        p: &Modulus,
     ) -> Result<(), AllocError>
         requires row { i < LARGEST_SIZE }
-        requires column { c < length columns.now }
-        requires few { length columns.now ≤ LARGEST_SIZE }
-        requires residues { IsVector p.now (length columns.now) row.now }
+        requires column { c < length elimination.now.columns.now }
+        requires residues { IsVector elimination.now.p (length elimination.now.columns.now) row.now }
         requires before { (j : ℕ) → j < c → slice_index row.now j ≡ 0 }
-        requires found { AreFound p.now columns.now self.old.u.matrix.width i self.old }
-        requires inside { AreBelow self.old.u.matrix.width columns.now }
-        requires rising { AreRising columns.now }
-        ensures { OnOk result (AddsPivot columns.now (pivot_at i c row.now) self.old self.new) }
+        requires found { AreFound elimination.now.p elimination.now.columns.now self.old.u.matrix.width
+            i self.old }
+        requires inside { AreBelow self.old.u.matrix.width elimination.now.columns.now }
+        ensures { OnOk result
+            (AddsPivot elimination.now.columns.now (pivot_at i c row.now) self.old self.new) }
     {
-        append_row(alloc, &mut self.u, row, columns, c, p)?;
+        let columns = elimination.columns;
+        append_row(
+            elimination.alloc,
+            &mut self.u,
+            row,
+            columns,
+            c,
+            &elimination.p,
+        )?;
         self.rows.push(i)?;
         self.columns.push(c as u32)?;
         self.taken[c] = true;

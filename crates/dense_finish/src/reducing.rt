@@ -2,7 +2,6 @@
 ghost use Rattle.dense_finish.specs.Block.{AreVectors};
 ghost use Rattle.dense_finish.specs.Panel.{ArePivots, PanelReducesEach};
 ghost use Rattle.dense_finish.specs.Units.{AreUnits};
-ghost use Rattle.std.specs.Prelude.{◌≡◌};
 
 use crate::dense::Dense;
 use crate::panel::Panel;

@@ -7,9 +7,9 @@ ghost use Rattle.sparse_rows.specs.Rows.{AreBelow, AreOccupied};
 
 use crate::block::{block_of, shared_block};
 use crate::dense::Dense;
-use crate::elimination::{Elimination, RowRange};
 use crate::found::Found;
 use crate::left_room::LeftRoom;
+use crate::panel_step::PanelStep;
 use crate::pivots::Pivots;
 use crate::reducing::Reducing;
 use crew::{Alone, Crew, Threaded};
@@ -43,31 +43,30 @@ pub trait Helping<W: Reducing>: Crew {
         ensures { IfOk result (λ block.
             IsBlock rows.now.modulus rows.now.matrix filled_rows.now columns.now block.items) };
 
-    /// Takes a panel's pivots out of the elimination's own rows from the first on, and finds those of these rows, while the panel's are
-    /// taken out of the other rows.
+    /// Takes the panel's pivots out of its own rows from the first on, and finds those of these rows, while the panel's are taken out of
+    /// the other rows.
     fn find_beside(
         &self,
-        elimination: &Elimination,
-        found: &Found<W>,
-        rows: RowRange,
+        step: &PanelStep<W>,
         pivots: &mut Pivots,
         own: &mut [Dense<W>],
         others: &mut [Dense<W>],
         left: &mut LeftRoom,
     ) -> Result<Found<W>, AllocError>
         requires able { Self.can_work }
-        requires modulus { W.serves elimination.now.p }
-        requires several { 2 ≤ elimination.now.workers }
+        requires modulus { W.serves step.now.elimination.now.p }
+        requires several { 2 ≤ step.now.elimination.now.workers }
         requires some { 0 < length others.old }
-        requires rows { AreLastRowsOf own.old rows }
-        requires ready { CanGoOn elimination.now.p elimination.now.columns.now
-            (panel_stage pivots.old found.now own.old rows.start) }
-        requires others { AreVectors elimination.now.p found.now.panel.width others.old }
-        ensures own { IfOk result (λ next. FindsPanel elimination.now.p elimination.now.columns.now
-            (panel_stage pivots.old found.now own.old rows.start)
-            (panel_stage pivots.new next own.new rows.end)) }
+        requires rows { AreLastRowsOf own.old step.now.rows }
+        requires ready { CanGoOn step.now.elimination.now.p step.now.elimination.now.columns.now
+            (panel_stage pivots.old step.now.found own.old step.now.rows.start) }
+        requires others { AreVectors step.now.elimination.now.p step.now.found.panel.width others.old }
+        ensures own { IfOk result (λ next. FindsPanel step.now.elimination.now.p
+            step.now.elimination.now.columns.now
+            (panel_stage pivots.old step.now.found own.old step.now.rows.start)
+            (panel_stage pivots.new next own.new step.now.rows.end)) }
         ensures others { IfOk result (λ _.
-            PanelReducesEach elimination.now.p found.now.panel others.old others.new) };
+            PanelReducesEach step.now.elimination.now.p step.now.found.panel others.old others.new) };
 }
 
 impl Helping<u32> for Alone {
@@ -84,15 +83,13 @@ impl Helping<u32> for Alone {
 
     fn find_beside(
         &self,
-        elimination: &Elimination,
-        found: &Found<u32>,
-        rows: RowRange,
+        step: &PanelStep<u32>,
         pivots: &mut Pivots,
         own: &mut [Dense<u32>],
         others: &mut [Dense<u32>],
         _left: &mut LeftRoom,
     ) -> Result<Found<u32>, AllocError> {
-        elimination.find_alone(found, rows, pivots, own, others)
+        step.find_alone(pivots, own, others)
     }
 }
 
@@ -110,15 +107,13 @@ impl Helping<u64> for Alone {
 
     fn find_beside(
         &self,
-        elimination: &Elimination,
-        found: &Found<u64>,
-        rows: RowRange,
+        step: &PanelStep<u64>,
         pivots: &mut Pivots,
         own: &mut [Dense<u64>],
         others: &mut [Dense<u64>],
         _left: &mut LeftRoom,
     ) -> Result<Found<u64>, AllocError> {
-        elimination.find_alone(found, rows, pivots, own, others)
+        step.find_alone(pivots, own, others)
     }
 }
 
@@ -136,15 +131,13 @@ impl<'a, R: Threads + Sync> Helping<u32> for Threaded<'a, R> {
 
     fn find_beside(
         &self,
-        elimination: &Elimination,
-        found: &Found<u32>,
-        rows: RowRange,
+        step: &PanelStep<u32>,
         pivots: &mut Pivots,
         own: &mut [Dense<u32>],
         others: &mut [Dense<u32>],
         left: &mut LeftRoom,
     ) -> Result<Found<u32>, AllocError> {
-        elimination.find_beside(self.runtime, found, rows, pivots, own, others, left)
+        step.find_beside(self.runtime, pivots, own, others, left)
     }
 }
 
@@ -162,14 +155,12 @@ impl<'a, R: Threads + Sync> Helping<u64> for Threaded<'a, R> {
 
     fn find_beside(
         &self,
-        elimination: &Elimination,
-        found: &Found<u64>,
-        rows: RowRange,
+        step: &PanelStep<u64>,
         pivots: &mut Pivots,
         own: &mut [Dense<u64>],
         others: &mut [Dense<u64>],
         left: &mut LeftRoom,
     ) -> Result<Found<u64>, AllocError> {
-        elimination.find_beside(self.runtime, found, rows, pivots, own, others, left)
+        step.find_beside(self.runtime, pivots, own, others, left)
     }
 }

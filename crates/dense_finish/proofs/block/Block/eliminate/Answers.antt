@@ -1,4 +1,5 @@
-use Rattle.std.proofs.Common.{◌≡◌, ◌∙◌, ◌++◌, ap, arith, drop, length, sym, take}
+use Rattle.std.proofs.Common.{◌≡◌, ◌≤◌, ◌∙◌, ◌++◌, ap, arith, drop, length, sym, take}
+use Rattle.sparse_rows.specs.declared.rows.TheConstants.{LARGEST_SIZE}
 use Rattle.dense_finish.proofs.Assembling.{eliminates}
 use Rattle.dense_finish.proofs.Parts.{refilled}
 use Rattle.dense_finish.proofs.block.Block.eliminate.Goals as goal
@@ -13,30 +14,22 @@ returns g c =
     let split = rw (c.deref.ensures.value, c.deref_mut.ensures.value) at c.eliminate.ensures.split in
     rw (← c.self.view_is, left) (eliminates _ rows c.eliminate.result (rw (← c.self.view_is) at c.requires.dense) (c.eliminate.auto.block ∙ ap length c.deref_mut.ensures.value) found eliminated split)
 
-pub eliminate-requires-clause-narrow : goal.eliminate-requires-clause-narrow
-eliminate-requires-clause-narrow g c κs within =
+pub invariant_of-elimination : goal.invariant_of-elimination
+invariant_of-elimination g c =
     let dense = rw (← c.self.view_is) at c.requires.dense in
-    dense.narrow
+    let few : length c.deref.result.now ≤ LARGEST_SIZE = omega (arith, ap length c.deref.ensures.value, dense.columns_few) in
+    record {
+      some = c.requires.some;
+      few = few;
+      inside = rw c.deref.ensures.value dense.columns_below;
+      rising = rw c.deref.ensures.value dense.columns_rising;
+      narrow = dense.narrow;
+    }
 
 pub eliminate-requires-clause-low : goal.eliminate-requires-clause-low
 eliminate-requires-clause-low g c κs within =
     let dense = rw (← c.self.view_is) at c.requires.dense in
     omega (arith, ap length c.deref_mut.ensures.value, dense.long, dense.rows_few)
-
-pub eliminate-requires-clause-few : goal.eliminate-requires-clause-few
-eliminate-requires-clause-few g c κs within =
-    let dense = rw (← c.self.view_is) at c.requires.dense in
-    omega (arith, ap length c.deref.ensures.value, dense.columns_few)
-
-pub eliminate-requires-clause-inside : goal.eliminate-requires-clause-inside
-eliminate-requires-clause-inside g c κs within =
-    let dense = rw (← c.self.view_is) at c.requires.dense in
-    rw c.deref.ensures.value dense.columns_below
-
-pub eliminate-requires-clause-rising : goal.eliminate-requires-clause-rising
-eliminate-requires-clause-rising g c κs within =
-    let dense = rw (← c.self.view_is) at c.requires.dense in
-    rw c.deref.ensures.value dense.columns_rising
 
 pub eliminate-requires-clause-residues : goal.eliminate-requires-clause-residues
 eliminate-requires-clause-residues g c κs within =

@@ -16,9 +16,9 @@ loop-done-init g c =
       ready = record {
         reached = record {
           low = c.requires.low;
-          few = c.requires.few;
-          inside = λ j l. omega (arith, c.requires.inside j l, c.in_ok-pivots.ensures.found.wide);
-          rising = c.requires.rising;
+          few = c.args.self.now.few;
+          inside = λ j l. omega (arith, c.args.self.now.inside j l, c.in_ok-pivots.ensures.found.wide);
+          rising = c.args.self.now.rising;
           found = found_own c.in_ok-pivots.ensures.found;
           eliminated = eliminated_begins block pivots c.in_ok-pivots.ensures.none c.requires.residues;
         };
@@ -35,7 +35,7 @@ loop-done-preserved g c =
     record {
       inside = omega arith;
       wide = finds.found.wide ∙ before.wide;
-      ready = ready_next finds before.ready c.next_panel.auto.block;
+      ready = ready_next finds before.ready c.find.auto.block;
       split = λ prime. split_next finds c.args.block.now prime (before.split prime);
     }
 

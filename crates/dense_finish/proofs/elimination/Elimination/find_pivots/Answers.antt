@@ -115,12 +115,6 @@ returns-clause-split g c = let end : c.loop-i.i ≡ c.args.rows.end = omega arit
 pub take_pivot-requires-clause-row : goal.take_pivot-requires-clause-row
 take_pivot-requires-clause-row g c κs within = omega (arith, c.loop-i.auto.block, c.requires.rows.inside, c.requires.ready.low)
 
-pub take_pivot-requires-clause-few : goal.take_pivot-requires-clause-few
-take_pivot-requires-clause-few g c κs within = c.requires.ready.few
-
-pub take_pivot-requires-clause-rising : goal.take_pivot-requires-clause-rising
-take_pivot-requires-clause-rising g c κs within = c.requires.ready.rising
-
 pub reduce-requires-clause-modulus : goal.reduce-requires-clause-modulus
 reduce-requires-clause-modulus g c κs within = c.requires.modulus
 
