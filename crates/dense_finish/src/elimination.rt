@@ -34,10 +34,6 @@ use std::thread::Threads;
 // How many of a panel's rows are reduced by one another one by one, before their pivots are taken out of the others at once.
 const PART: usize = 16;
 
-// For how many rows ahead the memory of the left factor is written to. In the last panels a worker has less to do than the one who writes
-// to a panel's share of it: so it is written to while they take long.
-const AHEAD: usize = 16 * PANEL;
-
 /// What stays the same during an elimination: the columns of the matrix that the block's stand for and the matrix's width, the modulus,
 /// and the number of workers.
 #[derive(Clone, Copy)]
@@ -153,20 +149,14 @@ impl<'a> Elimination<'a> {
         let mut found = Found::none(self.alloc, self.columns.len());
         let mut done = 0;
         while done < block.len() {
-            let rows = RowRange {
-                start: done,
-                end: self.panel_end(done, block.len()),
-            };
-            let size = rows.end - rows.start;
-            left.expect((block.len() - done).min(AHEAD), pivots.rows.len());
+            let end = self.panel_end(done, block.len());
             let step = PanelStep {
                 elimination: &*self,
                 found,
-                rows,
+                rows: RowRange { start: done, end },
             };
-            found = step.find(crew, &mut pivots, block, left)?;
-            left.count(size, pivots.rows.len());
-            done = rows.end;
+            found = step.run(crew, &mut pivots, block, left)?;
+            done = end;
         }
         Ok(pivots)
     }

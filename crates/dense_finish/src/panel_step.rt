@@ -9,6 +9,7 @@ use crate::dense::Dense;
 use crate::elimination::{Elimination, RowRange};
 use crate::found::Found;
 use crate::left_room::LeftRoom;
+use crate::panel::PANEL;
 use crate::pieces::{Piece, put_pieces, with_pieces};
 use crate::pivots::Pivots;
 use crate::reducing::Reducing;
@@ -20,6 +21,10 @@ use crate::taker::Taker;
 use std::alloc::AllocError;
 use std::thread::{Threads, join_mut};
 
+// For how many rows ahead the memory of the left factor is written to. In the last panels a worker has less to do than the one who writes
+// to a panel's share of it: so it is written to while they take long.
+const AHEAD: usize = 16 * PANEL;
+
 /// The panel whose pivots were found last, which are taken out of the rows behind them, and the first of these rows, in which the next
 /// pivots are found.
 #[derive(Drop)]
@@ -30,8 +35,34 @@ pub struct PanelStep<'a, W: Residue> {
 }
 
 impl<'a, W: Reducing> PanelStep<'a, W> {
-    // Takes the panel's pivots out of the block's rows from the first of these on, and finds those of these rows meanwhile.
-    pub(crate) fn find<C: Helping<W>>(
+    // Takes the panel's pivots out of the block's rows from the first of these on, and finds those of these rows. Meanwhile the memory for
+    // the left factor is written to.
+    pub(crate) fn run<C: Helping<W>>(
+        &self,
+        crew: &C,
+        pivots: &mut Pivots,
+        block: &mut [Dense<W>],
+        left: &mut LeftRoom,
+    ) -> Result<Found<W>, AllocError>
+        requires able { C.can_work }
+        requires modulus { W.serves self.now.elimination.now.p }
+        requires rows { AreRowsOf block.old self.now.rows }
+        requires ready { CanGoOn self.now.elimination.now.p self.now.elimination.now.columns.now
+            (panel_stage pivots.old self.now.found block.old self.now.rows.start) }
+        ensures { IfOk result (λ next. FindsPanel self.now.elimination.now.p
+            self.now.elimination.now.columns.now
+            (panel_stage pivots.old self.now.found block.old self.now.rows.start)
+            (panel_stage pivots.new next block.new self.now.rows.end)) }
+    {
+        let ahead = (block.len() - self.rows.start).min(AHEAD);
+        left.expect(ahead, pivots.rows.len());
+        let next = self.find(crew, pivots, block, left)?;
+        left.count(self.rows.end - self.rows.start, pivots.rows.len());
+        Ok(next)
+    }
+
+    // The same, by the caller alone or with the others' help.
+    fn find<C: Helping<W>>(
         &self,
         crew: &C,
         pivots: &mut Pivots,

@@ -35,7 +35,7 @@ loop-done-preserved g c =
     record {
       inside = omega arith;
       wide = finds.found.wide ∙ before.wide;
-      ready = ready_next finds before.ready c.find.auto.block;
+      ready = ready_next finds before.ready c.run.auto.block;
       split = λ prime. split_next finds c.args.block.now prime (before.split prime);
     }
 
