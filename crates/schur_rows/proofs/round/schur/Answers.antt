@@ -5,4 +5,4 @@ pub returns-clause-fits : goal.returns-clause-fits
 returns-clause-fits g c = whole_fits (whole_of c.by_walks-reducer.ensures c.in_ok-left.ensures)
 
 pub returns-clause-round : goal.returns-clause-round
-returns-clause-round g c = λ prime. whole_round (sound_of c.rows.ensures c.modulus.ensures.sound) c.pairs.ensures.triangular prime (whole_of c.by_walks-reducer.ensures c.in_ok-left.ensures)
+returns-clause-round g c = λ prime. whole_round (sound_of c.rows.ensures c.is_sound-2.ensures.entries) c.is_sound.ensures prime (whole_of c.by_walks-reducer.ensures c.in_ok-left.ensures)

@@ -24,12 +24,12 @@ basis_with-requires-clause-width g c = c.in_ok-left.ensures.0.width ∙ sym c.lo
 pub basis_with-requires-clause-height : goal.basis_with-requires-clause-height
 basis_with-requires-clause-height g c =
     let small : c.args.pass.reducer.now.rows.matrix.height ≤ LARGEST_SIZE = subst (λ (R : ResidueMatrix). R.matrix.height ≤ LARGEST_SIZE) c.rows-rows.ensures (omega (arith, c.height-height.ensures.value, c.height-height.ensures.bound)) in
-    omega (arith, c.loop-from.invariant.basis.height, c.in_ok-left.ensures.0.height, c.in_ok-left.ensures.1, c.to.ensures, small)
+    omega (arith, c.loop-from.invariant.basis.height, c.in_ok-left.ensures.0.height, c.in_ok-left.ensures.1, c.end_of-to.ensures, small)
 
 pub loop-from-preserved : goal.loop-from-preserved
 loop-from-preserved g c = record {
-  inside = omega (arith, c.to.ensures);
-  basis = c.in_ok-basis_with.ensures c.args.pass.reducer.now c.loop-from.from c.to.result c.loop-from.invariant.basis (without_coefficients c.in_ok-left.ensures);
+  inside = omega (arith, c.end_of-to.ensures);
+  basis = c.in_ok-basis-2.ensures c.args.pass.reducer.now c.loop-from.from c.end_of-to.result c.loop-from.invariant.basis (without_coefficients c.in_ok-left.ensures);
 }
 
 pub returns : goal.returns
@@ -37,6 +37,6 @@ returns g c =
     let height = c.height-height.ensures in
     let same = ap (λ (R : ResidueMatrix). R.matrix.height) c.rows-rows.ensures in
     elim c.loop-from-test.branch [
-      | then-loop-from-test+else-height-columns w ↦ basis_full schur_row_one (subst (λ (R : ResidueMatrix). IsMatrix R.modulus R.matrix) c.rows-rows.ensures height.sound) c.pairs.ensures.triangular c.loop-from.invariant.basis (omega (arith, c.loop-from.invariant.inside)) c.in_ok-columns.ensures (omega (arith, w.if-height-columns.false, w.height.ensures.value))
-      | else-loop-from-test w ↦ basis_all c.pairs.ensures.triangular c.loop-from.invariant.basis (omega (arith, c.loop-from.invariant.inside, w.loop-from-test.false, height.value, same))
+      | then-loop-from-test+else-height-columns w ↦ basis_full schur_row_one (subst (λ (R : ResidueMatrix). IsMatrix R.modulus R.matrix) c.rows-rows.ensures height.sound) c.is_sound.ensures c.loop-from.invariant.basis (omega (arith, c.loop-from.invariant.inside)) c.in_ok-columns.ensures (omega (arith, w.if-height-columns.false, w.height.ensures.value))
+      | else-loop-from-test w ↦ basis_all c.is_sound.ensures c.loop-from.invariant.basis (omega (arith, c.loop-from.invariant.inside, w.loop-from-test.false, height.value, same))
     ]
