@@ -1,5 +1,5 @@
 // Matrices that C passes.
-ghost use Rattle.std.specs.Prelude.{◌≡◌, ◌≢◌, ◌<◌, ◌≤◌, ◌+◌, ℕ, length, slice_index, IfNone, IfOk, IfSome, IsFalse, IsTrue};
+ghost use Rattle.std.specs.Prelude.{◌≡◌, ◌<◌, ◌+◌, length, IfNone, IfOk, IfSome, IsFalse, IsTrue};
 ghost use Rattle.spasm_c.specs.Given.{EntryFits, IsBefore, IsInOrder, IsSoundInput, given_matrix};
 
 use residue_words::{MODULUS_BOUND, Modulus};
@@ -25,7 +25,7 @@ pub struct Given<'a> {
 }
 
 impl Given<'_> {
-    // The matrix; `None` if the arrays aren't sound. Entries in order are copied row by row, as they stand; others are sorted.
+    // The matrix; `None` if the arrays aren't sound. Entries in order are copied as they stand; others are sorted.
     pub(crate) fn matrix(&self, alloc: Global) -> Result<Option<Rows>, AllocError>
         ensures none { IfOk result (λ found. IfNone found (¬ IsSoundInput self.now)) }
         ensures sound { IfOk result (λ found. IfSome found (λ _. IsSoundInput self.now)) }
@@ -59,12 +59,13 @@ impl Given<'_> {
         if self.height > LARGEST_SIZE || self.width > LARGEST_SIZE {
             return false;
         }
+        // Without an early exit, so that vector registers can take several entries at once.
+        let mut sound = true;
         for k in 0..self.rows.len() {
-            if !self.fits(k) {
-                return false;
-            }
+            let fits = self.fits(k);
+            sound = sound && fits;
         }
-        true
+        sound
     }
 
     // Whether this entry lies inside.
@@ -75,7 +76,8 @@ impl Given<'_> {
         ensures yes { IsTrue result → EntryFits self.now k }
         ensures no { IsFalse result → ¬ EntryFits self.now k }
     {
-        self.rows[k] < self.height && self.columns[k] < self.width && self.values[k] < self.modulus
+        let (row, column, value) = (self.rows[k], self.columns[k], self.values[k]);
+        row < self.height && column < self.width && value < self.modulus
     }
 
     // Whether the entries ascend by rows and, within a row, by columns, and none is 0.
@@ -83,15 +85,16 @@ impl Given<'_> {
         requires { IsSoundInput self.now }
         ensures { IsTrue result → IsInOrder self.now }
     {
-        for k in 0..self.rows.len() {
-            if self.values[k] == 0 {
-                return false;
-            }
-            if k + 1 < self.rows.len() && !self.is_before_next(k) {
-                return false;
-            }
+        if self.rows.is_empty() {
+            return true;
         }
-        true
+        // Without an early exit, as above.
+        let mut ordered = self.values[0] != 0;
+        for k in 1..self.rows.len() {
+            let (before, nonzero) = (self.is_before_next(k - 1), self.values[k] != 0);
+            ordered = ordered && before && nonzero;
+        }
+        ordered
     }
 
     // Whether this entry stands before the next.
@@ -100,8 +103,9 @@ impl Given<'_> {
         requires inside { k + 1 < length self.now.rows.now }
         ensures { IsTrue result → IsBefore self.now k (k + 1) }
     {
-        let (row, next) = (self.rows[k], self.rows[k + 1]);
-        row < next || (row == next && self.columns[k] < self.columns[k + 1])
+        let (row, next_row) = (self.rows[k], self.rows[k + 1]);
+        let (column, next_column) = (self.columns[k], self.columns[k + 1]);
+        row < next_row || (row == next_row && column < next_column)
     }
 
     // The matrix of entries in order.
@@ -113,38 +117,16 @@ impl Given<'_> {
           matrix = given_matrix self.now;
         }) }
     {
-        let modulus = Modulus::new(self.modulus);
-        let mut made = Rows::with_room(alloc, modulus, self.width, self.height, self.rows.len())?;
-        let mut next = 0;
-        let mut begin = 0;
-        while begin < self.rows.len() {
-            let row = self.rows[begin];
-            let end = self.row_end(begin);
-            made.append_zeros(row - next)?;
-            made.append_entries(&self.columns[begin..end], &self.values[begin..end])?;
-            next = row + 1;
-            begin = end;
-        }
-        made.append_zeros(self.height - next)?;
-        Ok(made)
-    }
-
-    // Where the entries end that follow this one in its row.
-    fn row_end(&self, begin: usize) -> usize
-        requires { begin < length self.now.rows.now }
-        ensures some { begin < result }
-        ensures within { result ≤ length self.now.rows.now }
-        ensures row { (k : ℕ) → begin ≤ k → k < result →
-            slice_index self.now.rows.now k ≡ slice_index self.now.rows.now begin }
-        ensures next { result < length self.now.rows.now →
-            slice_index self.now.rows.now result ≢ slice_index self.now.rows.now begin }
-    {
-        for k in begin + 1..self.rows.len() {
-            if self.rows[k] != self.rows[begin] {
-                return k;
-            }
-        }
-        self.rows.len()
+        let rows = Rows::from_entries_in_order(
+            alloc,
+            Modulus::new(self.modulus),
+            self.height,
+            self.width,
+            self.rows,
+            self.columns,
+            self.values,
+        )?;
+        Ok(rows)
     }
 
     // The matrix of entries in any order.

@@ -1,71 +1,19 @@
-use Rattle.std.proofs.Common.{◌≡◌, ◌∙◌, ℕ, List, ap, arith, slice_range, subst, sym}
-use Rattle.residue_words.specs.Matrix.{Matrix}
-use Rattle.sparse_rows.specs.Stored.{IsSparse}
-use Rattle.spasm_c.proofs.InOrder.{IsRowEnd, copying_ends, copying_more, inside, low, next_run, run_sparse}
+use Rattle.std.proofs.Common.{◌<◌, ◌∙◌, ℕ, ap₂, length, subst, sym}
+use Rattle.sparse_rows.specs.Rows.{FitsMatrix, built}
+use Rattle.spasm_c.specs.Given.{entry_given}
+use Rattle.spasm_c.proofs.InOrder.{each_fits, place_rises, triples_listed}
 use Rattle.spasm_c.proofs.given.Given.copied.Goals as goal
 
-pub append_zeros-requires : goal.append_zeros-requires
-append_zeros-requires c =
-    let end : IsRowEnd c.args.self.now c.loop-begin.begin c.row_end-end.result = record {
-      some = c.row_end-end.ensures.some;
-      within = c.row_end-end.ensures.within;
-      row = c.row_end-end.ensures.row;
-      next = c.row_end-end.ensures.next;
-    } in
-    omega (
-      arith,
-      ap (λ (M : Matrix). M.height) c.loop-begin.invariant.matrix,
-      low c.requires.sound c.requires.order c.loop-begin.invariant end,
-      inside c.requires.sound c.requires.order c.loop-begin.invariant end,
-      c.requires.sound.fit.height,
-    )
-
-pub append_entries-requires-clause-height_small : goal.append_entries-requires-clause-height_small
-append_entries-requires-clause-height_small c =
-    let end : IsRowEnd c.args.self.now c.loop-begin.begin c.row_end-end.result = record {
-      some = c.row_end-end.ensures.some;
-      within = c.row_end-end.ensures.within;
-      row = c.row_end-end.ensures.row;
-      next = c.row_end-end.ensures.next;
-    } in
-    omega (
-      arith,
-      ap (λ (M : Matrix). M.height) c.in_ok-append_zeros.ensures.matrix,
-      ap (λ (M : Matrix). M.height) c.loop-begin.invariant.matrix,
-      low c.requires.sound c.requires.order c.loop-begin.invariant end,
-      inside c.requires.sound c.requires.order c.loop-begin.invariant end,
-      c.requires.sound.fit.height,
-    )
-
-pub append_entries-requires-clause-sparse : goal.append_entries-requires-clause-sparse
-append_entries-requires-clause-sparse c =
+pub from_entries_in_order-requires-clause-inside : goal.from_entries_in_order-requires-clause-inside
+from_entries_in_order-requires-clause-inside c =
     let a = c.args.self.now in
-    let end : IsRowEnd a c.loop-begin.begin c.row_end-end.result = record {
-      some = c.row_end-end.ensures.some;
-      within = c.row_end-end.ensures.within;
-      row = c.row_end-end.ensures.row;
-      next = c.row_end-end.ensures.next;
-    } in
-    let made = c.append_zeros.new.self in
-    let modulus : a.modulus ≡ made.modulus = sym (c.in_ok-append_zeros.ensures.modulus ∙ c.loop-begin.invariant.modulus) in
-    let width : a.width ≡ made.matrix.width =
-    sym (ap (λ (M : Matrix). M.width) c.in_ok-append_zeros.ensures.matrix ∙ ap (λ (M : Matrix). M.width) c.loop-begin.invariant.matrix) in
-    let cs : List ℕ = slice_range a.columns.now c.loop-begin.begin c.row_end-end.result in
-    let vs : List ℕ = slice_range a.values.now c.loop-begin.begin c.row_end-end.result in
-    subst (λ p. IsSparse p made.matrix.width cs vs) modulus (subst (λ n. IsSparse a.modulus n cs vs) width
-    (run_sparse c.requires.sound c.requires.order (next_run c.requires.sound c.requires.order c.loop-begin.invariant end)))
+    subst (λ p. (k : ℕ) → k < length a.rows.now → FitsMatrix a.height a.width p (entry_given a k)) (sym c.new.ensures) (each_fits c.requires.sound)
 
-pub loop-begin-preserved : goal.loop-begin-preserved
-loop-begin-preserved c =
-    let end : IsRowEnd c.args.self.now c.loop-begin.begin c.row_end-end.result = record {
-      some = c.row_end-end.ensures.some;
-      within = c.row_end-end.ensures.within;
-      row = c.row_end-end.ensures.row;
-      next = c.row_end-end.ensures.next;
-    } in
-    copying_more c.requires.sound c.requires.order c.loop-begin.invariant end
-    c.in_ok-append_zeros.ensures.modulus c.in_ok-append_zeros.ensures.matrix c.in_ok-append_entries.ensures.modulus c.in_ok-append_entries.ensures.matrix
+pub from_entries_in_order-requires-clause-order : goal.from_entries_in_order-requires-clause-order
+from_entries_in_order-requires-clause-order c = λ k l. place_rises c.requires.sound k l (c.requires.order.order k l)
 
 pub returns : goal.returns
 returns c =
-    copying_ends c.requires.sound c.requires.order c.loop-begin.invariant c.loop-begin-test.false c.in_ok-append_zeros-2.ensures.modulus c.in_ok-append_zeros-2.ensures.matrix
+    let a = c.args.self.now in
+    ap₂ (λ p A. record { modulus = p; matrix = A }) (c.in_ok-rows.ensures.modulus ∙ c.new.ensures)
+    (c.in_ok-rows.ensures.matrix ∙ ap₂ (λ p ts. built p a.height a.width ts) c.new.ensures (sym (triples_listed c.requires.sound)))
