@@ -89,6 +89,7 @@ impl OrderedCells {
     pub(crate) fn is_sound(&self)
         ensures { HaveRisingPlaces self.now }
     {
+        // A proof knows the invariant if a field is used.
         let _ = &self.starts;
     }
 
