@@ -30,8 +30,8 @@ half_put end from start half bytes long low high room inside e =
     ∙ ap (λ l. l ++ drop (end - 16 + (end - (end - 16))) bytes) (drop-drop (from - 16) 16 start ∙ ap (λ n. drop n start) past)
     ∙ ap (λ n. drop from start ++ drop n bytes) back
 
-pub grouped : (a b c d : List ℕ) → a ++ (b ++ (32 ∷ (c ++ d))) ≡ a ++ b ++ 32 ∷ c ++ d
-grouped a b c d = simp append_assoc
+pub words_grouped : (a b c d : List ℕ) → a ++ (b ++ (32 ∷ (c ++ d))) ≡ a ++ b ++ 32 ∷ c ++ d
+words_grouped a b c d = simp append_assoc
 
 -- a line put in front of a line's end and other lines
 pub line_put : (i j v : ℕ) (start rest lines : List ℕ) → start ≡ 10 ∷ decimal i ++ 32 ∷ [] → rest ≡ 10 ∷ lines

@@ -22,8 +22,8 @@ pairs_below (suc m) n t h =
       | inr g ↦ pairs_below m n (and_r _ (are_pairs m) t) (omega arith)
     ]
 
-pub pair_at : (n : ℕ) → n < 100 → (get_or PAIRS (n * 2) 0 ≡ 48 + n / 10) × (get_or PAIRS (n * 2 + 1) 0 ≡ 48 + n % 10)
-pair_at n h = pairs_below 100 n tt h
+pub digits_at : (n : ℕ) → n < 100 → (get_or PAIRS (n * 2) 0 ≡ 48 + n / 10) × (get_or PAIRS (n * 2 + 1) 0 ≡ 48 + n % 10)
+digits_at n h = pairs_below 100 n tt h
 
 -- the last six digits of a number from a million on
 pub decimal_six : (n : ℕ) → 1000000 ≤ n → n < 2 ^ 64 → decimal n ≡ decimal (n / 1000000) ++ six_digits (n % 1000000)
@@ -78,10 +78,10 @@ all_six n low h =
     (ap length d, λ rest. rw d refl)
 
 -- the comparisons of a number below a million count its digits, and its digits are the last of the six
-abbrev pub counted : ℕ → ℕ
-counted n = 1 + bool_byte (leb 10 n) + bool_byte (leb 100 n) + bool_byte (leb 1000 n) + bool_byte (leb 10000 n) + bool_byte (leb 100000 n)
+abbrev pub count_by_comparisons : ℕ → ℕ
+count_by_comparisons n = 1 + bool_byte (leb 10 n) + bool_byte (leb 100 n) + bool_byte (leb 1000 n) + bool_byte (leb 10000 n) + bool_byte (leb 100000 n)
 
-has_counted : (n : ℕ) → n < 1000000 → HasDigits n (counted n)
+has_counted : (n : ℕ) → n < 1000000 → HasDigits n (count_by_comparisons n)
 has_counted n h = elim (cases_lt n 10) [
   | inl a ↦ rw (lt-leb 10 n a, lt-leb 100 n (omega arith), lt-leb 1000 n (omega arith), lt-leb 10000 n (omega arith), lt-leb 100000 n (omega arith)) (one n a)
   | inr a ↦ elim (cases_lt n 100) [
@@ -99,7 +99,7 @@ has_counted n h = elim (cases_lt n 10) [
   ]
 ]
 
-pub count_is : (n : ℕ) → n < 1000000 → counted n ≡ length (decimal n)
+pub count_is : (n : ℕ) → n < 1000000 → count_by_comparisons n ≡ length (decimal n)
 count_is n h = sym (has_counted n h).0
 
 pub some_digits : (n : ℕ) → n < 1000000 → 1 ≤ length (decimal n)

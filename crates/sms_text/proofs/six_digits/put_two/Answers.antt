@@ -1,11 +1,11 @@
 use Rattle.std.proofs.Common.{◌≡◌, ◌+◌, ◌%◌, set, arith, length-set}
 use Rattle.std.proofs.lemmas.List.{set_comm, drop-set}
-use Rattle.sms_text.proofs.SixDigits.{pair_at}
+use Rattle.sms_text.proofs.SixDigits.{digits_at}
 use Rattle.sms_text.proofs.six_digits.put_two.Goals as goal
 
 pub returns : goal.returns
 returns c =
-    let p = pair_at c.args.n c.requires.0 in
+    let p = digits_at c.args.n c.requires.0 in
     let at = c.args.at in
     let bytes = c.args.bytes.now in
     let e : at + 1 + 1 ≡ at + 2 = omega arith in

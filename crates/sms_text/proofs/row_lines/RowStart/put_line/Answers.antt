@@ -2,7 +2,7 @@ use Rattle.std.proofs.Common.{◌≡◌, ◌+◌, ◌-◌, ◌≤◌, ◌∷◌,
 use Rattle.std.specs.Fmt.{decimal}
 use Rattle.std.proofs.lemmas.List.{drop-set}
 use Rattle.sms_text.proofs.SixDigits.{at_most_twenty}
-use Rattle.sms_text.proofs.PutLines.{at_most_ten, grouped}
+use Rattle.sms_text.proofs.PutLines.{at_most_ten, words_grouped}
 use Rattle.sms_text.proofs.row_lines.RowStart.put_line.Goals as goal
 
 pub overflow_sub-bytes : goal.overflow_sub-bytes
@@ -45,4 +45,4 @@ returns-clause-written c =
     c.put.ensures.written
     ∙ ap (λ l. c.args.self.now ++ l) (c.put_number-at-2.ensures.written ∙ ap (λ n. decimal n ++ drop (at - 1) (set bytes (at - 1) 32)) c.from.ensures
     ∙ ap (λ l. decimal c.args.j ++ l) (gap ∙ ap (λ l. 32 ∷ l) c.put_number-at.ensures.written))
-    ∙ grouped _ _ _ _
+    ∙ words_grouped _ _ _ _
