@@ -10,9 +10,11 @@ use Rattle.sparse_rows.specs.Stored.{with_row}
 use Rattle.sparse_rows.specs.declared.rows.TheConstants.{LARGEST_SIZE}
 use Rattle.dense_finish.specs.Block.{AreVectors, DenseBlock, IsDense, block_row, entry_of, with_entries}
 use Rattle.dense_finish.specs.Dense.{Scatters}
+use Rattle.dense_finish.specs.Factors.{IsLeftFactor}
 use Rattle.dense_finish.specs.Panel.{ArePivots, Continues, PanelRows}
 use Rattle.dense_finish.specs.Splitting.{IsSplit, IsTaken, PivotSequence}
 use Rattle.dense_finish.specs.Units.{FoundPanel, HasUnits}
+use Rattle.dense_finish.specs.declared.factors.Factors.{Factors}
 use Rattle.dense_finish.specs.declared.pivots.Pivots.{Pivots}
 use Rattle.dense_finish.specs.declared.right_factor.RightFactor.{RightFactor}
 
@@ -206,3 +208,10 @@ pub record ArePivotPlaces (f_rows f_columns rows columns : List ℕ) (pivots : L
 pub record IsRightFactorOf (block : DenseBlock) (f : Pivots) (right : RightFactor) : Type 0 where
   pub same : right.u ≡ f.u
   pub places : ArePivotPlaces f.rows.items f.columns.items block.rows block.columns right.pivots
+
+-- both factors of an eliminated block with these pivots
+pub record AreBlockFactors (block : DenseBlock) (f : Pivots) (factors : Factors) : Type 0 where
+  pub modulus : factors.l.modulus ≡ block.modulus
+  pub residues : IsMatrix block.modulus factors.l.matrix
+  pub left : IsLeftFactor block.height block.rows f.columns.items block.entries factors.l.matrix
+  pub right : IsRightFactorOf block f (record { pivots = factors.pivots; u = factors.u })

@@ -13,7 +13,7 @@ ghost use Rattle.dense_finish.specs.Pivots.{AddsPivot, AreEliminated, AreFound, 
 
 use crate::block::Block;
 use crate::dense::Dense;
-use crate::factors::{Factors, left_factor};
+use crate::factors::{Factors, factors_of};
 use crate::found::Found;
 use crate::left_room::LeftRoom;
 use crate::panel::{PANEL, Panel, zeros_before};
@@ -21,7 +21,6 @@ use crate::panel_step::PanelStep;
 use crate::pivots::Pivots;
 use crate::reducing::Reducing;
 use crate::residue::Residue;
-use crate::right_factor::RightFactor;
 use crate::share::{Share, Shares};
 use crate::split_work::Helping;
 use crate::taker::Taker;
@@ -94,9 +93,7 @@ fn finish_in<C: Helping<W>, W: Reducing>(
     let mut block = Block::<W>::of(crew, alloc, rows, workers)?;
     let mut left = LeftRoom::of(alloc, &block)?;
     let pivots = block.eliminate(crew, alloc, workers, &mut left)?;
-    let l = left_factor(alloc, &block, &pivots, left)?;
-    let RightFactor { pivots, u } = pivots.into_right_factor(alloc, &block)?;
-    Ok(Factors { pivots, l, u })
+    factors_of(alloc, &block, pivots, left)
 }
 
 impl<W: Reducing> Block<W> {

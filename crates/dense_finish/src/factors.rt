@@ -5,12 +5,13 @@ ghost use Rattle.sparse_rows.specs.Rows.{AreRising, with_zeros};
 ghost use Rattle.sparse_rows.specs.declared.rows.TheConstants.{LARGEST_SIZE};
 ghost use Rattle.dense_finish.specs.Block.{IsDense};
 ghost use Rattle.dense_finish.specs.Factors.{IsLeftFactor};
-ghost use Rattle.dense_finish.specs.Pivots.{StandIn};
+ghost use Rattle.dense_finish.specs.Pivots.{AreBlockFactors, StandIn};
 
 use crate::block::Block;
 use crate::left_room::LeftRoom;
 use crate::pivots::Pivots;
 use crate::residue::Residue;
+use crate::right_factor::RightFactor;
 use crate::row_room::RowRoom;
 use residue_words::plain::Pair;
 use sparse_rows::{List, Rows};
@@ -28,9 +29,25 @@ pub struct Factors {
     pub u: Rows,
 }
 
+// The factors that an eliminated block with these pivots gives. The left one is put into this room.
+pub(crate) fn factors_of<W: Residue>(
+    alloc: Global,
+    block: &Block<W>,
+    pivots: Pivots,
+    room: LeftRoom,
+) -> Result<Factors, AllocError>
+    requires dense { IsDense block.now }
+    requires pivots { StandIn block.now pivots }
+    ensures { IfOk result (AreBlockFactors block.now pivots) }
+{
+    let l = left_factor(alloc, block, &pivots, room)?;
+    let RightFactor { pivots, u } = pivots.into_right_factor(alloc, block)?;
+    Ok(Factors { pivots, l, u })
+}
+
 // The left factor: at each of the block's rows the coefficients that it holds at the pivots' columns, which are zeros behind the
 // pivots of the rows up to it, and zeros at the others. They are put into this room.
-pub(crate) fn left_factor<W: Residue>(
+fn left_factor<W: Residue>(
     alloc: Global,
     block: &Block<W>,
     pivots: &Pivots,
