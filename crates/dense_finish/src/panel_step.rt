@@ -102,7 +102,8 @@ impl<'a, W: Reducing> PanelStep<'a, W> {
             self.now.elimination.now.columns.now
             (panel_stage pivots.old self.now.found own.old self.now.rows.start)
             (panel_stage pivots.new next own.new self.now.rows.end)) }
-        ensures others { PanelReducesEach self.now.elimination.now.p self.now.found.panel others.old others.new }
+        ensures others { PanelReducesEach self.now.elimination.now.p self.now.found.panel
+            others.old others.new }
     {
         self.found.reduce_behind(others, 0, &self.elimination.p);
         self.elimination

@@ -204,7 +204,8 @@ impl FlatRows {
         ensures sums { IsAlike sums.old sums.new }
         ensures passed { IsAlike passed.old passed.new }
         ensures rest { IsAlike rest.old rest.new }
-        ensures left { OnOk result (IsFlatRest pivots.now (spread (length passed.old.row) row.entry.cols.now row.entry.vals.now)
+        ensures left { OnOk result (IsFlatRest pivots.now
+            (spread (length passed.old.row) row.entry.cols.now row.entry.vals.now)
             rest.new.row) }
     {
         self.take_row(pivots, row, sums, passed)?;
@@ -229,7 +230,8 @@ impl FlatRows {
         requires below { AreBelow (length passed.old.row) pivots.now.columns }
         ensures sums { IsAlike sums.old sums.new }
         ensures passed { IsAlike passed.old passed.new }
-        ensures taken { OnOk result (IsTakenRow pivots.now (spread (length passed.old.row) row.entry.cols.now row.entry.vals.now)
+        ensures taken { OnOk result (IsTakenRow pivots.now
+            (spread (length passed.old.row) row.entry.cols.now row.entry.vals.now)
             sums.new.row passed.new.row) }
     {
         // The calls' contracts tell the range of the modulus, and that the flat rows are residues.

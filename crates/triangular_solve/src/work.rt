@@ -84,7 +84,8 @@ impl Work {
         ensures work { self.new ≡ self.old }
         ensures rest { IsAlike rest.old rest.new }
         ensures coefficients { IsAlike coefficients.old coefficients.new }
-        ensures reduced { OnOk result (ArePivotsReduced pivots.now (spread self.old.width row.entry.cols.now row.entry.vals.now)
+        ensures reduced { OnOk result (ArePivotsReduced pivots.now
+            (spread self.old.width row.entry.cols.now row.entry.vals.now)
             rest.new.row coefficients.new.row) }
     {
         fit(alloc, pivots, &mut self.sums)?;
@@ -116,7 +117,8 @@ impl Work {
         ensures work { self.new ≡ self.old }
         ensures rest { IsAlike rest.old rest.new }
         ensures reduced { OnOk result ((coefficients : List ℕ) ×
-            ArePivotsReduced pivots.now (spread self.old.width row.entry.cols.now row.entry.vals.now) rest.new.row coefficients) }
+            ArePivotsReduced pivots.now (spread self.old.width row.entry.cols.now row.entry.vals.now)
+            rest.new.row coefficients) }
     {
         fit(alloc, pivots, &mut self.sums)?;
         let done = rest_by(pivots, row, &mut self.sums, &mut self.passed, rest);
@@ -142,7 +144,8 @@ impl Work {
         ensures work { self.new ≡ self.old }
         ensures rest { IsAlike rest.old rest.new }
         ensures left { OnOk result
-            (IsFlatRest pivots.now (spread self.old.width row.entry.cols.now row.entry.vals.now) rest.new.row) }
+            (IsFlatRest pivots.now (spread self.old.width row.entry.cols.now row.entry.vals.now)
+            rest.new.row) }
     {
         fit(alloc, pivots, &mut self.sums)?;
         let done = flat.rest_by(pivots, row, &mut self.sums, &mut self.passed, rest);
