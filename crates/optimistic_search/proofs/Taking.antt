@@ -1,6 +1,6 @@
 -- What became of a row.
 use Rattle.std.proofs.Common.{◌≡◌, ◌≤◌, ◌+◌, ℕ, List, [], ◌∷◌, ◌++◌, take, ap, sym, ◌∙◌, append_assoc, arith}
-use Rattle.std.specs.Prelude.{None, Some}
+use Rattle.std.specs.Prelude.{Some}
 use Rattle.std.proofs.Math.Seq.{take-append_seam}
 use Rattle.residue_words.specs.Matrix.{Matrix}
 use Rattle.residue_words.specs.declared.plain.Pair.{Pair}
@@ -22,11 +22,6 @@ pub not_busy : (A : Matrix) (r : ℕ) (s : Chair) (o : Taken) (t : Chair) (befor
 not_busy A r s taken.Busy t before after e = absurd e
 not_busy A r s (taken.Published k) t before after e = tt
 not_busy A r s taken.Dropped t before after e = tt
-
-pub hand_empty : (A : Matrix) (r : ℕ) (s : Chair) (o : Taken) (t : Chair) → LetsGo A r s o t → t.hand ≡ None
-hand_empty A r s taken.Busy t e = absurd e
-hand_empty A r s (taken.Published k) t e = ap (λ (x : Chair). x.hand) e.3
-hand_empty A r s taken.Dropped t e = ap (λ (x : Chair). x.hand) e.1
 
 pub published_goes : (A : Matrix) (r j k : ℕ) (s t u : Chair) → LeastAlive A s.seen r j → s.hand ≡ Some r → Publishes s j k t → Finishes t u → LetsGo A r s (taken.Published k) u
 published_goes A r j k s t u least mine p f =
