@@ -4,7 +4,7 @@
 usage: bench/c_library.py MATRIX.sms ..
 
 The library is c/build/libspasm.so (c/build.sh), the program crates/spasm_main/out/spasm_main. What the program takes to read is shown by
-`solve` on the same text, which ends with status 3 behind it, where the right-hand side is missing. Each line has the least of five runs.
+`solve` on the same text, which ends with status 3 behind it, where the right-hand side is missing. Each line has the least of 25 runs.
 """
 
 from __future__ import annotations
@@ -18,7 +18,7 @@ from pathlib import Path
 
 ROOT = Path(__file__).resolve().parent.parent
 PROGRAM = ROOT / "crates" / "spasm_main" / "out" / "spasm_main"
-MODULUS, RUNS = 42013, 5
+MODULUS, RUNS = 42013, 25
 
 
 class Matrix(ctypes.Structure):
