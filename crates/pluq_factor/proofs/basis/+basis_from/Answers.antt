@@ -8,9 +8,9 @@ use Rattle.pluq_factor.proofs.basis.+basis_from.Goals as goal
 pub returns-then-is_basis : goal.returns-then-is_basis
 returns-then-is_basis g t c =
     let left = subst (λ (o : Option Left). IfSome o (IsLeftBy c.args.rows)) c.in-Some.is c.in_ok-left.ensures in
-    basis_joined left c.height-2.ensures.sound (basis_itself left c.if-is_basis.true) (omega (arith, c.height.ensures.value, c.height.ensures.bound)) c.in_ok-whole.ensures.modulus c.in_ok-whole.ensures.width c.in_ok-whole.ensures.stacked
+    basis_joined left c.is_sound-2.ensures.entries (basis_itself left c.if-is_basis.true) (omega (arith, c.is_sound.ensures.height)) c.in_ok-whole.ensures.modulus c.in_ok-whole.ensures.width c.in_ok-whole.ensures.stacked
 
 pub returns : goal.returns
 returns g t c =
     let left = subst (λ (o : Option Left). IfSome o (IsLeftBy c.args.rows)) c.in-Some.is c.in_ok-left.ensures in
-    basis_joined {V = c.in_ok-below.below} left c.height-3.ensures.sound c.in_ok-below.ensures (omega (arith, c.height.ensures.value, c.height.ensures.bound)) c.in_ok-basis.ensures.modulus c.in_ok-basis.ensures.width c.in_ok-basis.ensures.stacked
+    basis_joined {V = c.in_ok-below.below} left c.is_sound-3.ensures.entries c.in_ok-below.ensures (omega (arith, c.is_sound.ensures.height)) c.in_ok-basis.ensures.modulus c.in_ok-basis.ensures.width c.in_ok-basis.ensures.stacked

@@ -21,7 +21,7 @@ returns-in_default-clause-factors g t c = finished c.in_ok-factors-2.ensures
 pub returns-in_default-clause-staged : goal.returns-in_default-clause-staged
 returns-in_default-clause-staged g t c = λ prime.
     let none = subst (λ (o : Option RoundPivots). MatchOption o (Selected c.args.rows.matrix c.args.workers []) (IsRoundTaken c.args.rows c.args.workers)) c.in_default.is c.in_ok-round.ensures in
-    staged_empty c.height.ensures.sound none c.args.rounds c.in_ok-factors-2.factors.pivots
+    staged_empty c.is_sound.ensures.entries none c.args.rounds c.in_ok-factors-2.factors.pivots
 
 pub with_below-requires : goal.with_below-requires
 with_below-requires g t c =
