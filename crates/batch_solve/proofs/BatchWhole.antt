@@ -224,3 +224,10 @@ ran_of words limit old new out out' (Ok replies) s was written = elim written [
   | inr w ↦ subst (BatchRan (run_between words limit old new out out')) (sym w.1) (ran_failed words limit old new out out' replies w.0 was w.2)
 ]
 ran_of words limit old new out out' (Err e) s was written = rw written.0 (rw written.1 (ran_without words limit old new out e was))
+
+-- a whole text, and a first part of it, are what replies that were found have written
+pub whole_written : {found : Replies} {replies : Vec Reply Global} (old new : SinkState) → found ≡ Ok replies → Writes (Ok tt) (replies_text replies.items) old new → WereWritten found status.Done old new
+whole_written {found} {replies} old new is writes = subst (λ f. WereWritten f status.Done old new) (sym is) (inl (refl, writes))
+
+pub part_written : {found : Replies} {replies : Vec Reply Global} {fault : WriteFault} (old new : SinkState) → found ≡ Ok replies → Writes (Err fault) (replies_text replies.items) old new → WereWritten found status.WriteFault old new
+part_written {found} {replies} {fault} old new is writes = subst (λ f. WereWritten f status.WriteFault old new) (sym is) (inr (fault, refl, writes))

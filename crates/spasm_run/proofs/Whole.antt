@@ -308,3 +308,10 @@ ran_of words limit old new out out' (Ok a) s was written = elim written [
   | inr w ↦ subst (Ran (run_between words limit old new out out')) (sym w.1) (ran_failed words limit old new out out' a w.0 was w.2)
 ]
 ran_of words limit old new out out' (Err e) s was written = rw written.0 (rw written.1 (ran_without words limit old new out e was))
+
+-- a whole text, and a first part of it, are what an answer that was found has written
+pub whole_written : {found : Result Answer Status} {a : Answer} {s : Status} (old new : SinkState) → found ≡ Ok a → s ≡ status_behind a → Writes (Ok tt) (answer_text a) old new → WasWritten found s old new
+whole_written {found} {a} {s} old new is ends writes = subst (λ f. WasWritten f s old new) (sym is) (inl (ends, writes))
+
+pub part_written : {found : Result Answer Status} {a : Answer} {fault : WriteFault} (old new : SinkState) → found ≡ Ok a → Writes (Err fault) (answer_text a) old new → WasWritten found status.WriteFault old new
+part_written {found} {a} {fault} old new is writes = subst (λ f. WasWritten f status.WriteFault old new) (sym is) (inr (fault, refl, writes))

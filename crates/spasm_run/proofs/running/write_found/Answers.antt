@@ -1,14 +1,14 @@
 -- The text is written and its status told, or the fault is.
-use Rattle.std.proofs.Common.{true, false, ◌≡◌, ◌∙◌, ap, inl, inr, refl, sym}
+use Rattle.std.proofs.Common.{true, false, ◌≡◌, ◌∙◌, ap, sym}
 use Rattle.spasm_run.specs.Status.{is_written}
-use Rattle.spasm_run.proofs.Whole.{behind_is_written}
+use Rattle.spasm_run.proofs.Whole.{behind_is_written, part_written, whole_written}
 use Rattle.spasm_run.proofs.running.write_found.Goals as goal
 
 pub returns-in-Ok-write-clause-written : goal.returns-in-Ok-write-clause-written
-returns-in-Ok-write-clause-written g c = inl (c.status.ensures, c.in-Ok-write.ensures)
+returns-in-Ok-write-clause-written g c = whole_written _ _ c.in-Ok.is c.status.ensures c.in-Ok-write.ensures
 
 pub returns-in-Ok-clause-written : goal.returns-in-Ok-clause-written
-returns-in-Ok-clause-written g c = inr (c.in-Err-write.field-0, refl, c.in-Err-write.ensures)
+returns-in-Ok-clause-written g c = part_written _ _ c.in-Ok.is c.in-Err-write.ensures
 
 pub returns-in-Ok-write-clause-unwritten : goal.returns-in-Ok-write-clause-unwritten
 returns-in-Ok-write-clause-unwritten g c = λ none.
