@@ -196,7 +196,7 @@ type Says = Result<&'static [(u32, u32, u64)], TextError>;
 
 // Each row: a text in which lines that are taken together stand beside such as are read word by word, its limit, and what it says. What
 // stands behind the texts lets the last of their lines be taken so, too.
-const MIXED: [(&[u8], u64, Says); 9] = [
+const MIXED: [(&[u8], u64, Says); 14] = [
     (
         b"2 3 M\n1 1 5\n1 2 -5\n2 3 12\n2 1 7\n2 1 6\n0 0 0\n% behind the text\n",
         99,
@@ -258,6 +258,61 @@ const MIXED: [(&[u8], u64, Says); 9] = [
         Err(TextError::Bad {
             line: 4,
             kind: Kind::Row,
+        }),
+    ),
+    // Numbers of one to twenty digits, with zeros before the indices.
+    (
+        b"4 5 M\n01 01 9\n001 002 98\n0001 0003 -987\n1 00004 9876\n01 5 98765\r\n002 01 -987654\n0002\t002 9876543\n2 0003 98765432\n02 00004 -987654321\n002 5 9876543210\r\n0003 01 98765432109\n3 002 -987654321098\n03 0003 9876543210987\n003\t00004 98765432109876\n0003 5 -987654321098765\r\n4 01 9876543210987654\n04 002 98765432109876543\n004 0003 -987654321098765432\n0004 00004 9876543210987654321\n4 5 98765432109876543210\r\n0 0 0\n% behind the text, which is longer than a line\n",
+        999,
+        Ok(&[
+            (0, 0, 2),
+            (0, 3, 6),
+            (0, 4, 2),
+            (1, 0, 4),
+            (1, 1, 5),
+            (1, 2, 3),
+            (1, 3, 4),
+            (1, 4, 2),
+            (2, 0, 1),
+            (2, 1, 3),
+            (2, 2, 5),
+            (2, 4, 2),
+            (3, 0, 5),
+            (3, 1, 4),
+            (3, 3, 1),
+            (3, 4, 3),
+        ]),
+    ),
+    (
+        b"2 3 M\n1 1 5\n1 2 3:\n0 0 0\n% behind the text, which is longer than a line\n",
+        99,
+        Err(TextError::Bad {
+            line: 3,
+            kind: Kind::Number,
+        }),
+    ),
+    (
+        b"2 3 M\n1 1 5\n1 2: 3\n0 0 0\n% behind the text, which is longer than a line\n",
+        99,
+        Err(TextError::Bad {
+            line: 3,
+            kind: Kind::Number,
+        }),
+    ),
+    (
+        b"2 3 M\n1 1 5\n1: 2 3\n0 0 0\n% behind the text, which is longer than a line\n",
+        99,
+        Err(TextError::Bad {
+            line: 3,
+            kind: Kind::Number,
+        }),
+    ),
+    (
+        b"2 3 M\n1 1 5\n1 2/ 3\n0 0 0\n% behind the text, which is longer than a line\n",
+        99,
+        Err(TextError::Bad {
+            line: 3,
+            kind: Kind::Number,
         }),
     ),
 ];
