@@ -1,8 +1,9 @@
 -- The matrix of what was pushed is that of the cells' sums.
-use Rattle.std.proofs.Common.{ℕ, ◌≡◌, ◌+◌, ◌%◌, ◌<◌, ◌≤◌, ◌&&◌, true, inl, inr, List, [], ◌∷◌, ◌++◌, append_assoc, map, cond, eqb, get_or, subst, sym, refl, ap, ap₂, ◌∙◌, arith}
+use Rattle.std.proofs.Common.{ℕ, ◌≡◌, ◌+◌, ◌%◌, ◌<◌, ◌≤◌, ◌&&◌, true, inl, inr, List, [], ◌∷◌, ◌++◌, append_assoc, map, cond, eqb, get_or, length, subst, sym, refl, take, ap, ap₂, ◌∙◌, arith}
 use Rattle.std.specs.List.{All}
 use Rattle.std.specs.List.Sorted.{IsPermutation}
 use Rattle.std.proofs.lemmas.Bool.{cases_eq, cond-true, cond-false, eq-eqb, ne_eqb}
+use Rattle.std.proofs.lemmas.List.{take_at}
 use Rattle.std.proofs.lemmas.List.Elements.{All-get_or, All-push, All-weaker}
 use Rattle.std.proofs.lemmas.List.Sorted.{All-permutation, IsPermutation-refl, sum_by-IsPermutation}
 use Rattle.std.proofs.lemmas.List.Sums.{sum_by-cons}
@@ -15,6 +16,14 @@ use Rattle.sparse_rows.specs.Rows.{built, matrix_by, sum_at}
 use Rattle.sparse_rows.proofs.Cuts.{cell_at}
 use Rattle.sparse_rows.proofs.Spread.{map_range_equal}
 use Rattle.sparse_rows.proofs.Summing.{kept_places, weight_here, weight_none}
+
+-- what a call made of a list's items, as it is read back
+pub read_back : (items new back rest : List Cell) (n : ℕ) → back ≡ take n (new ++ rest) → length new ≡ length items → n ≡ length items → back ≡ new
+read_back items new back rest n e l m = e ∙ take_at new rest n (omega arith)
+
+-- so they are in another order
+pub reordered : (items read new back rest : List Cell) (n : ℕ) → read ≡ items → IsPermutation read new → back ≡ take n (new ++ rest) → length new ≡ length read → n ≡ length items → IsPermutation items back
+reordered items read new back rest n r s e l m = subst (λ xs. IsPermutation xs back) r (rw (read_back read new back rest n e l (m ∙ sym (ap length r))) s)
 
 -- equal entries make equal matrices
 pub matrix_by_equal : (m n : ℕ) (f g : ℕ → ℕ → ℕ) → ((i j : ℕ) → i < m → j < n → f i j ≡ g i j) → matrix_by m n f ≡ matrix_by m n g
@@ -52,6 +61,21 @@ pub sums_built : (p m n : ℕ) (pushed sorted kept : List Cell) → n ≤ 214748
     matrix_by m n (λ i j. weight (place_of i j) kept) ≡ built p m n (map triple_of pushed)
 sums_built p m n pushed sorted kept small same sums = matrix_by_equal m n _ _ (λ i j a b.
     sums.sums (place_of i j) ∙ ap (λ t. t % p) (sum_by-IsPermutation (λ c. cond (eqb c.place (place_of i j)) c.val 0) pushed sorted same ∙ sym (sum_at_weight i j pushed (omega arith))))
+
+-- what was pushed in another order makes the same matrix
+pub built_reordered : (p m n : ℕ) (cells other : List Cell) → n ≤ 2147483648 → IsPermutation cells other → built p m n (map triple_of other) ≡ built p m n (map triple_of cells)
+built_reordered p m n cells other small same = matrix_by_equal m n _ _ (λ i j a b.
+    ap (λ t. t % p) (sum_at_weight i j other (omega arith) ∙ sum_by-IsPermutation (λ c. cond (eqb c.place (place_of i j)) c.val 0) cells other same ∙ sym (sum_at_weight i j cells (omega arith))))
+
+pub pushed_reordered : (p m n : ℕ) (cells other : List Cell) → IsPermutation cells other → ArePushed p m n cells → ArePushed p m n other
+pushed_reordered p m n cells other same h = record {
+  height_small = h.height_small;
+  width_small = h.width_small;
+  two_or_more = h.two_or_more;
+  in_range = h.in_range;
+  within = All-permutation (IsWithin m n) cells other same h.within;
+  residues = All-permutation (λ c. c.val < p) cells other same h.residues;
+}
 
 -- entries are their own sums
 pub entries_sums : (p : ℕ) (cells : List Cell) → AreEntries p cells → AreSums p cells cells

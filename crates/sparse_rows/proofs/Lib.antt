@@ -13,7 +13,6 @@ pub mod Occurring
 pub mod Ordered
 pub mod Renaming
 pub mod Renumbering
-pub mod Sorting
 pub mod Spread
 pub mod Stored
 pub mod Summing

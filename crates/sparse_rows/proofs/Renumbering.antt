@@ -14,7 +14,6 @@ use Rattle.sparse_rows.specs.Columns.{AreOccurring, ArePlaces}
 use Rattle.sparse_rows.specs.Placed.{AreNamed, expanded, row_among}
 use Rattle.sparse_rows.specs.Rows.{AreRising, matrix_by}
 use Rattle.sparse_rows.proofs.Expanding.{among_or_not, row_at, row_unnamed, support_has}
-use Rattle.sparse_rows.proofs.Sorting.{rows_low}
 use Rattle.sparse_rows.proofs.Loops.{sized}
 use Rattle.sparse_rows.proofs.Occurring.{contained, contains_at}
 use Rattle.sparse_rows.proofs.Renaming.{rising_once, rising_short}
@@ -24,6 +23,12 @@ use Rattle.sparse_rows.proofs.Summing.{weight_here, weight_none}
 -- what stands for a cell that isn't there
 abbrev none : Cell
 none = record { place = 0; val = 0 }
+
+-- rows of cells are below n as those of each cell are
+pub rows_low : (cells : List Cell) (n : ℕ) → All (λ c. row_of c < n) cells → (k : ℕ) → k < length (map row_of cells) → slice_index (map row_of cells) k < n
+rows_low cells n h k l =
+    let inside : k < length cells = omega (arith, length-map cells row_of) in
+    omega (arith, get_or-map row_of cells k none 0 inside, h k none inside)
 
 -- a cell in another row
 abbrev moved : ℕ → Cell → Cell

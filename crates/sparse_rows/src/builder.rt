@@ -6,9 +6,9 @@ ghost use Rattle.sparse_rows.specs.Rows.{built};
 
 use crate::cells::Cell;
 use crate::entry_room::make_room;
-use crate::order::sort_cells;
 use crate::ordered_cells::OrderedCells;
-use crate::rows::Rows;
+use crate::rough_order::bring_near;
+use crate::rows::{Rows, stores_every_row};
 use crate::sums::sum_cells;
 use residue_words::Modulus;
 use std::alloc::{AllocError, Global};
@@ -87,8 +87,8 @@ impl RowsBuilder {
     /// some thousand, it is made in time proportional to the height; if a value was 0, the others are copied before. Else what was pushed
     /// is moved to its row and sorted within it, all in place: in time proportional to the pushed entries and the height where rows are
     /// short or pushed by ascending columns. While that runs it takes, beside 16 bytes a pushed entry and, at first, what was pushed in
-    /// order, 16 bytes for each 512th row, and then as much as the matrix. Where the height is greater, all is sorted at once, in time and
-    /// memory by the entries alone, whatever the height.
+    /// order, 16 bytes for each 512th row, and then 12 bytes a pushed entry and 8 bytes a row. Where the height is greater, all is sorted
+    /// at once, in time and memory by the entries alone, whatever the height.
     pub fn finish(self) -> Result<Rows, AllocError>
         ensures modulus { IfOk result (λ rows. rows.modulus ≡ self.modulus) }
         ensures matrix { IfOk result (λ rows. rows.matrix
@@ -125,7 +125,30 @@ fn sum_up(
     ensures matrix { IfOk result (λ rows. rows.matrix
         ≡ built modulus height width (map triple_of cells.items)) }
 {
-    sort_cells(alloc, height, &mut cells)?;
+    if !stores_every_row(height, cells.len()) {
+        return sort_and_sum(alloc, modulus, height, width, cells);
+    }
+    bring_near(alloc, height, &mut cells)?;
+    match OrderedCells::sums_of(alloc, modulus, height, &cells)? {
+        Some(sums) => Rows::from_ordered(alloc, modulus, height, width, sums),
+        None => sort_and_sum(alloc, modulus, height, width, cells),
+    }
+}
+
+// The same by a sort of all cells, in time and memory by the cells alone.
+fn sort_and_sum(
+    alloc: Global,
+    modulus: Modulus,
+    height: u32,
+    width: u32,
+    mut cells: Vec<Cell>,
+) -> Result<Rows, AllocError>
+    requires { ArePushed modulus height width cells.items }
+    ensures modulus { IfOk result (λ rows. rows.modulus ≡ modulus) }
+    ensures matrix { IfOk result (λ rows. rows.matrix
+        ≡ built modulus height width (map triple_of cells.items)) }
+{
+    cells.sort_unstable_by_key(|c| c.place);
     let kept = sum_cells(&mut cells, modulus);
     Rows::from_cells(alloc, modulus, height, width, &cells[..kept])
 }

@@ -13,7 +13,6 @@ mod counting_sort;
 mod entry_room;
 mod filled_in_either;
 mod list;
-mod order;
 mod ordered_cells;
 mod rough_order;
 mod rows;

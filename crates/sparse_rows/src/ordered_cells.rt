@@ -1,11 +1,12 @@
 // Cells that ascend by places, as the rows that they will be.
-ghost use Rattle.std.specs.Prelude.{ℕ, ◌≡◌, ◌<◌, ◌≤◌, ◌+◌, ◌-◌, ◌++◌, ◌∷◌, [], true, length, map, replicate, slice_index, All, IfOk, OnErr, OnOk};
+ghost use Rattle.std.specs.Prelude.{ℕ, ◌≡◌, ◌<◌, ◌≤◌, ◌+◌, ◌-◌, ◌++◌, ◌∷◌, [], true, length, map, replicate, slice_index, All, IfOk, IfSome, OnErr, OnOk};
 ghost use Rattle.sparse_rows.specs.declared.rows.TheConstants.{LARGEST_SIZE};
-ghost use Rattle.sparse_rows.specs.Cells.{HaveRisingPlaces, AreCuts, IsRowOfPart, column_of, in_rows, place_of, row_of, without_zeros};
+ghost use Rattle.sparse_rows.specs.Cells.{HaveRisingPlaces, AreCuts, AreSums, IsRowOfPart, column_of, in_rows, place_of, row_of, without_zeros};
 
 use crate::cells::{Cell, place_of};
 use crate::entry_room::make_room;
 use crate::rows::stores_every_row;
+use residue_words::Modulus;
 use std::alloc::{AllocError, Global};
 use std::marker::Model;
 
@@ -54,6 +55,52 @@ impl OrderedCells {
             next: 0,
             nonzero: true,
         }
+    }
+
+    // The sums at each place that aren't 0, of cells in so many rows; `None` if the cells don't ascend by places. There is room for as many
+    // sums as cells at first.
+    pub(crate) fn sums_of(
+        alloc: Global,
+        modulus: Modulus,
+        height: u32,
+        cells: &[Cell],
+    ) -> Result<Option<OrderedCells>, AllocError>
+        requires small { height ≤ LARGEST_SIZE }
+        requires within { All (λ c. row_of c < height) cells.now }
+        requires residues { All (λ c. c.val < modulus) cells.now }
+        ensures { IfOk result (λ found. IfSome found (λ sums. AreSums modulus cells.now sums)) }
+    {
+        let mut sums = OrderedCells::with_room(alloc, height, cells.len())?;
+        let mut sum = Cell { place: 0, val: 0 };
+        for k in 0..cells.len() {
+            let cell = cells[k];
+            if cell.place < sum.place {
+                return Ok(None);
+            }
+            if cell.place > sum.place {
+                sums.push_nonzero(sum.row(), sum.column(), sum.val)?;
+                sum = Cell {
+                    place: cell.place,
+                    val: 0,
+                };
+            }
+            sum.val = modulus.add(sum.val, cell.val);
+        }
+        sums.push_nonzero(sum.row(), sum.column(), sum.val)?;
+        Ok(Some(sums))
+    }
+
+    // No cell, and room for so many in these rows.
+    fn with_room(alloc: Global, height: u32, cells: usize) -> Result<OrderedCells, AllocError>
+        ensures { IfOk result (λ made. made ≡ []) }
+    {
+        Ok(OrderedCells {
+            starts: Vec::with_capacity(alloc, height as usize + 1)?,
+            cols: Vec::with_capacity(alloc, cells)?,
+            vals: Vec::with_capacity(alloc, cells)?,
+            next: 0,
+            nonzero: true,
+        })
     }
 
     // Whether the place lies behind all cells, and not so far down that the rows up to it would take more memory than the cells.
@@ -116,6 +163,7 @@ impl OrderedCells {
     }
 
     // Appends a cell at row i and column j, if its value isn't 0.
+    #[inline(always)]
     fn push_nonzero(&mut self, i: u32, j: u32, v: u64) -> Result<(), AllocError>
         requires row { i < LARGEST_SIZE }
         requires behind { All (λ c. c.place < place_of i j) self.old }

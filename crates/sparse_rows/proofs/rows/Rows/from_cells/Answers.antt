@@ -5,8 +5,7 @@ use Rattle.sparse_rows.specs.Cells.{IsWithin, place_of, renumbered, row_of, weig
 use Rattle.sparse_rows.specs.Columns.{AreOccurring}
 use Rattle.sparse_rows.specs.Placed.{AreNamed, expanded}
 use Rattle.sparse_rows.specs.Rows.{matrix_by}
-use Rattle.sparse_rows.proofs.Sorting.{rows_low}
-use Rattle.sparse_rows.proofs.Renumbering.{is_numbered, occurring_among, occurring_few}
+use Rattle.sparse_rows.proofs.Renumbering.{is_numbered, occurring_among, occurring_few, rows_low}
 use Rattle.sparse_rows.proofs.rows.Rows.from_cells.Goals as goal
 
 pub occurring-requires : goal.occurring-requires

@@ -1,0 +1,11 @@
+use Rattle.std.proofs.Common.{◌<◌, take}
+use Rattle.sparse_rows.specs.declared.rows.TheConstants.{LARGEST_SIZE}
+use Rattle.sparse_rows.specs.Cells.{row_of}
+use Rattle.sparse_rows.proofs.Summing.{IsSummed}
+use Rattle.sparse_rows.proofs.ordered_cells.OrderedCells.sums_of.Given as goal
+
+abbrev pub invariant-loop-k : goal.invariant-loop-k
+invariant-loop-k l = record {
+  summed : IsSummed l.modulus (take l.k l.fn.cells) l.sums l.sum;
+  row : row_of l.sum < LARGEST_SIZE;
+}
