@@ -10,7 +10,7 @@ use Rattle.std.proofs.lemmas.List.Sums.{sum_by-cons}
 use native.Mathlib.Nat.{mod-eq_of_lt, zero-mod}
 use Rattle.residue_words.specs.Matrix.{list_of}
 use Rattle.residue_words.proofs.Vectors.{list_of_equal}
-use Rattle.sparse_rows.specs.declared.cells.Cell.{Cell}
+use Rattle.sparse_rows.specs.declared.values_at_places.Cell.{Cell}
 use Rattle.sparse_rows.specs.Cells.{AreEntries, ArePushed, AreSums, IsWithin, column_of, place_of, row_of, triple_of, weight}
 use Rattle.sparse_rows.specs.Rows.{built, matrix_by, sum_at}
 use Rattle.sparse_rows.proofs.Cuts.{cell_at}

@@ -6,7 +6,7 @@ use Rattle.std.proofs.lemmas.List.{get_or_append_left, get_or-append_right, get_
 use Rattle.std.proofs.lemmas.List.Elements.{All-cons, All-get_or, All-nil, All-weaker}
 use Rattle.residue_words.specs.Matrix.{list_of}
 use Rattle.residue_words.proofs.Vectors.{list_of_equal}
-use Rattle.sparse_rows.specs.declared.cells.Cell.{Cell}
+use Rattle.sparse_rows.specs.declared.values_at_places.Cell.{Cell}
 use Rattle.sparse_rows.specs.Cells.{AreCuts, AreEntries, IsByRows, IsCut, IsWithin, column_of, place_of, row_of, weight}
 use Rattle.sparse_rows.specs.Rows.{matrix_by}
 use Rattle.sparse_rows.specs.Stored.{AreStarts, IsSparse, IsStored, entry_at, part, spread, stored_matrix, stored_row}

@@ -5,7 +5,7 @@ use Rattle.std.proofs.lemmas.Bool.{cases_eq}
 use Rattle.std.proofs.lemmas.List.{ext_get_or, get_or-map, length-map}
 use Rattle.std.proofs.lemmas.List.FromFn.{get_or-map-range_with_len, length-map-range_with_len}
 use Rattle.std.proofs.lemmas.Simd.{map-map}
-use Rattle.sparse_rows.specs.declared.cells.Cell.{Cell}
+use Rattle.sparse_rows.specs.declared.values_at_places.Cell.{Cell}
 use Rattle.sparse_rows.specs.Cells.{AreCuts, AreEntries, IsByRows, IsCut, IsWithin, column_of, in_rows, listed_cell, listed_cells, place_of, row_of, triple_of, weight}
 use Rattle.sparse_rows.specs.Rows.{FitsMatrix, built, listed_triple, listed_triples, matrix_by}
 use Rattle.sparse_rows.proofs.Building.{entries_built}

@@ -5,7 +5,7 @@ use Rattle.std.proofs.lemmas.Bool.{cases_eq, cases_lt, cond-true, cond-false, le
 use Rattle.std.proofs.lemmas.List.{get_or_append_left, get_or-map, get_or_push, ext_get_or, length-append, length-map, length_push, length-replicate}
 use Rattle.std.proofs.lemmas.List.Elements.{All-get_or, All-nil, All-push, All-weaker}
 use Rattle.std.proofs.lemmas.List.FromFn.{get_or-map-range_with_len, length-map-range_with_len, map-range_with_len_more}
-use Rattle.sparse_rows.specs.declared.cells.Cell.{Cell}
+use Rattle.sparse_rows.specs.declared.values_at_places.Cell.{Cell}
 use Rattle.sparse_rows.specs.Cells.{HaveRisingPlaces, AreCuts, AreOrdered, IsCut, IsRowOfPart, begun, column_of, ordered_cell, ordered_cells, place_of, row_of}
 use Rattle.sparse_rows.proofs.Cuts.{cuts_all, each_resized}
 use Rattle.sparse_rows.proofs.Spread.{map_range_equal}

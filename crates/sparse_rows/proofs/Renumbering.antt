@@ -7,7 +7,7 @@ use Rattle.std.proofs.lemmas.List.Elements.{All-get_or, All-weaker}
 use Rattle.std.proofs.lemmas.List.Sums.{sum_by-cons}
 use Rattle.residue_words.specs.Matrix.{Matrix, entry, list_of, row}
 use Rattle.residue_words.proofs.Vectors.{entry_matrix_of, list_of_equal, row_matrix_of}
-use Rattle.sparse_rows.specs.declared.cells.Cell.{Cell}
+use Rattle.sparse_rows.specs.declared.values_at_places.Cell.{Cell}
 use Rattle.sparse_rows.specs.declared.rows.TheConstants.{LARGEST_SIZE}
 use Rattle.sparse_rows.specs.Cells.{AreEntries, IsWithin, column_of, place_of, renumbered, row_of, weight}
 use Rattle.sparse_rows.specs.Columns.{AreOccurring, ArePlaces}

@@ -5,7 +5,6 @@
 #![tactic(auto)]
 
 mod builder;
-mod cells;
 mod column_lists;
 mod column_set;
 mod consecutive_parts;
@@ -18,7 +17,8 @@ mod rough_order;
 mod rows;
 mod sparse;
 mod stored_rows;
-mod sums;
+mod sums_in_place;
+mod values_at_places;
 
 pub use builder::RowsBuilder;
 pub use column_set::ColumnSet;

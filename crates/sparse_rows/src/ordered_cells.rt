@@ -3,9 +3,9 @@ ghost use Rattle.std.specs.Prelude.{ℕ, ◌≡◌, ◌<◌, ◌≤◌, ◌+◌,
 ghost use Rattle.sparse_rows.specs.declared.rows.TheConstants.{LARGEST_SIZE};
 ghost use Rattle.sparse_rows.specs.Cells.{HaveRisingPlaces, AreCuts, AreSums, IsRowOfPart, column_of, in_rows, place_of, row_of, without_zeros};
 
-use crate::cells::{Cell, place_of};
 use crate::entry_room::make_room;
 use crate::rows::stores_every_row;
+use crate::values_at_places::{Cell, place_of};
 use residue_words::Modulus;
 use std::alloc::{AllocError, Global};
 use std::marker::Model;
@@ -25,7 +25,7 @@ pub(crate) struct OrderedCells {
 
 impl Model for OrderedCells {
     ghost use Rattle.std.specs.Prelude.{List};
-    ghost use Rattle.sparse_rows.specs.declared.cells.Cell.{Cell};
+    ghost use Rattle.sparse_rows.specs.declared.values_at_places.Cell.{Cell};
     ghost use Rattle.sparse_rows.specs.Cells.{AreOrdered, ordered_cells};
 
     ghost Value = { List Cell };

@@ -8,12 +8,12 @@ ghost use Rattle.sparse_rows.specs.Cells.{AreEntries, IsWithin, matrix_of_cells,
 ghost use Rattle.sparse_rows.specs.Rows.{above, AreBelow, AreEnough, AreOccupied, AreRising, AreZeroFrom, IsNextFilled, entry_count, matrix_by, narrowed, nonzeros, support, transposed, widened, with_zeros};
 ghost use Rattle.sparse_rows.specs.Stored.{IsSparse, IsStored, spread, stored_matrix, with_row, with_sparse_row};
 
-use crate::cells::{Cell, columns, row_starts, values};
 use crate::column_lists::{named_columns, occurring, places_among};
 use crate::consecutive_parts::{append_starts, part, part_numbers};
 use crate::counting_sort::group;
 use crate::entry_room::{EntryRoom, write_behind};
 use crate::ordered_cells::{OrderedCells, RowParts};
+use crate::values_at_places::{Cell, columns, row_starts, values};
 use residue_words::Modulus;
 use std::alloc::{AllocError, Global};
 use std::marker::Model;

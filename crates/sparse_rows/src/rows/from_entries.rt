@@ -6,12 +6,12 @@ ghost use Rattle.sparse_rows.specs.Cells.{AreEntries, IsWithin, matrix_of_cells,
 ghost use Rattle.sparse_rows.specs.Rows.{AllFit, FitsMatrix, built, identity, listed_triples, triple};
 
 use crate::builder::RowsBuilder;
-use crate::cells::{Cell, listed, renumbered, row_numbers};
 use crate::column_lists::{occurring, place_of, places_among};
 use crate::ordered_cells::{OrderedCells, RowParts, starts_of};
 use crate::rows::{LARGEST_SIZE, Rows, stores_every_row};
 use crate::sparse::Sparse;
 use crate::stored_rows::StoredRows;
+use crate::values_at_places::{Cell, listed, renumbered, row_numbers};
 use residue_words::Modulus;
 use std::alloc::{AllocError, Global};
 

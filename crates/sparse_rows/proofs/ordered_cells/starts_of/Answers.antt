@@ -1,6 +1,6 @@
 use Rattle.std.proofs.Common.{ℕ, ◌≡◌, ◌+◌, ◌-◌, ◌≤◌, ◌++◌, ◌∙◌, List, ap₂, arith, length, replicate, slice_index, sym}
 use Rattle.std.proofs.lemmas.List.{take_all}
-use Rattle.sparse_rows.specs.declared.cells.Cell.{Cell}
+use Rattle.sparse_rows.specs.declared.values_at_places.Cell.{Cell}
 use Rattle.sparse_rows.specs.Cells.{in_rows}
 use Rattle.sparse_rows.proofs.Cuts.{cuts_all, cuts_more, cuts_none}
 use Rattle.sparse_rows.proofs.InLists.{by_rows, length_rows, row_in, rows_within}

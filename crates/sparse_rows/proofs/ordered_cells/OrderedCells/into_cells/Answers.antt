@@ -1,7 +1,7 @@
 use Rattle.std.proofs.Common.{◌≡◌, ◌++◌, ◌∷◌, [], ◌<◌, ◌∙◌, ap, ap₂, arith, length, get_or, subst, sym}
 use Rattle.std.proofs.lemmas.Grind.{get_or_default_zero}
 use Rattle.std.proofs.lemmas.List.{take_all, take_more}
-use Rattle.sparse_rows.specs.declared.cells.Cell.{Cell}
+use Rattle.sparse_rows.specs.declared.values_at_places.Cell.{Cell}
 use Rattle.sparse_rows.specs.Cells.{IsRowOfPart, ordered_cells, place_of}
 use Rattle.sparse_rows.proofs.Ordered.{cell_is, cells_empty, first_row, length_cells}
 use Rattle.sparse_rows.proofs.ordered_cells.OrderedCells.into_cells.Goals as goal

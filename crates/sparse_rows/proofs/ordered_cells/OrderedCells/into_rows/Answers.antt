@@ -1,6 +1,6 @@
 use Rattle.std.proofs.Common.{◌≡◌, ◌+◌, ◌-◌, ◌++◌, ◌<◌, ◌≤◌, ◌∙◌, All, ap, ap₂, arith, length, map, replicate, subst, sym}
 use Rattle.std.proofs.lemmas.List.{take_all}
-use Rattle.sparse_rows.specs.declared.cells.Cell.{Cell}
+use Rattle.sparse_rows.specs.declared.values_at_places.Cell.{Cell}
 use Rattle.sparse_rows.specs.Cells.{AreCuts, column_of, ordered_cells, row_of}
 use Rattle.sparse_rows.proofs.Ordered.{columns_are, ordered_cuts, values_are}
 use Rattle.sparse_rows.proofs.ordered_cells.OrderedCells.into_rows.Goals as goal

@@ -2,7 +2,7 @@ use Rattle.std.proofs.Common.{ℕ, ◌≡◌, ◌<◌, ◌+◌, ◌∙◌, List,
 use Rattle.std.proofs.lemmas.Bool.{cases_eq, cond-true, cond-false, eq-eqb, ne_eqb}
 use Rattle.std.proofs.lemmas.List.{take_all, take_more}
 use Rattle.std.proofs.lemmas.List.Elements.{All-get_or}
-use Rattle.sparse_rows.specs.declared.cells.Cell.{Cell}
+use Rattle.sparse_rows.specs.declared.values_at_places.Cell.{Cell}
 use Rattle.sparse_rows.specs.Cells.{AreSums, column_of, place_of, row_of}
 use Rattle.sparse_rows.proofs.Summing.{IsSummed, kept_before, summed_kept, summed_more, summed_move}
 use Rattle.sparse_rows.proofs.ordered_cells.OrderedCells.sums_of.Goals as goal

@@ -2,7 +2,7 @@ use Rattle.std.proofs.Common.{◌≡◌, ◌++◌, ◌∷◌, [], ◌+◌, ◌<�
 use Rattle.std.proofs.lemmas.Bool.{cases_eq}
 use Rattle.std.proofs.lemmas.Grind.{get_or_default_zero}
 use Rattle.std.proofs.lemmas.List.{get_or-take, length-take-le, take_all, take_more}
-use Rattle.sparse_rows.specs.declared.cells.Cell.{Cell}
+use Rattle.sparse_rows.specs.declared.values_at_places.Cell.{Cell}
 use Rattle.sparse_rows.specs.Cells.{IsRowOfPart, ordered_cells, place_of, without_zeros}
 use Rattle.sparse_rows.proofs.Ordered.{at_cells, cell_is, first_row, length_cells}
 use Rattle.sparse_rows.proofs.Zeros.{all_without, some_more, without_none, zero_more}

@@ -3,7 +3,7 @@ ghost use Rattle.std.specs.Prelude.{◌≡◌, ◌<◌, ◌≤◌, ◌+◌, ◌=
 ghost use Rattle.std.specs.List.Sorted.{IsNonDecreasingBy};
 ghost use Rattle.sparse_rows.specs.Cells.{AreSums};
 
-use crate::cells::Cell;
+use crate::values_at_places::Cell;
 use residue_words::Modulus;
 
 // Puts the sums at each place that aren't 0 to the front of the cells, which ascend by places. The answer is how many those

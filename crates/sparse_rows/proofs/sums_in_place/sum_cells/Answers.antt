@@ -2,11 +2,11 @@ use Rattle.std.proofs.Common.{ℕ, ◌≡◌, ◌≢◌, ◌≤◌, ◌<◌, ◌
 use Rattle.std.specs.List.{All}
 use Rattle.std.proofs.lemmas.List.{drop-drop, get_or-drop, take_all, take_more}
 use Rattle.std.proofs.lemmas.List.Elements.{All-get_or}
-use Rattle.sparse_rows.specs.declared.cells.Cell.{Cell}
+use Rattle.sparse_rows.specs.declared.values_at_places.Cell.{Cell}
 use Rattle.sparse_rows.specs.Cells.{AreSums}
 use Rattle.sparse_rows.proofs.Summing.{IsSummed, kept_few, kept_before, summed_kept, summed_more, summed_move}
-use Rattle.sparse_rows.proofs.sums.sum_cells.Goals as goal
-use Rattle.sparse_rows.proofs.sums.sum_cells.Goals.{After-add, then-cell-sum, else-cell-sum}
+use Rattle.sparse_rows.proofs.sums_in_place.sum_cells.Goals as goal
+use Rattle.sparse_rows.proofs.sums_in_place.sum_cells.Goals.{After-add, then-cell-sum, else-cell-sum}
 
 -- lists with the same rest have the same cell before it
 read_rest : (k : ℕ) (xs ys : List Cell) (d : Cell) → drop k xs ≡ drop k ys → get_or xs k d ≡ get_or ys k d

@@ -1,7 +1,7 @@
 use Rattle.std.proofs.Common.{◌∙◌, [], ◌∷◌, ◌++◌, ap, ap₂, map, sym}
 use Rattle.std.proofs.lemmas.List.{map_more, take_all}
 use Rattle.sparse_rows.specs.Cells.{row_of}
-use Rattle.sparse_rows.proofs.cells.row_numbers.Goals as goal
+use Rattle.sparse_rows.proofs.values_at_places.row_numbers.Goals as goal
 
 pub loop-cell-preserved : goal.loop-cell-preserved
 loop-cell-preserved c =

@@ -1,6 +1,6 @@
 use Rattle.std.proofs.Common.{ℕ, ◌≡◌, ◌≤◌, ◌<◌, get_or, length, take, drop}
 use Rattle.sparse_rows.proofs.Summing.{IsSummed}
-use Rattle.sparse_rows.proofs.sums.sum_cells.Given as goal
+use Rattle.sparse_rows.proofs.sums_in_place.sum_cells.Given as goal
 
 abbrev pub invariant-loop-k : goal.invariant-loop-k
 invariant-loop-k l = record {

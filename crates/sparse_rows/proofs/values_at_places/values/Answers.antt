@@ -1,6 +1,6 @@
 use Rattle.std.proofs.Common.{◌∙◌, [], ◌∷◌, ◌++◌, ap, ap₂, map, refl, sym}
 use Rattle.std.proofs.lemmas.List.{map_more, take_all}
-use Rattle.sparse_rows.proofs.cells.values.Goals as goal
+use Rattle.sparse_rows.proofs.values_at_places.values.Goals as goal
 
 pub loop-cell-preserved : goal.loop-cell-preserved
 loop-cell-preserved c =

@@ -1,5 +1,5 @@
 use Rattle.sparse_rows.proofs.Renumbering.{renumbered_next}
-use Rattle.sparse_rows.proofs.cells.renumbered.Goals as goal
+use Rattle.sparse_rows.proofs.values_at_places.renumbered.Goals as goal
 
 pub loop-k-preserved : goal.loop-k-preserved
 loop-k-preserved c =

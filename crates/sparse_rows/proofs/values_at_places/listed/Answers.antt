@@ -1,7 +1,7 @@
 use Rattle.std.proofs.Common.{◌≡◌, ◌++◌, ◌∷◌, [], ◌∙◌, ap₂, arith, sym}
 use Rattle.std.proofs.lemmas.List.FromFn.{map-range_with_len_more}
 use Rattle.sparse_rows.specs.Cells.{listed_cell}
-use Rattle.sparse_rows.proofs.cells.listed.Goals as goal
+use Rattle.sparse_rows.proofs.values_at_places.listed.Goals as goal
 
 pub loop-k-preserved : goal.loop-k-preserved
 loop-k-preserved c =

@@ -1,8 +1,8 @@
 use Rattle.std.proofs.Common.{ℕ, ◌≡◌, ◌+◌, ◌-◌, ◌≤◌, ◌++◌, ◌∙◌, List, ap, ap₂, arith, length, replicate}
 use Rattle.std.proofs.lemmas.List.{take_all}
-use Rattle.sparse_rows.specs.declared.cells.Cell.{Cell}
+use Rattle.sparse_rows.specs.declared.values_at_places.Cell.{Cell}
 use Rattle.sparse_rows.proofs.Cuts.{cuts_all, cuts_more, cuts_none}
-use Rattle.sparse_rows.proofs.cells.row_starts.Goals as goal
+use Rattle.sparse_rows.proofs.values_at_places.row_starts.Goals as goal
 
 -- what stands for a cell that isn't there
 abbrev none : Cell
