@@ -73,6 +73,12 @@ module _ (rows columns values : List ℕ) where
       let low : i < length rows = omega (arith, l, length_listed) in
       subst P (sym (at_listed i d low)) (h i low)
 
+  -- a list that has of each cell what is asked of it
+  list_listed : (xs : List ℕ) (f : Cell → ℕ) → length xs ≡ length rows → ((k : ℕ) → k < length rows → f (listed_cell rows columns values k) ≡ slice_index xs k) → xs ≡ map f cells
+  list_listed xs f long each = ext_get_or 0 xs (map f cells) (long ∙ sym (length-map cells f ∙ length_listed)) (λ k l.
+      let low : k < length rows = omega (arith, l, long) in
+      sym (get_or-map f cells k none 0 (omega (arith, low, length_listed)) ∙ ap f (at_listed k none low) ∙ each k low))
+
   module _ (p m n : ℕ) (lc : length columns ≡ length rows) (lv : length values ≡ length rows) (wide : n ≤ 2147483648)
       (inside : (k : ℕ) → k < length rows → FitsMatrix m n p (slice_index rows k, slice_index columns k, slice_index values k))
       (positive : (k : ℕ) → k < length rows → 0 < slice_index values k)
@@ -96,14 +102,10 @@ module _ (rows columns values : List ℕ) where
     cuts_listed starts cuts = cuts_same m rows starts cells length_listed (λ k d l. ap row_of (at_listed k d l) ∙ row_here k l) cuts
 
     pub columns_listed : columns ≡ map column_of cells
-    columns_listed = ext_get_or 0 columns (map column_of cells) (lc ∙ sym (length-map cells column_of ∙ length_listed)) (λ k l.
-        let low : k < length rows = omega (arith, l, lc) in
-        sym (get_or-map column_of cells k none 0 (omega (arith, low, length_listed)) ∙ ap column_of (at_listed k none low) ∙ column_here k low))
+    columns_listed = list_listed columns column_of lc column_here
 
     pub values_listed : values ≡ map (λ c. c.val) cells
-    values_listed = ext_get_or 0 values (map (λ c. c.val) cells) (lv ∙ sym (length-map cells (λ c. c.val) ∙ length_listed)) (λ k l.
-        let low : k < length rows = omega (arith, l, lv) in
-        sym (get_or-map (λ c. c.val) cells k none 0 (omega (arith, low, length_listed)) ∙ ap (λ (c : Cell). c.val) (at_listed k none low)))
+    values_listed = list_listed values (λ c. c.val) lv (λ k l. refl)
 
     pub within_listed : All (IsWithin m n) cells
     within_listed = all_listed (IsWithin m n) (λ k l. record {
