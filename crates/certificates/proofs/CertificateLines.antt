@@ -1,15 +1,15 @@
 -- The lines of words and the matrices that items have.
-use Rattle.std.proofs.Common.{ℕ, ◌≡◌, List, [], ◌∷◌, ◌++◌, map, Option, None, Some, refl, sym, ap, ◌∙◌, append_assoc}
+use Rattle.std.proofs.Common.{ℕ, ◌≡◌, List, [], ◌∷◌, ◌++◌, map, None, refl, sym, ap, ◌∙◌, append_assoc}
 use Rattle.residue_words.specs.Matrix.{Matrix}
+use Rattle.row_space.specs.Factors as plain
 use Rattle.sparse_rows.specs.Rows.{ResidueMatrix}
 use Rattle.sms_text.specs.Parts.{open_at}
 use Rattle.sms_text.specs.ReadingRows.{SaysRows}
 use Rattle.sms_text.specs.Text.{Header, Item, Words, texts_of_kind, matrices, outer_lines}
-use Rattle.certificates.specs.declared.certificate.CertKind.{CertKind}
-use Rattle.certificates.specs.declared.certificate.CertKind.TheVariants.{Rank, Rref, Kernel}
-use Rattle.certificates.specs.Certificate.{HasExtra, claim_of}
-use Rattle.certificates.specs.CertificateText.{ClaimFitsText, HasLines, claim_said, kind_word}
-use Rattle.certificates.specs.CertificateParts.{ExtraFitsText, extra_due, extra_values}
+use Rattle.certificates.specs.declared.cert_kind.CertKind.{CertKind}
+use Rattle.certificates.specs.declared.cert_kind.CertKind.TheVariants.{Rank, Rref, Kernel}
+use Rattle.certificates.specs.CertificateText.{HasLines, claim_said, claim_word, kind_word}
+use Rattle.certificates.specs.CertificateParts.{claim_due, claim_values}
 
 -- lines of words alone
 pub words_have : (p : ℕ) (lines : List (List (List ℕ))) → HasLines p (map Words lines) lines []
@@ -30,29 +30,18 @@ have_more p items more lines values others first next = record {
 }
 
 -- the texts that a kind makes due
-pub texts_due : (kind : CertKind) → texts_of_kind (kind_word kind) ≡ Header ∷ Header ∷ extra_due kind
+pub texts_due : (kind : CertKind) → texts_of_kind (kind_word kind) ≡ Header ∷ Header ∷ claim_due kind
 texts_due Rank = refl
 texts_due Rref = refl
 texts_due Kernel = refl
 
-pub extra_closed : (kind : CertKind) → open_at (extra_due kind) ≡ None
-extra_closed Rank = refl
-extra_closed Rref = refl
-extra_closed Kernel = refl
+pub claim_closed : (kind : CertKind) → open_at (claim_due kind) ≡ None
+claim_closed Rank = refl
+claim_closed Rref = refl
+claim_closed Kernel = refl
 
--- what is claimed, by its word and by its kind
-pub claim_is : (p : ℕ) (kind : CertKind) (extra : Option ResidueMatrix) → HasExtra p kind extra → claim_said (kind_word kind) (extra_values extra) ≡ claim_of kind extra
-claim_is p Rank None h = refl
-claim_is p Rref (Some E) h = refl
-claim_is p Kernel (Some K) h = refl
-claim_is p Rank (Some E) h = absurd h
-claim_is p Rref None h = absurd h
-claim_is p Kernel None h = absurd h
-
--- what is claimed fits a text where its matrix does
-pub claim_fits : (kind : CertKind) (extra : Option ResidueMatrix) → ExtraFitsText extra → ClaimFitsText (claim_of kind extra)
-claim_fits Rank extra fits = tt
-claim_fits Rref None fits = tt
-claim_fits Rref (Some E) fits = fits
-claim_fits Kernel None fits = tt
-claim_fits Kernel (Some K) fits = fits
+-- what is claimed, by its word and its matrix
+pub claim_again : (claim : plain.Claim) → claim_said (claim_word claim) (claim_values claim) ≡ claim
+claim_again plain.Claim.Rank = refl
+claim_again (plain.Claim.Rref E) = refl
+claim_again (plain.Claim.Kernel K) = refl

@@ -18,40 +18,23 @@ use Rattle.sms_text.proofs.RoundTrip.{text_carries}
 use Rattle.sms_text.proofs.WrittenLines.{Carries, IsWord, carries_append, carries_nothing, carries_words, spaced}
 use Rattle.sms_text.proofs.WrittenNumbers.{decimal_spells, from_one, up_to}
 use Rattle.sms_text.proofs.WrittenValues.{items_matrix_then, items_no_words}
-use Rattle.certificates.specs.CertificateText.{ClaimFitsText, HasLines, HasText, IsTextPlace, certificate_said, certificate_text, claim_said, claim_text, claim_word, pivot_of, title_line}
+use Rattle.certificates.specs.declared.cert_kind.CertKind.{CertKind}
+use Rattle.certificates.specs.declared.cert_kind.CertKind.TheVariants.{Rank, Rref, Kernel}
+use Rattle.certificates.specs.Certificate.{kind_of}
+use Rattle.certificates.specs.CertificateParts.{claim_due, claim_values}
+use Rattle.certificates.specs.CertificateText.{ClaimFitsText, HasLines, HasText, IsTextPlace, certificate_said, certificate_text, claim_said, claim_text, claim_word, kind_word, pivot_of, title_line}
 use Rattle.certificates.specs.Laws.{ClaimIsModulo, IsModulo, WrittenCertificateReadsBack, certificate_items, claim_items, pivot_words, title_words}
-use Rattle.certificates.proofs.CertificateLines.{have_more, words_have}
+use Rattle.certificates.proofs.CertificateLines.{claim_again, have_more, texts_due, words_have}
 
-kind_word_is : (claim : plain.Claim) → is_kind_word (claim_word claim) ≡ true
-kind_word_is plain.Claim.Rank = refl
-kind_word_is (plain.Claim.Rref E) = refl
-kind_word_is (plain.Claim.Kernel K) = refl
+kind_word_is : (kind : CertKind) → is_kind_word (kind_word kind) ≡ true
+kind_word_is Rank = refl
+kind_word_is Rref = refl
+kind_word_is Kernel = refl
 
--- the texts behind the factors
-abbrev claim_due : plain.Claim → List Due
-claim_due plain.Claim.Rank = []
-claim_due (plain.Claim.Rref E) = Header ∷ []
-claim_due (plain.Claim.Kernel K) = Header ∷ []
-
-abbrev claim_values : plain.Claim → List Matrix
-claim_values plain.Claim.Rank = []
-claim_values (plain.Claim.Rref E) = E ∷ []
-claim_values (plain.Claim.Kernel K) = K ∷ []
-
-texts_are : (claim : plain.Claim) → texts_of_kind (claim_word claim) ≡ Header ∷ Header ∷ claim_due claim
-texts_are plain.Claim.Rank = refl
-texts_are (plain.Claim.Rref E) = refl
-texts_are (plain.Claim.Kernel K) = refl
-
-claim_again : (claim : plain.Claim) → claim_said (claim_word claim) (claim_values claim) ≡ claim
-claim_again plain.Claim.Rank = refl
-claim_again (plain.Claim.Rref E) = refl
-claim_again (plain.Claim.Kernel K) = refl
-
-claim_word_written : (claim : plain.Claim) → IsWord (claim_word claim)
-claim_word_written plain.Claim.Rank = record { above = (omega arith, (omega arith, (omega arith, (omega arith, tt)))); filled = refl }
-claim_word_written (plain.Claim.Rref E) = record { above = (omega arith, (omega arith, (omega arith, (omega arith, tt)))); filled = refl }
-claim_word_written (plain.Claim.Kernel K) = record { above = (omega arith, (omega arith, (omega arith, (omega arith, (omega arith, (omega arith, tt)))))); filled = refl }
+kind_word_written : (kind : CertKind) → IsWord (kind_word kind)
+kind_word_written Rank = record { above = (omega arith, (omega arith, (omega arith, (omega arith, tt)))); filled = refl }
+kind_word_written Rref = record { above = (omega arith, (omega arith, (omega arith, (omega arith, tt)))); filled = refl }
+kind_word_written Kernel = record { above = (omega arith, (omega arith, (omega arith, (omega arith, (omega arith, (omega arith, tt)))))); filled = refl }
 
 first_word_written : IsWord (codes "certificate")
 first_word_written = record {
@@ -66,25 +49,25 @@ title_spaced word p r = simp append_assoc
 title_fits : (c : plain.Certificate) → HasText c → is_certificate (title_words c) ≡ true
 title_fits c has =
     rw (
-      kind_word_is c.claim,
+      kind_word_is (kind_of c.claim),
       up_to (MODULUS_BOUND - 1) c.modulus _ (decimal_spells c.modulus (omega (arith, has.modulus))) (omega (arith, has.modulus)),
       up_to LARGEST_TEXT_SIZE (length c.pivots) _ (decimal_spells (length c.pivots) (omega (arith, has.count))) has.count,
     ) refl
 
 title_carries : (p : ℕ) (c : plain.Certificate) → HasText c → (ended : Bool) (dues : List Due) →
-    Carries p ended (Outer form.Certificate ∷ dues) (pivot_lines (length c.pivots) ++ (Header ∷ Header ∷ (claim_due c.claim ++ dues))) (title_line (claim_word c.claim) c.modulus (length c.pivots)) (Words (title_words c) ∷ [])
+    Carries p ended (Outer form.Certificate ∷ dues) (pivot_lines (length c.pivots) ++ (Header ∷ Header ∷ (claim_due (kind_of c.claim) ++ dues))) (title_line (claim_word c.claim) c.modulus (length c.pivots)) (Words (title_words c) ∷ [])
 title_carries p c has ended dues =
     let r = length c.pivots in
     let modulus = decimal_spells c.modulus (omega (arith, has.modulus)) in
     let rank = decimal_spells r (omega (arith, has.count)) in
-    let due : due_behind form.Certificate (title_words c) ++ dues ≡ pivot_lines r ++ (Header ∷ Header ∷ (claim_due c.claim ++ dues)) =
+    let due : due_behind form.Certificate (title_words c) ++ dues ≡ pivot_lines r ++ (Header ∷ Header ∷ (claim_due (kind_of c.claim) ++ dues)) =
     ap (λ n. (pivot_lines n ++ texts_of_kind (claim_word c.claim)) ++ dues) rank.spelled
-    ∙ ap (λ d. (pivot_lines r ++ d) ++ dues) (texts_are c.claim)
-    ∙ append_assoc (pivot_lines r) (Header ∷ Header ∷ claim_due c.claim) dues in
+    ∙ ap (λ d. (pivot_lines r ++ d) ++ dues) (texts_due (kind_of c.claim))
+    ∙ append_assoc (pivot_lines r) (Header ∷ Header ∷ claim_due (kind_of c.claim)) dues in
     let P : List Due → Type 0 = λ d. Carries p ended (Outer form.Certificate ∷ dues) d (title_line (claim_word c.claim) c.modulus r) (Words (title_words c) ∷ []) in
     subst P due (carries_words p ended (Outer form.Certificate) dues (title_line (claim_word c.claim) c.modulus r) (codes "certificate") (claim_word c.claim ∷ decimal c.modulus ∷ decimal r ∷ [])
     (record { item = Words (title_words c); due = due_behind form.Certificate (title_words c) }) (title_spaced (claim_word c.claim) c.modulus r)
-    first_word_written (claim_word_written c.claim, (modulus.word, (rank.word, tt))) refl (outer_says p form.Certificate (title_words c) (title_fits c has)))
+    first_word_written (kind_word_written (kind_of c.claim), (modulus.word, (rank.word, tt))) refl (outer_says p form.Certificate (title_words c) (title_fits c has)))
 
 -- the lines of the pivots
 abbrev pivot_items : List Pair → List Item
@@ -108,7 +91,7 @@ pivots_carry p qs small ended dues =
 
 -- the matrix that is claimed
 claim_carries : (p : ℕ) (claim : plain.Claim) → p < 2 ^ 64 → ClaimIsModulo p claim → ClaimFitsText claim → (ended : Bool) (dues : List Due) →
-    Carries p ended (claim_due claim ++ dues) dues (claim_text claim) (claim_items claim)
+    Carries p ended (claim_due (kind_of claim) ++ dues) dues (claim_text claim) (claim_items claim)
 claim_carries p plain.Claim.Rank small is fits ended dues = carries_nothing p ended dues
 claim_carries p (plain.Claim.Rref E) small is fits ended dues = text_carries p E small is fits.0 fits.1 ended dues
 claim_carries p (plain.Claim.Kernel K) small is fits ended dues = text_carries p K small is fits.0 fits.1 ended dues
@@ -116,7 +99,7 @@ claim_carries p (plain.Claim.Kernel K) small is fits ended dues = text_carries p
 certificate_carries : (p : ℕ) (c : plain.Certificate) → p < 2 ^ 64 → IsModulo p c → HasText c → (ended : Bool) (dues : List Due) →
     Carries p ended (Outer form.Certificate ∷ dues) dues (certificate_text c) (certificate_items c)
 certificate_carries p c small is has ended dues =
-    let last = claim_due c.claim ++ dues in
+    let last = claim_due (kind_of c.claim) ++ dues in
     let title = title_carries p c has ended dues in
     let pivots = pivots_carry p c.pivots has.pivots ended (Header ∷ Header ∷ last) in
     let left = text_carries p c.left small is.left has.left.0 has.left.1 ended (Header ∷ last) in

@@ -1,21 +1,21 @@
 -- The parts of a certificate's text that are read one after another.
-use Rattle.std.specs.Prelude.{◌≡◌, ◌<◌, ◌≤◌, true, ℕ, List, [], ◌∷◌, Option, None, Some, slice_index_or}
+use Rattle.std.specs.Prelude.{◌≡◌, ◌<◌, ◌≤◌, true, ℕ, List, [], ◌∷◌, slice_index_or}
 use Rattle.residue_words.specs.declared.modulus.TheConstants.{MODULUS_BOUND}
 use Rattle.residue_words.specs.Matrix.{Matrix}
-use Rattle.sparse_rows.specs.Rows.{ResidueMatrix}
+use Rattle.row_space.specs.Factors as plain
 use Rattle.sms_text.specs.declared.reader.TheConstants.{LARGEST_TEXT_SIZE}
 use Rattle.sms_text.specs.OuterLines as form
 use Rattle.sms_text.specs.OuterLines.{is_certificate}
 use Rattle.sms_text.specs.Text.{Due, Header, Item, Words, due_behind, number_at}
-use Rattle.sms_text.specs.Written.{text_of}
-use Rattle.certificates.specs.declared.certificate.CertKind.{CertKind}
-use Rattle.certificates.specs.declared.certificate.CertKind.TheVariants.{Rank, Rref, Kernel}
-use Rattle.certificates.specs.declared.title.Title.{Title}
-use Rattle.certificates.specs.Certificate.{HasExtra}
-use Rattle.certificates.specs.CertificateText.{FitsText, HasLines, kind_word}
+use Rattle.certificates.specs.declared.cert_kind.CertKind.{CertKind}
+use Rattle.certificates.specs.declared.cert_kind.CertKind.TheVariants.{Rank, Rref, Kernel}
+use Rattle.certificates.specs.declared.certificate_title.CertificateTitle.{CertificateTitle}
+use Rattle.certificates.specs.declared.claim.Claim.{Claim}
+use Rattle.certificates.specs.Certificate.{HasModulus, claim_of, kind_of}
+use Rattle.certificates.specs.CertificateText.{HasLines, kind_word}
 
 -- these words are a first line that says this
-pub record IsTitle (ws : List (List ℕ)) (t : Title) : Type 0 where
+pub record IsCertificateTitle (ws : List (List ℕ)) (t : CertificateTitle) : Type 0 where
   pub form : is_certificate ws ≡ true
   pub kind : slice_index_or ws 1 [] ≡ kind_word t.kind
   pub modulus : number_at ws 2 ≡ t.p
@@ -24,34 +24,27 @@ pub record IsTitle (ws : List (List ℕ)) (t : Title) : Type 0 where
   pub rank_small : t.rank ≤ LARGEST_TEXT_SIZE
 
 -- the first line was read, and what it makes due is due
-pub record SaysTitle (t : Title) (items : List Item) (due : List Due) : Type 0 where
+pub record SaysCertificateTitle (t : CertificateTitle) (items : List Item) (due : List Due) : Type 0 where
   pub words : List (List ℕ)
   pub items_are : items ≡ Words words ∷ []
   pub due_are : due ≡ due_behind form.Certificate words
-  pub title : IsTitle words t
+  pub title : IsCertificateTitle words t
 
--- the texts behind the factors, and the matrices that they are
-abbrev pub extra_due : CertKind → List Due
-extra_due Rank = []
-extra_due Rref = Header ∷ []
-extra_due Kernel = Header ∷ []
+-- the texts behind the factors; the matrices that they are
+abbrev pub claim_due : CertKind → List Due
+claim_due Rank = []
+claim_due Rref = Header ∷ []
+claim_due Kernel = Header ∷ []
 
-abbrev pub extra_values : Option ResidueMatrix → List Matrix
-extra_values None = []
-extra_values (Some E) = E.matrix ∷ []
+abbrev pub claim_values : plain.Claim → List Matrix
+claim_values plain.Claim.Rank = []
+claim_values (plain.Claim.Rref E) = E ∷ []
+claim_values (plain.Claim.Kernel K) = K ∷ []
 
-pub record SaysExtra (p : ℕ) (kind : CertKind) (extra : Option ResidueMatrix) (items : List Item)
-    (due : List Due)
+-- a whole claim of this kind
+pub record SaysClaim (p : ℕ) (kind : CertKind) (claim : Claim) (items : List Item) (due : List Due)
     : Type 0 where
   pub whole : due ≡ []
-  pub has : HasLines p items [] (extra_values extra)
-  pub formed : HasExtra p kind extra
-
--- the text of the matrix behind the factors, which has sizes that a text can give
-abbrev pub extra_text : Option ResidueMatrix → List ℕ
-extra_text None = []
-extra_text (Some E) = text_of E.matrix
-
-abbrev pub ExtraFitsText : Option ResidueMatrix → Type 0
-ExtraFitsText None = Unit {0}
-ExtraFitsText (Some E) = FitsText E.matrix
+  pub has : HasLines p items [] (claim_values (claim_of claim))
+  pub of_kind : kind_of (claim_of claim) ≡ kind
+  pub modulus : HasModulus p claim

@@ -9,10 +9,10 @@ use Rattle.row_space.specs.Factors as plain
 use Rattle.sms_text.specs.declared.reader.TheConstants.{LARGEST_TEXT_SIZE}
 use Rattle.sms_text.specs.Text.{Due, Item, matrices, number_at, outer_lines}
 use Rattle.sms_text.specs.Written.{pair_lines, text_of}
-use Rattle.certificates.specs.declared.certificate.CertKind.{CertKind}
-use Rattle.certificates.specs.declared.certificate.CertKind.TheVariants.{Rank, Rref, Kernel}
+use Rattle.certificates.specs.declared.cert_kind.CertKind.{CertKind}
+use Rattle.certificates.specs.declared.cert_kind.CertKind.TheVariants.{Rank, Rref, Kernel}
 use Rattle.certificates.specs.declared.certificate.Certificate.{Certificate}
-use Rattle.certificates.specs.Certificate.{certificate_of}
+use Rattle.certificates.specs.Certificate.{certificate_of, kind_of}
 
 -- the word of a kind, and that of a claim
 abbrev pub kind_word : CertKind → List ℕ
@@ -21,9 +21,7 @@ kind_word Rref = codes "rref"
 kind_word Kernel = codes "kernel"
 
 abbrev pub claim_word : plain.Claim → List ℕ
-claim_word plain.Claim.Rank = codes "rank"
-claim_word (plain.Claim.Rref E) = codes "rref"
-claim_word (plain.Claim.Kernel K) = codes "kernel"
+claim_word claim = kind_word (kind_of claim)
 
 -- the pivot of a line's words, which count from 1
 abbrev pub pivot_of : List (List ℕ) → Pair
@@ -32,7 +30,7 @@ pivot_of ws = record { row = number_at ws 0 - 1; col = number_at ws 1 - 1 }
 -- what is claimed by this word and the matrices behind the factors
 abbrev pub claim_said : List ℕ → List Matrix → plain.Claim
 claim_said word [] = plain.Claim.Rank
-claim_said word (E ∷ more) = if bytes_eq word (codes "rref") then plain.Claim.Rref E else plain.Claim.Kernel E
+claim_said word (E ∷ more) = if bytes_eq word (kind_word Rref) then plain.Claim.Rref E else plain.Claim.Kernel E
 
 -- the certificate that these lines of words and these matrices say
 abbrev pub certificate_said : List (List (List ℕ)) → List Matrix → Option plain.Certificate

@@ -5,13 +5,17 @@
 //! few products, without an elimination.
 #![tactic(auto)]
 
+mod cert_kind;
 mod certificate;
+mod certificate_title;
+mod claim;
 mod laws;
 mod reading;
-mod title;
 mod writing;
 
-pub use certificate::{CertKind, Certificate};
+pub use cert_kind::CertKind;
+pub use certificate::Certificate;
+pub use claim::Claim;
 pub use laws::written_certificate_reads_back;
 pub use reading::read;
 pub use writing::write;

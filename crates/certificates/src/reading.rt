@@ -7,16 +7,18 @@ ghost use Rattle.sms_text.specs.OuterLines as form;
 ghost use Rattle.sms_text.specs.Parts.{PartDid, SaysLines, wants};
 ghost use Rattle.sms_text.specs.Reading.{input};
 ghost use Rattle.sms_text.specs.Text.{Outer, pivot_lines};
-ghost use Rattle.certificates.specs.Certificate.{IsFormed, certificate_of};
-ghost use Rattle.certificates.specs.CertificateParts.{ExtraFitsText, SaysTitle, SaysExtra, extra_due};
-ghost use Rattle.certificates.specs.CertificateText.{HasText, IsTextPlace, SaysCertificate, pivot_of};
+ghost use Rattle.certificates.specs.Certificate.{AreModulo, certificate_of, claim_of};
+ghost use Rattle.certificates.specs.CertificateParts.{SaysCertificateTitle, SaysClaim, claim_due};
+ghost use Rattle.certificates.specs.CertificateText.{ClaimFitsText, HasText, IsTextPlace, SaysCertificate, pivot_of};
 
-use crate::certificate::{CertKind, Certificate};
-use crate::title::Title;
+use crate::cert_kind::CertKind;
+use crate::certificate::Certificate;
+use crate::certificate_title::CertificateTitle;
+use crate::claim::Claim;
 use residue_words::Modulus;
 use residue_words::plain::Pair;
 use sms_text::{Kind, LARGEST_TEXT_SIZE, Line, Reader, Source, TextError, read_rows};
-use sparse_rows::{List, Rows};
+use sparse_rows::List;
 use std::alloc::Global;
 
 /// Reads a certificate: its first line, the lines of its pivots, and its matrices modulo p, whichever modulus its first line gives.
@@ -35,7 +37,7 @@ pub fn read<S: Source>(
     requires { reader.old.open_text ≡ None }
     ensures did { PartDid (wants p.now (Outer form.Certificate ∷ [])) (SaysCertificate p.now)
         (input reader.old (S.state source.old)) (input reader.new (S.state source.new)) result }
-    ensures formed { IfOk result (IsFormed p.now) }
+    ensures modulus { IfOk result (AreModulo p.now) }
     ensures fits { IfOk result (λ c. HasText (certificate_of c)) }
     ensures closed { IfOk result (λ c. reader.new.open_text ≡ None) }
 {
@@ -43,28 +45,26 @@ pub fn read<S: Source>(
     let pivots = read_pivots(reader, alloc, source, title.rank)?;
     let l = read_rows(reader, alloc, source, p)?;
     let u = read_rows(reader, alloc, source, p)?;
-    let extra = read_extra(reader, alloc, source, title.kind, p)?;
+    let claim = read_claim(reader, alloc, source, title.kind, p)?;
     Ok(Certificate {
-        kind: title.kind,
         p: title.p,
-        rank: title.rank,
         pivots,
         l,
         u,
-        extra,
+        claim,
     })
 }
 
 // Reads the first line.
-fn read_title<S: Source>(reader: &mut Reader, source: &mut S) -> Result<Title, TextError>
+fn read_title<S: Source>(reader: &mut Reader, source: &mut S) -> Result<CertificateTitle, TextError>
     requires { reader.old.open_text ≡ None }
-    ensures did { (p : ℕ) → PartDid (wants p (Outer form.Certificate ∷ [])) SaysTitle
+    ensures did { (p : ℕ) → PartDid (wants p (Outer form.Certificate ∷ [])) SaysCertificateTitle
         (input reader.old (S.state source.old)) (input reader.new (S.state source.new)) result }
     ensures sizes { IfOk result (λ t. (t.p < MODULUS_BOUND) × (t.rank ≤ LARGEST_TEXT_SIZE)) }
     ensures closed { reader.new.open_text ≡ None }
 {
     let line = reader.words(source)?;
-    match Title::of(&line) {
+    match CertificateTitle::of(&line) {
         Some(title) => Ok(title),
         None => Err(reader.refuse(line.number(), Kind::Certificate)),
     }
@@ -117,23 +117,30 @@ fn pivot_at(line: &Line) -> Option<Pair>
     })
 }
 
-// Reads the matrix behind the factors, for the kinds that claim one.
-fn read_extra<S: Source>(
+// Reads what is claimed: the matrix behind the factors, for the kinds that claim one.
+fn read_claim<S: Source>(
     reader: &mut Reader,
     alloc: Global,
     source: &mut S,
     kind: CertKind,
     p: &Modulus,
-) -> Result<Option<Rows>, TextError>
+) -> Result<Claim, TextError>
     requires sound { reader.old.error ≡ None }
     requires closed { reader.old.open_text ≡ None }
-    ensures did { PartDid (wants p.now (extra_due kind)) (SaysExtra p.now kind)
+    ensures did { PartDid (wants p.now (claim_due kind)) (SaysClaim p.now kind)
         (input reader.old (S.state source.old)) (input reader.new (S.state source.new)) result }
-    ensures fits { IfOk result ExtraFitsText }
-    ensures closed { IfOk result (λ extra. reader.new.open_text ≡ None) }
+    ensures fits { IfOk result (λ claim. ClaimFitsText (claim_of claim)) }
+    ensures closed { IfOk result (λ claim. reader.new.open_text ≡ None) }
 {
     match kind {
-        CertKind::Rank => Ok(None),
-        CertKind::Rref | CertKind::Kernel => Ok(Some(read_rows(reader, alloc, source, p)?)),
+        CertKind::Rank => Ok(Claim::Rank),
+        CertKind::Rref => {
+            let form = read_rows(reader, alloc, source, p)?;
+            Ok(Claim::Rref(form))
+        }
+        CertKind::Kernel => {
+            let basis = read_rows(reader, alloc, source, p)?;
+            Ok(Claim::Kernel(basis))
+        }
     }
 }

@@ -1,13 +1,13 @@
 -- Part by part.
-use Rattle.std.proofs.Common.{arith, ◌∷◌, [], refl, sym}
+use Rattle.std.proofs.Common.{arith, ◌∷◌, [], refl}
 use Rattle.sms_text.specs.OuterLines as form
 use Rattle.sms_text.specs.Reading.{input}
 use Rattle.sms_text.specs.Text.{Header, Outer}
 use Rattle.sms_text.proofs.Parts.{first_missed, part_handed}
-use Rattle.certificates.specs.CertificateParts.{SaysTitle, extra_due}
+use Rattle.certificates.specs.CertificateParts.{SaysCertificateTitle, claim_due}
 use Rattle.certificates.specs.CertificateText.{SaysCertificate}
-use Rattle.certificates.proofs.CertificateLines.{claim_fits, extra_closed}
-use Rattle.certificates.proofs.CertificateRead.{a_certificate, title_read, pivots_read, pivots_unread, matrix_read, matrix_unread, extra_missed, extra_formed, certificate_read, matrix_modulus}
+use Rattle.certificates.proofs.CertificateLines.{claim_closed}
+use Rattle.certificates.proofs.CertificateRead.{a_certificate, title_read, pivots_read, pivots_unread, matrix_read, matrix_unread, claim_missed, claim_modulus, certificate_read, matrix_modulus}
 use Rattle.certificates.proofs.reading.read.Goals as goal
 
 pub returns-in_err-title-clause-did : goal.returns-in_err-title-clause-did
@@ -16,7 +16,7 @@ returns-in_err-title-clause-did g c =
     let s0 = input c.args.reader.now (g.S.Source.state c.args.source.now) in
     let s1 = input c.read_title.new.reader (g.S.Source.state c.read_title.new.source) in
     part_handed (a_certificate p) (SaysCertificate p) s0 s1 c.in_err-title.field-0.0 c.from_residual.result c.from_residual.ensures.1
-    (first_missed p (Outer form.Certificate ∷ []) [] SaysTitle (SaysCertificate p) s0 s1 c.in_err-title.field-0.0 c.requires refl (c.in_err-title.ensures.did p))
+    (first_missed p (Outer form.Certificate ∷ []) [] SaysCertificateTitle (SaysCertificate p) s0 s1 c.in_err-title.field-0.0 c.requires refl (c.in_err-title.ensures.did p))
 
 pub read_pivots-requires-clause-sound : goal.read_pivots-requires-clause-sound
 read_pivots-requires-clause-sound g c =
@@ -50,7 +50,7 @@ returns-in_err-l-clause-did g c =
     let qs = c.in_ok-pivots.pivots in
     let pivots = pivots_read p t qs s0 s1 s2 title (c.in_ok-pivots.ensures.did p) in
     part_handed (a_certificate p) (SaysCertificate p) s0 s3 c.in_err-l.field-0.0 c.from_residual-in_err-l.result c.from_residual-in_err-l.ensures.1
-    (matrix_unread p t qs [] (Header ∷ extra_due t.kind) s0 s2 s3 c.in_err-l.field-0.0 refl pivots c.in_err-l.ensures.did)
+    (matrix_unread p t qs [] (Header ∷ claim_due t.kind) s0 s2 s3 c.in_err-l.field-0.0 refl pivots c.in_err-l.ensures.did)
 
 pub returns-in_err-u-clause-did : goal.returns-in_err-u-clause-did
 returns-in_err-u-clause-did g c =
@@ -65,29 +65,29 @@ returns-in_err-u-clause-did g c =
     let qs = c.in_ok-pivots.pivots in
     let pivots = pivots_read p t qs s0 s1 s2 title (c.in_ok-pivots.ensures.did p) in
     let L = c.in_ok-l.l in
-    let left = matrix_read p t qs [] (Header ∷ extra_due t.kind) s0 s2 s3 L refl pivots c.in_ok-l.ensures.did in
+    let left = matrix_read p t qs [] (Header ∷ claim_due t.kind) s0 s2 s3 L refl pivots c.in_ok-l.ensures.did in
     part_handed (a_certificate p) (SaysCertificate p) s0 s4 c.in_err-u.field-0.0 c.from_residual-in_err-u.result c.from_residual-in_err-u.ensures.1
-    (matrix_unread p t qs (L.matrix ∷ []) (extra_due t.kind) s0 s3 s4 c.in_err-u.field-0.0 (extra_closed t.kind) left c.in_err-u.ensures.did)
+    (matrix_unread p t qs (L.matrix ∷ []) (claim_due t.kind) s0 s3 s4 c.in_err-u.field-0.0 (claim_closed t.kind) left c.in_err-u.ensures.did)
 
-pub returns-in_err-extra-clause-did : goal.returns-in_err-extra-clause-did
-returns-in_err-extra-clause-did g c =
+pub returns-in_err-claim-clause-did : goal.returns-in_err-claim-clause-did
+returns-in_err-claim-clause-did g c =
     let p = c.args.p.now in
     let s0 = input c.args.reader.now (g.S.Source.state c.args.source.now) in
     let s1 = input c.read_title.new.reader (g.S.Source.state c.read_title.new.source) in
     let s2 = input c.read_pivots.new.reader (g.S.Source.state c.read_pivots.new.source) in
     let s3 = input c.read_rows.new.reader (g.S.Source.state c.read_rows.new.source) in
     let s4 = input c.read_rows-2.new.reader (g.S.Source.state c.read_rows-2.new.source) in
-    let s5 = input c.read_extra.new.reader (g.S.Source.state c.read_extra.new.source) in
+    let s5 = input c.read_claim.new.reader (g.S.Source.state c.read_claim.new.source) in
     let t = c.in_ok-title.title in
     let title = title_read p t s0 s1 (c.in_ok-title.ensures.did p) in
     let qs = c.in_ok-pivots.pivots in
     let pivots = pivots_read p t qs s0 s1 s2 title (c.in_ok-pivots.ensures.did p) in
     let L = c.in_ok-l.l in
-    let left = matrix_read p t qs [] (Header ∷ extra_due t.kind) s0 s2 s3 L refl pivots c.in_ok-l.ensures.did in
+    let left = matrix_read p t qs [] (Header ∷ claim_due t.kind) s0 s2 s3 L refl pivots c.in_ok-l.ensures.did in
     let U = c.in_ok-u.u in
-    let right = matrix_read p t qs (L.matrix ∷ []) (extra_due t.kind) s0 s3 s4 U (extra_closed t.kind) left c.in_ok-u.ensures.did in
-    part_handed (a_certificate p) (SaysCertificate p) s0 s5 c.in_err-extra.field-0.0 c.from_residual-in_err-extra.result c.from_residual-in_err-extra.ensures.1
-    (extra_missed p t qs (L.matrix ∷ U.matrix ∷ []) s0 s4 s5 c.in_err-extra.field-0.0 right c.in_err-extra.ensures.did)
+    let right = matrix_read p t qs (L.matrix ∷ []) (claim_due t.kind) s0 s3 s4 U (claim_closed t.kind) left c.in_ok-u.ensures.did in
+    part_handed (a_certificate p) (SaysCertificate p) s0 s5 c.in_err-claim.field-0.0 c.from_residual-in_err-claim.result c.from_residual-in_err-claim.ensures.1
+    (claim_missed p t qs (L.matrix ∷ U.matrix ∷ []) s0 s4 s5 c.in_err-claim.field-0.0 right c.in_err-claim.ensures.did)
 
 pub returns-clause-did : goal.returns-clause-did
 returns-clause-did g c =
@@ -97,39 +97,38 @@ returns-clause-did g c =
     let s2 = input c.read_pivots.new.reader (g.S.Source.state c.read_pivots.new.source) in
     let s3 = input c.read_rows.new.reader (g.S.Source.state c.read_rows.new.source) in
     let s4 = input c.read_rows-2.new.reader (g.S.Source.state c.read_rows-2.new.source) in
-    let s5 = input c.read_extra.new.reader (g.S.Source.state c.read_extra.new.source) in
+    let s5 = input c.read_claim.new.reader (g.S.Source.state c.read_claim.new.source) in
     let t = c.in_ok-title.title in
     let title = title_read p t s0 s1 (c.in_ok-title.ensures.did p) in
     let qs = c.in_ok-pivots.pivots in
     let pivots = pivots_read p t qs s0 s1 s2 title (c.in_ok-pivots.ensures.did p) in
     let L = c.in_ok-l.l in
-    let left = matrix_read p t qs [] (Header ∷ extra_due t.kind) s0 s2 s3 L refl pivots c.in_ok-l.ensures.did in
+    let left = matrix_read p t qs [] (Header ∷ claim_due t.kind) s0 s2 s3 L refl pivots c.in_ok-l.ensures.did in
     let U = c.in_ok-u.u in
-    let right = matrix_read p t qs (L.matrix ∷ []) (extra_due t.kind) s0 s3 s4 U (extra_closed t.kind) left c.in_ok-u.ensures.did in
-    certificate_read p t qs L U c.in_ok-extra.extra _ s0 s4 s5 refl right c.in_ok-extra.ensures.did
+    let right = matrix_read p t qs (L.matrix ∷ []) (claim_due t.kind) s0 s3 s4 U (claim_closed t.kind) left c.in_ok-u.ensures.did in
+    certificate_read p t qs L U c.in_ok-claim.claim _ s0 s4 s5 refl right c.in_ok-claim.ensures.did
 
-pub returns-clause-formed : goal.returns-clause-formed
-returns-clause-formed g c =
+pub returns-clause-modulus : goal.returns-clause-modulus
+returns-clause-modulus g c =
     let p = c.args.p.now in
     let s0 = input c.args.reader.now (g.S.Source.state c.args.source.now) in
     let s1 = input c.read_title.new.reader (g.S.Source.state c.read_title.new.source) in
     let s2 = input c.read_pivots.new.reader (g.S.Source.state c.read_pivots.new.source) in
     let s3 = input c.read_rows.new.reader (g.S.Source.state c.read_rows.new.source) in
     let s4 = input c.read_rows-2.new.reader (g.S.Source.state c.read_rows-2.new.source) in
-    let s5 = input c.read_extra.new.reader (g.S.Source.state c.read_extra.new.source) in
+    let s5 = input c.read_claim.new.reader (g.S.Source.state c.read_claim.new.source) in
     let t = c.in_ok-title.title in
     let title = title_read p t s0 s1 (c.in_ok-title.ensures.did p) in
     let qs = c.in_ok-pivots.pivots in
     let pivots = pivots_read p t qs s0 s1 s2 title (c.in_ok-pivots.ensures.did p) in
     let L = c.in_ok-l.l in
-    let left = matrix_read p t qs [] (Header ∷ extra_due t.kind) s0 s2 s3 L refl pivots c.in_ok-l.ensures.did in
+    let left = matrix_read p t qs [] (Header ∷ claim_due t.kind) s0 s2 s3 L refl pivots c.in_ok-l.ensures.did in
     let U = c.in_ok-u.u in
-    let right = matrix_read p t qs (L.matrix ∷ []) (extra_due t.kind) s0 s3 s4 U (extra_closed t.kind) left c.in_ok-u.ensures.did in
+    let right = matrix_read p t qs (L.matrix ∷ []) (claim_due t.kind) s0 s3 s4 U (claim_closed t.kind) left c.in_ok-u.ensures.did in
     record {
-      rank = sym c.in_ok-pivots.ensures.count;
       left = matrix_modulus p s2 s3 L pivots.so_far.stands.sound c.in_ok-l.ensures.did;
       right = matrix_modulus p s3 s4 U left.so_far.stands.sound c.in_ok-u.ensures.did;
-      extra = extra_formed p t.kind c.in_ok-extra.extra s4 s5 right.so_far.stands.sound c.in_ok-extra.ensures.did;
+      claim = claim_modulus p t.kind c.in_ok-claim.claim s4 s5 right.so_far.stands.sound c.in_ok-claim.ensures.did;
     }
 
 pub returns-clause-fits : goal.returns-clause-fits
@@ -143,5 +142,5 @@ returns-clause-fits g c =
       pivots = c.in_ok-pivots.ensures.places;
       left = (l.height, l.width);
       right = (u.height, u.width);
-      claim = claim_fits c.in_ok-title.title.kind c.in_ok-extra.extra c.in_ok-extra.ensures.fits;
+      claim = c.in_ok-claim.ensures.fits;
     }
