@@ -1,5 +1,5 @@
 -- What is claimed of a matrix is shown to any of its factors, and is written in a text.
-use Rattle.std.proofs.Common.{ℕ, ◌≡◌, ◌+◌, ◌<◌, ◌≤◌, List, Option, Some, None, All, length, slice_index, refl, sym, ap, subst, ◌∙◌, arith}
+use Rattle.std.proofs.Common.{ℕ, ◌≡◌, ◌+◌, ◌<◌, ◌≤◌, List, All, length, slice_index, refl, sym, ap, subst, ◌∙◌, arith}
 use Rattle.std.proofs.lemmas.List.{get_or-map}
 use Rattle.residue_words.specs.Residues.{IsPrime}
 use Rattle.residue_words.specs.declared.modulus.TheConstants.{MODULUS_BOUND}
@@ -21,9 +21,9 @@ use Rattle.dense_finish.specs.declared.factors.Factors.{Factors}
 use Rattle.schur_rows.proofs.FactorRows.{factor_rows_independent, factor_rows_span}
 use Rattle.pluq_factor.specs.Basis.{IsBasis}
 use Rattle.pluq_factor.specs.Rounds.{AreFactorsOf}
-use Rattle.certificates.specs.declared.certificate.CertKind.{CertKind}
-use Rattle.certificates.specs.declared.certificate.CertKind.TheVariants as kind
-use Rattle.certificates.specs.Certificate.{IsFormed, claim_of}
+use Rattle.certificates.specs.declared.claim.Claim.{Claim}
+use Rattle.certificates.specs.declared.claim.Claim.TheVariants as claim
+use Rattle.certificates.specs.Certificate.{AreModulo, claim_of}
 use Rattle.certificates.specs.CertificateText.{HasText, IsTextPlace}
 use Rattle.spasm_lib.specs.Claimed.{IsClaimed}
 
@@ -80,23 +80,23 @@ module _ (p : ℕ) (A : Matrix) (m : IsMatrix p A) (pivots : List Pair) (L U : M
 
 -- ---- what is claimed
 
-pub nothing_claimed : (p : ℕ) (A : Matrix) → IsClaimed p A kind.Rank None
-nothing_claimed p A = record { has = tt; fits = tt; shows = λ pivots L U prime f. tt }
+pub nothing_claimed : (p : ℕ) (A : Matrix) → IsClaimed p A claim.Rank
+nothing_claimed p A = record { modulus = tt; fits = tt; shows = λ pivots L U prime f. tt }
 
 pub form_claimed : (p : ℕ) (A : Matrix) (e : Form) (E : ResidueMatrix) → IsMatrix p A → A.width < LARGEST_SIZE → IsFormOf p A e → E.modulus ≡ e.modulus → E.matrix ≡ e.matrix →
-    IsClaimed p A kind.Rref (Some E)
+    IsClaimed p A (claim.Rref E)
 form_claimed p A e E m narrow is modulus same =
     let high : E.matrix.height ≡ e.matrix.height = ap (λ M. M.height) same in
     let wide : E.matrix.width ≡ e.matrix.width = ap (λ M. M.width) same in record {
-      has = modulus ∙ is.modulus;
+      modulus = modulus ∙ is.modulus;
       fits = (omega (arith, high, is.short), omega (arith, wide, is.width));
       shows = λ pivots L U prime f. rref_shown p A m pivots L U prime f E.matrix (subst (IsRref p A) (sym same) (is.rref prime));
     }
 
 pub kernel_claimed : (p : ℕ) (A : Matrix) (e : Form) (K : ResidueMatrix) → IsMatrix p A → A.width < LARGEST_SIZE → IsFormOf p A e → K.modulus ≡ e.modulus → K.matrix.width ≡ e.matrix.width →
-    K.matrix.height + e.matrix.height ≡ e.matrix.width → ((q : ℕ) (B : Matrix) → IsPrime q → IsFormOf q B e → IsKernel q B K.matrix) → IsClaimed p A kind.Kernel (Some K)
+    K.matrix.height + e.matrix.height ≡ e.matrix.width → ((q : ℕ) (B : Matrix) → IsPrime q → IsFormOf q B e → IsKernel q B K.matrix) → IsClaimed p A (claim.Kernel K)
 kernel_claimed p A e K m narrow is modulus wide high basis = record {
-  has = modulus ∙ is.modulus;
+  modulus = modulus ∙ is.modulus;
   fits = (omega (arith, high, is.width), omega (arith, wide, is.width));
   shows = λ pivots L U prime f. kernel_shown p A m pivots L U prime f e.matrix K.matrix (is.rref prime) (basis p A prime is) (omega (arith, high, is.width));
 }
@@ -121,14 +121,14 @@ text_places pivots m n high wide rows cols = λ k d l. (
 -- ---- a certificate
 
 -- the plain certificate of these factors that claims this
-abbrev pub plain_made : CertKind → ℕ → Factors → Option ResidueMatrix → plain.Certificate
-plain_made k q f extra = record { modulus = q; pivots = f.pivots; left = f.l.matrix; right = f.u.matrix; claim = claim_of k extra }
+abbrev pub plain_made : ℕ → Factors → Claim → plain.Certificate
+plain_made q f made = record { modulus = q; pivots = f.pivots; left = f.l.matrix; right = f.u.matrix; claim = claim_of made }
 
-module _ (k : CertKind) (A : ResidueMatrix) (f : Factors) (q : ℕ) (extra : Option ResidueMatrix) (factors : AreFactorsOf A.modulus A.matrix f) (claimed : IsClaimed A.modulus A.matrix k extra) where
-  pub certificate_formed : (r : ℕ) → r ≡ length f.pivots → IsFormed A.modulus (record { kind = k; p = q; rank = r; pivots = f.pivots; l = f.l; u = f.u; extra = extra })
-  certificate_formed r count = record { rank = count; left = factors.left_modulus; right = factors.right_modulus; extra = claimed.has }
+module _ (A : ResidueMatrix) (f : Factors) (q : ℕ) (made : Claim) (factors : AreFactorsOf A.modulus A.matrix f) (claimed : IsClaimed A.modulus A.matrix made) where
+  pub certificate_modulus : AreModulo A.modulus (record { p = q; pivots = f.pivots; l = f.l; u = f.u; claim = made })
+  certificate_modulus = record { left = factors.left_modulus; right = factors.right_modulus; claim = claimed.modulus }
 
-  pub certificate_written : A.matrix.height < LARGEST_SIZE → A.matrix.width < LARGEST_SIZE → q < MODULUS_BOUND → HasText (plain_made k q f extra)
+  pub certificate_written : A.matrix.height < LARGEST_SIZE → A.matrix.width < LARGEST_SIZE → q < MODULUS_BOUND → HasText (plain_made q f made)
   certificate_written high wide below =
       let sizes = factors.sizes in record {
         modulus = below;
@@ -139,5 +139,5 @@ module _ (k : CertKind) (A : ResidueMatrix) (f : Factors) (q : ℕ) (extra : Opt
         claim = claimed.fits;
       }
 
-  pub certificate_valid : q ≡ A.modulus → IsPrime A.modulus → IsValid A.modulus A.matrix (plain_made k q f extra)
+  pub certificate_valid : q ≡ A.modulus → IsPrime A.modulus → IsValid A.modulus A.matrix (plain_made q f made)
   certificate_valid same prime = record { modulus = same; factors = factors.factors prime; shows = claimed.shows f.pivots f.l.matrix f.u.matrix prime (factors.factors prime) }

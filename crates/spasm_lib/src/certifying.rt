@@ -6,12 +6,12 @@ ghost use Rattle.row_space.specs.Factors.{IsValid};
 ghost use Rattle.sparse_rows.specs.declared.rows.TheConstants.{LARGEST_SIZE};
 ghost use Rattle.pluq_factor.specs.Basis.{IsBasis};
 ghost use Rattle.pluq_factor.specs.Staged.{Staged};
-ghost use Rattle.certificates.specs.Certificate.{IsFormed, certificate_of};
+ghost use Rattle.certificates.specs.Certificate.{AreModulo, certificate_of, claim_of, kind_of};
 ghost use Rattle.certificates.specs.CertificateText.{HasText};
 ghost use Rattle.spasm_lib.specs.Claimed.{IsClaimed};
 
 use crate::team::Team;
-use certificates::{CertKind, Certificate};
+use certificates::{CertKind, Certificate, Claim};
 use crew::Threaded;
 use optimistic_search::Gate;
 use pluq_factor::{Eliminating, Factors, factor, form_of_basis};
@@ -38,8 +38,8 @@ pub fn certificate<R: Threads + Sync, G: Gate>(
     requires some { 1 ≤ team.workers }
     requires height { a.now.matrix.height < LARGEST_SIZE }
     requires width { a.now.matrix.width < LARGEST_SIZE }
-    ensures kind { IfOk result (λ c. c.kind ≡ kind) }
-    ensures formed { IfOk result (IsFormed a.now.modulus) }
+    ensures kind { IfOk result (λ c. kind_of (claim_of c.claim) ≡ kind) }
+    ensures modulus { IfOk result (AreModulo a.now.modulus) }
     ensures text { IfOk result (λ c. HasText (certificate_of c)) }
     ensures valid { IfOk result (λ c. IsPrime a.now.modulus →
         IsValid a.now.modulus a.now.matrix (certificate_of c)) }
@@ -48,41 +48,39 @@ pub fn certificate<R: Threads + Sync, G: Gate>(
 {
     let rt = team.crew.runtime;
     let Factors { pivots, l, u } = factor(rt, team.alloc, a, team.plan(), team.gate)?;
-    let extra = claimed(&team, &u, kind)?;
+    let claim = claimed(&team, &u, kind)?;
     Ok(Certificate {
-        kind,
         p: a.modulus().p(),
-        rank: pivots.items().len() as u32,
         pivots,
         l,
         u,
-        extra,
+        claim,
     })
 }
 
-// The matrix that a certificate of this kind claims of a matrix with this row basis, if it claims one: its echelon form, or its
-// kernel basis.
+// What a certificate of this kind claims of a matrix with this row basis.
 fn claimed<C: Eliminating, G>(
     team: &Team<'_, C, G>,
     basis: &Rows,
     kind: CertKind,
-) -> Result<Option<Rows>, AllocError>
+) -> Result<Claim, AllocError>
     requires able { C.can_work }
     requires some { 1 ≤ team.now.workers }
     requires width { basis.now.matrix.width < LARGEST_SIZE }
-    ensures { IfOk result (λ extra. (p : ℕ) (A : Matrix) → IsMatrix p A → IsBasis p A basis.now →
-        IsClaimed p A kind extra) }
+    ensures kind { IfOk result (λ claim. kind_of (claim_of claim) ≡ kind) }
+    ensures claimed { IfOk result (λ claim. (p : ℕ) (A : Matrix) → IsMatrix p A → IsBasis p A basis.now →
+        IsClaimed p A claim) }
 {
     match kind {
-        CertKind::Rank => Ok(None),
+        CertKind::Rank => Ok(Claim::Rank),
         CertKind::Rref => {
             let form = form_of_basis(&team.crew, team.alloc, basis, team.workers)?;
-            Ok(Some(form.into_rows()))
+            Ok(Claim::Rref(form.into_rows()))
         }
         CertKind::Kernel => {
             let form = form_of_basis(&team.crew, team.alloc, basis, team.workers)?;
             let null = kernel_solve::kernel(team.alloc, &form)?;
-            Ok(Some(null))
+            Ok(Claim::Kernel(null))
         }
     }
 }

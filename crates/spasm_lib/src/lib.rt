@@ -18,7 +18,7 @@ mod solving;
 mod team;
 
 pub use cert_checker::check;
-pub use certificates::{CertKind, Certificate};
+pub use certificates::{CertKind, Certificate, Claim};
 pub use certifying::certificate;
 pub use crew::{Alone, Threaded};
 pub use forms::{kernel, left_kernel, rank, rref};

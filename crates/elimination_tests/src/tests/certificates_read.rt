@@ -1,6 +1,6 @@
 // Certificates from outside, read behind a matrix and written again.
 ghost use Rattle.std.specs.Prelude.{◌<◌, IfOk};
-ghost use Rattle.certificates.specs.Certificate.{IsFormed, certificate_of};
+ghost use Rattle.certificates.specs.Certificate.{certificate_of};
 ghost use Rattle.certificates.specs.CertificateText.{HasText};
 
 use certificates::{Certificate, read, write};
@@ -138,8 +138,7 @@ fn read_behind(
     at_once: usize,
 ) -> Result<Result<Certificate, TextError>, Fail>
     requires { 0 < at_once }
-    ensures formed { IfOk result (λ r. IfOk r (IsFormed 7)) }
-    ensures fits { IfOk result (λ r. IfOk r (λ c. HasText (certificate_of c))) }
+    ensures { IfOk result (λ r. IfOk r (λ c. HasText (certificate_of c))) }
 {
     let p = Modulus::new(7);
     let mut bytes = Vec::from_slice(alloc, MATRIX)?;
@@ -163,8 +162,7 @@ fn written(
     pieces: [&[u8]; 3],
     fails: &[u64],
 ) -> Result<(usize, bool), Fail>
-    requires formed { IsFormed 7 certificate.now }
-    requires fits { HasText (certificate_of certificate.now) }
+    requires { HasText (certificate_of certificate.now) }
 {
     let mut want = Vec::from_slice(alloc, pieces[0])?;
     want.extend_from_slice(pieces[1])?;
@@ -181,8 +179,7 @@ fn written(
 
 // Whether all of a certificate is written as these pieces.
 fn is_written(alloc: Global, certificate: &Certificate, pieces: [&[u8]; 3]) -> Result<bool, Fail>
-    requires formed { IsFormed 7 certificate.now }
-    requires fits { HasText (certificate_of certificate.now) }
+    requires { HasText (certificate_of certificate.now) }
 {
     let (_, whole) = written(alloc, certificate, pieces, &[])?;
     Ok(whole)
@@ -226,8 +223,7 @@ fn certificates_are_read_and_written_or_their_first_fault_is_named(
 
 // A certificate that is spelled otherwise.
 fn spelled(alloc: Global) -> Result<Certificate, Fail>
-    ensures formed { IfOk result (IsFormed 7) }
-    ensures fits { IfOk result (λ c. HasText (certificate_of c)) }
+    ensures { IfOk result (λ c. HasText (certificate_of c)) }
 {
     let head: &[u8] = b"% a\n\n certificate\trank 007 2\r\n02 1\n# b\n1 3 \n";
     match read_behind(alloc, [head, FACTORS, b"x y"], 9)? {
@@ -238,8 +234,7 @@ fn spelled(alloc: Global) -> Result<Certificate, Fail>
 
 // Whether a sink that fails in these calls holds so many bytes of it, of 101, in the plain spelling.
 fn holds(alloc: Global, certificate: &Certificate, fails: &[u64], held: usize) -> Result<bool, Fail>
-    requires formed { IsFormed 7 certificate.now }
-    requires fits { HasText (certificate_of certificate.now) }
+    requires { HasText (certificate_of certificate.now) }
 {
     let outcome = written(alloc, certificate, [HEAD, FACTORS, b""], fails)?;
     Ok(outcome == (held, held == 101))
@@ -250,8 +245,7 @@ const FAILING: [(&[u64], usize); 4] = [(&[], 101), (&[1], 0), (&[3], 32), (&[9],
 
 // It holds as much of this certificate as is known.
 fn assert_held(rt: &impl Abort, alloc: Global, certificate: &Certificate) -> Result<(), Fail>
-    requires formed { IsFormed 7 certificate.now }
-    requires fits { HasText (certificate_of certificate.now) }
+    requires { HasText (certificate_of certificate.now) }
 {
     for (fails, held) in &FAILING {
         assert!(rt; holds(alloc, certificate, *fails, *held)?, "{held} bytes");

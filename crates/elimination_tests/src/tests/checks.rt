@@ -1,9 +1,9 @@
 // Certificates of small matrices modulo 7, and of huge ones that are almost empty.
 ghost use Rattle.std.specs.Prelude.{◌≡◌, IfOk};
-ghost use Rattle.certificates.specs.Certificate.{AreModulo};
+ghost use Rattle.certificates.specs.Certificate.{AreModulo, HasModulus};
 
 use cert_checker::check;
-use certificates::{CertKind, Certificate};
+use certificates::{CertKind, Certificate, Claim};
 use residue_words::Modulus;
 use residue_words::plain::Pair;
 use sparse_rows::{List, Rows};
@@ -273,49 +273,55 @@ fn built(alloc: Global, table: &Table) -> Result<Rows, Fail>
     }
 }
 
-// The certificate, with as many pivots as its rank is.
-fn certificate(alloc: Global, case: &Case) -> Result<Certificate, Fail>
+// What a certificate of this kind claims by this matrix.
+fn claimed(alloc: Global, kind: CertKind, last: &Table) -> Result<Claim, Fail>
+    ensures { IfOk result (HasModulus 7) }
+{
+    match kind {
+        CertKind::Rank => Ok(Claim::Rank),
+        CertKind::Rref => Ok(Claim::Rref(built(alloc, last)?)),
+        CertKind::Kernel => Ok(Claim::Kernel(built(alloc, last)?)),
+    }
+}
+
+// The certificate of a case, with a claim of this kind.
+fn certificate(alloc: Global, case: &Case, kind: CertKind) -> Result<Certificate, Fail>
     ensures { IfOk result (AreModulo 7) }
 {
     let mut pivots = List::new(alloc);
-    let mut rank = 0;
     for (row, col) in case.pivots {
-        if rank < 1000 {
-            pivots.push(Pair {
-                row: *row,
-                col: *col,
-            })?;
-            rank += 1;
-        }
+        pivots.push(Pair {
+            row: *row,
+            col: *col,
+        })?;
     }
     Ok(Certificate {
-        kind: case.kind,
         p: case.p,
-        rank,
         pivots,
         l: built(alloc, &case.l)?,
         u: built(alloc, &case.u)?,
-        extra: match case.kind {
-            CertKind::Rank => None,
-            CertKind::Rref | CertKind::Kernel => Some(built(alloc, &case.last)?),
-        },
+        claim: claimed(alloc, kind, &case.last)?,
     })
 }
 
-// Whether the certificate of a case is judged as is known, and refused with another rank, and with a kind that its parts don't fit.
+// A kind other than this one, whose matrix is of other sizes.
+fn other_kind(kind: CertKind) -> CertKind {
+    match kind {
+        CertKind::Rank | CertKind::Kernel => CertKind::Rref,
+        CertKind::Rref => CertKind::Kernel,
+    }
+}
+
+// Whether the certificate of a case is judged as is known, and refused with a claim of another kind, and with a pivot more.
 fn is_judged(alloc: Global, case: &Case) -> Result<bool, Fail> {
     let a = built(alloc, &case.a)?;
-    let mut certificate = certificate(alloc, case)?;
-    let is_right = check(alloc, &a, &certificate)? == case.valid;
-    certificate.rank ^= 1;
-    let has_any_rank = check(alloc, &a, &certificate)?;
-    certificate.rank ^= 1;
-    certificate.kind = match certificate.kind {
-        CertKind::Rank => CertKind::Rref,
-        CertKind::Rref | CertKind::Kernel => CertKind::Rank,
-    };
-    let has_any_kind = check(alloc, &a, &certificate)?;
-    Ok(is_right && !has_any_rank && !has_any_kind)
+    let mut given = certificate(alloc, case, case.kind)?;
+    let is_right = check(alloc, &a, &given)? == case.valid;
+    let other = certificate(alloc, case, other_kind(case.kind))?;
+    let has_any_kind = check(alloc, &a, &other)?;
+    given.pivots.push(Pair { row: 0, col: 0 })?;
+    let has_any_rank = check(alloc, &a, &given)?;
+    Ok(is_right && !has_any_kind && !has_any_rank)
 }
 
 #[test]
