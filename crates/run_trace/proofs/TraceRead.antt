@@ -9,8 +9,8 @@ use Rattle.sms_text.specs.Text.{Due, Outer, Item, Words, due_behind, step_lines}
 use Rattle.sms_text.proofs.CountedLines.{counted_closed}
 use Rattle.sms_text.proofs.Parts.{ReadSoFar, part_missed, part_reads, part_sound, part_taken, so_far_ends}
 use Rattle.run_trace.specs.declared.publication.Publication.{Publication}
-use Rattle.run_trace.specs.declared.title.Title.{Title}
 use Rattle.run_trace.specs.declared.trace.Trace.{Trace}
+use Rattle.run_trace.specs.declared.trace_title.TraceTitle.{TraceTitle}
 use Rattle.run_trace.specs.TraceText.{SaysTrace, publication_of}
 use Rattle.run_trace.specs.TraceParts.{IsTraceTitle, SaysTraceTitle}
 
@@ -19,16 +19,16 @@ abbrev pub a_trace : ℕ → Wanted
 a_trace p = wants p (Outer form.Trace ∷ [])
 
 -- no text is open behind the first line
-pub title_closed : (ws : List (List ℕ)) (t : Title) → IsTraceTitle ws t → open_at (due_behind form.Trace ws) ≡ None
+pub title_closed : (ws : List (List ℕ)) (t : TraceTitle) → IsTraceTitle ws t → open_at (due_behind form.Trace ws) ≡ None
 title_closed ws t is = ap (λ n. open_at (step_lines n)) is.count ∙ ap open_at (sym (append-nil (step_lines t.count))) ∙ counted_closed Step t.count [] refl
 
 -- the first line was read
-pub record TitleRead (p : ℕ) (t : Title) (old new : InputState) : Type 0 where
+pub record TitleRead (p : ℕ) (t : TraceTitle) (old new : InputState) : Type 0 where
   pub words : List (List ℕ)
   pub title : IsTraceTitle words t
   pub so_far : ReadSoFar (a_trace p) old new (Words words ∷ []) (step_lines t.count ++ [])
 
-pub title_read : (p : ℕ) (t : Title) (old new : InputState) → PartDid (a_trace p) SaysTraceTitle old new (Ok t) → TitleRead p t old new
+pub title_read : (p : ℕ) (t : TraceTitle) (old new : InputState) → PartDid (a_trace p) SaysTraceTitle old new (Ok t) → TitleRead p t old new
 title_read p t old new did =
     let sound = part_sound (a_trace p) SaysTraceTitle old new t did in
     let r = part_reads (a_trace p) SaysTraceTitle old new (Ok t) sound did in
@@ -40,13 +40,13 @@ title_read p t old new did =
     record { words = m.words; title = m.title; so_far = subst Q due (subst P m.items_are s) }
 
 -- the publications weren't read behind it
-pub steps_unread : (p : ℕ) (t : Title) (e : TextError) (old mid new : InputState) → TitleRead p t old mid → PartDid (wants p (step_lines t.count)) (SaysLines publication_of) mid new (Err e) →
+pub steps_unread : (p : ℕ) (t : TraceTitle) (e : TextError) (old mid new : InputState) → TitleRead p t old mid → PartDid (wants p (step_lines t.count)) (SaysLines publication_of) mid new (Err e) →
     PartDid (a_trace p) SaysTrace old new (Err e)
 steps_unread p t e old mid new s did =
     part_missed (a_trace p) (step_lines t.count) [] (SaysLines publication_of) old mid new (Words s.words ∷ []) s.so_far refl SaysTrace e did
 
 -- the whole trace was read
-pub trace_read : (p : ℕ) (t : Title) (list : List Publication) (old mid new : InputState) → TitleRead p t old mid → PartDid (wants p (step_lines t.count)) (SaysLines publication_of) mid new (Ok list) →
+pub trace_read : (p : ℕ) (t : TraceTitle) (list : List Publication) (old mid new : InputState) → TitleRead p t old mid → PartDid (wants p (step_lines t.count)) (SaysLines publication_of) mid new (Ok list) →
     PartDid (a_trace p) SaysTrace old new (Ok (record { p = t.p; publications = list }))
 trace_read p t list old mid new s did =
     let r = part_reads (wants p (step_lines t.count)) (SaysLines publication_of) mid new (Ok list) s.so_far.stands.sound did in

@@ -5,10 +5,10 @@ use Rattle.sms_text.specs.declared.reader.TheConstants.{LARGEST_TEXT_SIZE}
 use Rattle.sms_text.specs.OuterLines as form
 use Rattle.sms_text.specs.OuterLines.{is_trace}
 use Rattle.sms_text.specs.Text.{Due, Item, Words, due_behind, number_at}
-use Rattle.run_trace.specs.declared.title.Title.{Title}
+use Rattle.run_trace.specs.declared.trace_title.TraceTitle.{TraceTitle}
 
 -- these words are a first line that says this
-pub record IsTraceTitle (ws : List (List ℕ)) (t : Title) : Type 0 where
+pub record IsTraceTitle (ws : List (List ℕ)) (t : TraceTitle) : Type 0 where
   pub form : is_trace ws ≡ true
   pub modulus : number_at ws 1 ≡ t.p
   pub count : number_at ws 2 ≡ t.count
@@ -16,7 +16,7 @@ pub record IsTraceTitle (ws : List (List ℕ)) (t : Title) : Type 0 where
   pub count_small : t.count ≤ LARGEST_TEXT_SIZE
 
 -- the first line was read, and what it makes due is due
-pub record SaysTraceTitle (t : Title) (items : List Item) (due : List Due) : Type 0 where
+pub record SaysTraceTitle (t : TraceTitle) (items : List Item) (due : List Due) : Type 0 where
   pub words : List (List ℕ)
   pub items_are : items ≡ Words words ∷ []
   pub due_are : due ≡ due_behind form.Trace words

@@ -9,8 +9,8 @@ mod laws;
 mod publication;
 mod reading;
 mod replaying;
-mod title;
 mod trace;
+mod trace_title;
 mod tracing;
 mod writing;
 

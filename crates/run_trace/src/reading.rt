@@ -11,8 +11,8 @@ ghost use Rattle.run_trace.specs.TraceParts.{SaysTraceTitle};
 ghost use Rattle.run_trace.specs.TraceText.{HasTraceText, IsTextPublication, SaysTrace, publication_of};
 
 use crate::publication::Publication;
-use crate::title::Title;
 use crate::trace::Trace;
+use crate::trace_title::TraceTitle;
 use residue_words::plain::Pair;
 use sms_text::{Kind, LARGEST_TEXT_SIZE, Line, Reader, Source, TextError};
 use sparse_rows::List;
@@ -45,7 +45,7 @@ pub fn read<S: Source>(
 }
 
 // Reads the first line.
-fn read_title<S: Source>(reader: &mut Reader, source: &mut S) -> Result<Title, TextError>
+fn read_title<S: Source>(reader: &mut Reader, source: &mut S) -> Result<TraceTitle, TextError>
     requires { reader.old.open_text ≡ None }
     ensures did { (p : ℕ) → PartDid (wants p (Outer form.Trace ∷ [])) SaysTraceTitle
         (input reader.old (S.state source.old)) (input reader.new (S.state source.new)) result }
@@ -53,7 +53,7 @@ fn read_title<S: Source>(reader: &mut Reader, source: &mut S) -> Result<Title, T
     ensures closed { reader.new.open_text ≡ None }
 {
     let line = reader.words(source)?;
-    match Title::of(&line) {
+    match TraceTitle::of(&line) {
         Some(title) => Ok(title),
         None => Err(reader.refuse(line.number(), Kind::Trace)),
     }
