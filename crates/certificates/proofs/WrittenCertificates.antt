@@ -20,7 +20,7 @@ use Rattle.sms_text.proofs.WrittenNumbers.{decimal_spells, from_one, up_to}
 use Rattle.sms_text.proofs.WrittenValues.{items_matrix_then, items_no_words}
 use Rattle.certificates.specs.declared.cert_kind.CertKind.{CertKind}
 use Rattle.certificates.specs.declared.cert_kind.CertKind.TheVariants.{Rank, Rref, Kernel}
-use Rattle.certificates.specs.Certificate.{kind_of}
+use Rattle.certificates.specs.Certificate.{claim_kind}
 use Rattle.certificates.specs.CertificateParts.{claim_due, claim_values}
 use Rattle.certificates.specs.CertificateText.{ClaimFitsText, HasLines, HasText, IsTextPlace, certificate_said, certificate_text, claim_said, claim_text, claim_word, kind_word, pivot_of, title_line}
 use Rattle.certificates.specs.Laws.{ClaimIsModulo, IsModulo, WrittenCertificateReadsBack, certificate_items, claim_items, pivot_words, title_words}
@@ -49,25 +49,25 @@ title_spaced word p r = simp append_assoc
 title_fits : (c : plain.Certificate) → HasText c → is_certificate (title_words c) ≡ true
 title_fits c has =
     rw (
-      kind_word_is (kind_of c.claim),
+      kind_word_is (claim_kind c.claim),
       up_to (MODULUS_BOUND - 1) c.modulus _ (decimal_spells c.modulus (omega (arith, has.modulus))) (omega (arith, has.modulus)),
       up_to LARGEST_TEXT_SIZE (length c.pivots) _ (decimal_spells (length c.pivots) (omega (arith, has.count))) has.count,
     ) refl
 
 title_carries : (p : ℕ) (c : plain.Certificate) → HasText c → (ended : Bool) (dues : List Due) →
-    Carries p ended (Outer form.Certificate ∷ dues) (pivot_lines (length c.pivots) ++ (Header ∷ Header ∷ (claim_due (kind_of c.claim) ++ dues))) (title_line (claim_word c.claim) c.modulus (length c.pivots)) (Words (title_words c) ∷ [])
+    Carries p ended (Outer form.Certificate ∷ dues) (pivot_lines (length c.pivots) ++ (Header ∷ Header ∷ (claim_due (claim_kind c.claim) ++ dues))) (title_line (claim_word c.claim) c.modulus (length c.pivots)) (Words (title_words c) ∷ [])
 title_carries p c has ended dues =
     let r = length c.pivots in
     let modulus = decimal_spells c.modulus (omega (arith, has.modulus)) in
     let rank = decimal_spells r (omega (arith, has.count)) in
-    let due : due_behind form.Certificate (title_words c) ++ dues ≡ pivot_lines r ++ (Header ∷ Header ∷ (claim_due (kind_of c.claim) ++ dues)) =
+    let due : due_behind form.Certificate (title_words c) ++ dues ≡ pivot_lines r ++ (Header ∷ Header ∷ (claim_due (claim_kind c.claim) ++ dues)) =
     ap (λ n. (pivot_lines n ++ texts_of_kind (claim_word c.claim)) ++ dues) rank.spelled
-    ∙ ap (λ d. (pivot_lines r ++ d) ++ dues) (texts_due (kind_of c.claim))
-    ∙ append_assoc (pivot_lines r) (Header ∷ Header ∷ claim_due (kind_of c.claim)) dues in
+    ∙ ap (λ d. (pivot_lines r ++ d) ++ dues) (texts_due (claim_kind c.claim))
+    ∙ append_assoc (pivot_lines r) (Header ∷ Header ∷ claim_due (claim_kind c.claim)) dues in
     let P : List Due → Type 0 = λ d. Carries p ended (Outer form.Certificate ∷ dues) d (title_line (claim_word c.claim) c.modulus r) (Words (title_words c) ∷ []) in
     subst P due (carries_words p ended (Outer form.Certificate) dues (title_line (claim_word c.claim) c.modulus r) (codes "certificate") (claim_word c.claim ∷ decimal c.modulus ∷ decimal r ∷ [])
     (record { item = Words (title_words c); due = due_behind form.Certificate (title_words c) }) (title_spaced (claim_word c.claim) c.modulus r)
-    first_word_written (kind_word_written (kind_of c.claim), (modulus.word, (rank.word, tt))) refl (outer_says p form.Certificate (title_words c) (title_fits c has)))
+    first_word_written (kind_word_written (claim_kind c.claim), (modulus.word, (rank.word, tt))) refl (outer_says p form.Certificate (title_words c) (title_fits c has)))
 
 -- the lines of the pivots
 abbrev pivot_items : List Pair → List Item
@@ -91,7 +91,7 @@ pivots_carry p qs small ended dues =
 
 -- the matrix that is claimed
 claim_carries : (p : ℕ) (claim : plain.Claim) → p < 2 ^ 64 → ClaimIsModulo p claim → ClaimFitsText claim → (ended : Bool) (dues : List Due) →
-    Carries p ended (claim_due (kind_of claim) ++ dues) dues (claim_text claim) (claim_items claim)
+    Carries p ended (claim_due (claim_kind claim) ++ dues) dues (claim_text claim) (claim_items claim)
 claim_carries p plain.Claim.Rank small is fits ended dues = carries_nothing p ended dues
 claim_carries p (plain.Claim.Rref E) small is fits ended dues = text_carries p E small is fits.0 fits.1 ended dues
 claim_carries p (plain.Claim.Kernel K) small is fits ended dues = text_carries p K small is fits.0 fits.1 ended dues
@@ -99,7 +99,7 @@ claim_carries p (plain.Claim.Kernel K) small is fits ended dues = text_carries p
 certificate_carries : (p : ℕ) (c : plain.Certificate) → p < 2 ^ 64 → IsModulo p c → HasText c → (ended : Bool) (dues : List Due) →
     Carries p ended (Outer form.Certificate ∷ dues) dues (certificate_text c) (certificate_items c)
 certificate_carries p c small is has ended dues =
-    let last = claim_due (kind_of c.claim) ++ dues in
+    let last = claim_due (claim_kind c.claim) ++ dues in
     let title = title_carries p c has ended dues in
     let pivots = pivots_carry p c.pivots has.pivots ended (Header ∷ Header ∷ last) in
     let left = text_carries p c.left small is.left has.left.0 has.left.1 ended (Header ∷ last) in

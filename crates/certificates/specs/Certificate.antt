@@ -13,10 +13,10 @@ claim_of Rank = plain.Claim.Rank
 claim_of (Rref E) = plain.Claim.Rref E.matrix
 claim_of (Kernel K) = plain.Claim.Kernel K.matrix
 
-abbrev pub kind_of : plain.Claim → CertKind
-kind_of plain.Claim.Rank = kind.Rank
-kind_of (plain.Claim.Rref E) = kind.Rref
-kind_of (plain.Claim.Kernel K) = kind.Kernel
+abbrev pub claim_kind : plain.Claim → CertKind
+claim_kind plain.Claim.Rank = kind.Rank
+claim_kind (plain.Claim.Rref E) = kind.Rref
+claim_kind (plain.Claim.Kernel K) = kind.Kernel
 
 -- the plain certificate
 abbrev pub certificate_of : Certificate → plain.Certificate

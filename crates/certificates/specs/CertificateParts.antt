@@ -11,7 +11,7 @@ use Rattle.certificates.specs.declared.cert_kind.CertKind.{CertKind}
 use Rattle.certificates.specs.declared.cert_kind.CertKind.TheVariants.{Rank, Rref, Kernel}
 use Rattle.certificates.specs.declared.certificate_title.CertificateTitle.{CertificateTitle}
 use Rattle.certificates.specs.declared.claim.Claim.{Claim}
-use Rattle.certificates.specs.Certificate.{HasModulus, claim_of, kind_of}
+use Rattle.certificates.specs.Certificate.{HasModulus, claim_kind, claim_of}
 use Rattle.certificates.specs.CertificateText.{HasLines, kind_word}
 
 -- these words are a first line that says this
@@ -46,5 +46,5 @@ pub record SaysClaim (p : ℕ) (kind : CertKind) (claim : Claim) (items : List I
     : Type 0 where
   pub whole : due ≡ []
   pub has : HasLines p items [] (claim_values (claim_of claim))
-  pub of_kind : kind_of (claim_of claim) ≡ kind
+  pub of_kind : claim_kind (claim_of claim) ≡ kind
   pub modulus : HasModulus p claim

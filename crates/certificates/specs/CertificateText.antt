@@ -12,7 +12,7 @@ use Rattle.sms_text.specs.Written.{pair_lines, text_of}
 use Rattle.certificates.specs.declared.cert_kind.CertKind.{CertKind}
 use Rattle.certificates.specs.declared.cert_kind.CertKind.TheVariants.{Rank, Rref, Kernel}
 use Rattle.certificates.specs.declared.certificate.Certificate.{Certificate}
-use Rattle.certificates.specs.Certificate.{certificate_of, kind_of}
+use Rattle.certificates.specs.Certificate.{certificate_of, claim_kind}
 
 -- the word of a kind, and that of a claim
 abbrev pub kind_word : CertKind → List ℕ
@@ -21,7 +21,7 @@ kind_word Rref = codes "rref"
 kind_word Kernel = codes "kernel"
 
 abbrev pub claim_word : plain.Claim → List ℕ
-claim_word claim = kind_word (kind_of claim)
+claim_word claim = kind_word (claim_kind claim)
 
 -- the pivot of a line's words, which count from 1
 abbrev pub pivot_of : List (List ℕ) → Pair

@@ -1,6 +1,6 @@
 // Claims with their data.
 ghost use Rattle.std.specs.Prelude.{◌≡◌};
-ghost use Rattle.certificates.specs.Certificate.{claim_of, kind_of};
+ghost use Rattle.certificates.specs.Certificate.{claim_kind, claim_of};
 
 use crate::cert_kind::CertKind;
 use sparse_rows::Rows;
@@ -19,7 +19,7 @@ pub enum Claim {
 impl Claim {
     /// Its kind.
     pub fn kind(&self) -> CertKind
-        ensures { result ≡ kind_of (claim_of self.now) }
+        ensures { result ≡ claim_kind (claim_of self.now) }
     {
         match self {
             Claim::Rank => CertKind::Rank,

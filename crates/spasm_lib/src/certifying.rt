@@ -6,7 +6,7 @@ ghost use Rattle.row_space.specs.Factors.{IsValid};
 ghost use Rattle.sparse_rows.specs.declared.rows.TheConstants.{LARGEST_SIZE};
 ghost use Rattle.pluq_factor.specs.Basis.{IsBasis};
 ghost use Rattle.pluq_factor.specs.Staged.{Staged};
-ghost use Rattle.certificates.specs.Certificate.{AreModulo, certificate_of, claim_of, kind_of};
+ghost use Rattle.certificates.specs.Certificate.{AreModulo, certificate_of, claim_kind, claim_of};
 ghost use Rattle.certificates.specs.CertificateText.{HasText};
 ghost use Rattle.spasm_lib.specs.Claimed.{IsClaimed};
 
@@ -38,7 +38,7 @@ pub fn certificate<R: Threads + Sync, G: Gate>(
     requires some { 1 ≤ team.workers }
     requires height { a.now.matrix.height < LARGEST_SIZE }
     requires width { a.now.matrix.width < LARGEST_SIZE }
-    ensures kind { IfOk result (λ c. kind_of (claim_of c.claim) ≡ kind) }
+    ensures kind { IfOk result (λ c. claim_kind (claim_of c.claim) ≡ kind) }
     ensures modulus { IfOk result (AreModulo a.now.modulus) }
     ensures text { IfOk result (λ c. HasText (certificate_of c)) }
     ensures valid { IfOk result (λ c. IsPrime a.now.modulus →
@@ -67,7 +67,7 @@ fn claimed<C: Eliminating, G>(
     requires able { C.can_work }
     requires some { 1 ≤ team.now.workers }
     requires width { basis.now.matrix.width < LARGEST_SIZE }
-    ensures kind { IfOk result (λ claim. kind_of (claim_of claim) ≡ kind) }
+    ensures kind { IfOk result (λ claim. claim_kind (claim_of claim) ≡ kind) }
     ensures claimed { IfOk result (λ claim. (p : ℕ) (A : Matrix) → IsMatrix p A → IsBasis p A basis.now →
         IsClaimed p A claim) }
 {

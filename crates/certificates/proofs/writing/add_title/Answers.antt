@@ -5,7 +5,7 @@ use Rattle.std.proofs.lemmas.Result.{err_from_is_err_and}
 use Rattle.sms_text.specs.Writing.{output}
 use Rattle.sms_text.specs.Written.{pair_line}
 use Rattle.sms_text.proofs.WrittenRows.{added_fault, added_last, added_more, added_nothing}
-use Rattle.certificates.specs.Certificate.{claim_of, kind_of}
+use Rattle.certificates.specs.Certificate.{claim_kind, claim_of}
 use Rattle.certificates.specs.CertificateText.{kind_word}
 use Rattle.certificates.proofs.CertificateWritten.{title_cut, title_of}
 use Rattle.certificates.proofs.writing.add_title.Goals as goal
@@ -13,7 +13,7 @@ use Rattle.certificates.proofs.writing.add_title.Goals as goal
 pub returns-in_err-add : goal.returns-in_err-add
 returns-in_err-add g c =
     let a = c.args.certificate.now in
-    let word = kind_word (kind_of (claim_of a.claim)) in
+    let word = kind_word (claim_kind (claim_of a.claim)) in
     let numbers : List ℕ = 32 ∷ pair_line a.p (length a.pivots) in
     let text = title_of a in
     let fault = err_from_is_err_and c.from_residual.result c.from_residual.ensures.1 in
@@ -22,7 +22,7 @@ returns-in_err-add g c =
 pub returns-in_err-add-2 : goal.returns-in_err-add-2
 returns-in_err-add-2 g c =
     let a = c.args.certificate.now in
-    let word = kind_word (kind_of (claim_of a.claim)) in
+    let word = kind_word (claim_kind (claim_of a.claim)) in
     let numbers : List ℕ = 32 ∷ pair_line a.p (length a.pivots) in
     let text = title_of a in
     let is : c.word.result.now ≡ word = c.word.ensures ∙ ap kind_word c.kind.ensures in
@@ -34,7 +34,7 @@ returns-in_err-add-2 g c =
 pub returns : goal.returns
 returns g c =
     let a = c.args.certificate.now in
-    let word = kind_word (kind_of (claim_of a.claim)) in
+    let word = kind_word (claim_kind (claim_of a.claim)) in
     let numbers : List ℕ = 32 ∷ pair_line a.p (length a.pivots) in
     let text = title_of a in
     let is : c.word.result.now ≡ word = c.word.ensures ∙ ap kind_word c.kind.ensures in
