@@ -13,7 +13,7 @@ use Rattle.dense_finish.specs.Factors.{IsRightFactored}
 use Rattle.dense_finish.specs.declared.right_factor.RightFactor.{RightFactor}
 use Rattle.echelon_form.specs.Form.{Form, IsFormOf}
 use Rattle.schur_rows.specs.Round.{FitsComplement, pivot_rows}
-use Rattle.schur_rows.specs.Streamed.{IsRestBasis}
+use Rattle.schur_rows.specs.RestBasis.{IsRestBasis}
 use Rattle.schur_rows.proofs.FactorRows.{factor_rows_independent, factor_rows_span}
 use Rattle.schur_rows.proofs.Spanning.{round_spanned}
 use Rattle.pluq_factor.specs.Basis.{IsBasis}

@@ -18,7 +18,7 @@ use Rattle.sparse_rows.specs.Rows.{AreOccupied, ResidueMatrix}
 use Rattle.pivot_table.specs.Order.{Triangular}
 use Rattle.triangular_solve.specs.Reduced.{IsComplement, IsPivotRow, IsSchurRow, SchurRowIsOne}
 use Rattle.triangular_solve.specs.Triangle.{TriangleState}
-use Rattle.schur_rows.specs.Streamed.{AreInColumns, HasColumnsLeft, IsBasisUpTo, IsFullFor, IsInColumns, IsPivotColumn, IsRestBasis}
+use Rattle.schur_rows.specs.RestBasis.{AreInColumns, HasColumnsLeft, IsBasisUpTo, IsFullFor, IsInColumns, IsPivotColumn, IsRestBasis}
 use Rattle.schur_rows.proofs.Distinct.{triangular_columns}
 use Rattle.schur_rows.proofs.FullRank.{combination_in_columns, full_rank_spans, left_out, triangular_solvable}
 use Rattle.schur_rows.proofs.Unique.{diagonal, pivot_or_not}

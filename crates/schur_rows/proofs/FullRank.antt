@@ -13,7 +13,7 @@ use Rattle.row_space.specs.Echelon.{IsIndependent}
 use Rattle.row_space.proofs.Counting.{spanned_back}
 use Rattle.row_space.proofs.Solvable.{solvable_or_refuted}
 use Rattle.row_space.proofs.Triangular.{lower_zero}
-use Rattle.schur_rows.specs.Streamed.{AreInColumns, IsInColumns}
+use Rattle.schur_rows.specs.RestBasis.{AreInColumns, IsInColumns}
 
 -- combinations of rows within these columns are within them
 pub combination_in_columns : (p : ℕ) (A : Matrix) (columns v : List ℕ) → AreInColumns columns A →

@@ -20,7 +20,7 @@ use Rattle.pivot_table.specs.Order.{Triangular}
 use Rattle.triangular_solve.specs.Reduced.{FitsReduced, FitsRest, IsPivotRow, IsReduced, IsSchurRow, reduction_of}
 use Rattle.triangular_solve.specs.declared.reduced.Reduced.{Reduced}
 use Rattle.triangular_solve.specs.Triangle.{TriangleState}
-use Rattle.schur_rows.specs.Parts.{AddsLeft, AddsRow, AddsZeros, AreZeroRows, MayTakeRow, IsPart, IsPartTo, IsRowOfRound, Joins, itself}
+use Rattle.schur_rows.specs.Parts.{AddsReduced, AddsRow, AddsZeros, AreZeroRows, MayTakeRow, IsPart, IsPartTo, IsRowOfRound, Joins, itself}
 use Rattle.schur_rows.specs.PivotNumbers.{IsRowOfPair}
 use Rattle.schur_rows.specs.declared.round.SchurRows.{SchurRows}
 use Rattle.schur_rows.proofs.Above.{above_first, above_matrix, above_second, each_of}
@@ -72,7 +72,7 @@ part_join t with_coefficients from to s u v h g meet j = record {
 one_row : (p n : ℕ) (v : List ℕ) → IsVector p n v → IsMatrix p (record { height = 1; width = n; rows = v ∷ [] })
 one_row p n v h = record { len = refl; each = λ i l. let e : i ≡ 0 = omega arith in subst (λ i. IsVector p n (row (record { height = 1; width = n; rows = v ∷ [] }) i)) (sym e) h }
 
-pub part_more : (t : TriangleState) (with_coefficients : Bool) (from i : ℕ) (s v : SchurRows) → IsPart t with_coefficients from s → from + s.rows.matrix.height ≡ i → AddsLeft t with_coefficients i s v → IsPart t with_coefficients from v
+pub part_more : (t : TriangleState) (with_coefficients : Bool) (from i : ℕ) (s v : SchurRows) → IsPart t with_coefficients from s → from + s.rows.matrix.height ≡ i → AddsReduced t with_coefficients i s v → IsPart t with_coefficients from v
 part_more t with_coefficients from i s v h meet a =
     let n : ℕ = t.rows.matrix.width in
     let m : ℕ = length t.pairs in
@@ -174,7 +174,7 @@ spread_row {R} {S} {i} {cols} {vals} same sound li columns values =
 
 -- a row appended by the call for a pivot's row
 pub left_pivot : {t : TriangleState} {with_coefficients : Bool} {i k p : ℕ} {qs : List Pair} {R : ResidueMatrix} {old new : SchurRows} → R ≡ t.rows → p ≡ R.modulus → 2 ≤ p → Triangular t.rows.matrix t.pairs → qs ≡ t.pairs →
-    IsRowOfPair qs i k → MayTakeRow t old → AddsRow (itself old k) old new → AddsLeft t with_coefficients i old new
+    IsRowOfPair qs i k → MayTakeRow t old → AddsRow (itself old k) old new → AddsReduced t with_coefficients i old new
 left_pivot {t} {with_coefficients} {i} {k} {p} {qs} {R} {old} {new} same value two tri pairs here room added =
     let m : ℕ = t.rows.modulus in
     let big : 2 ≤ m = omega (arith, value, ap (λ (R : ResidueMatrix). R.modulus) same) in
@@ -196,7 +196,7 @@ left_pivot {t} {with_coefficients} {i} {k} {p} {qs} {R} {old} {new} same value t
 
 -- where the coefficients aren't kept, nothing is told of a pivot's row
 pub left_none : {t : TriangleState} {with_coefficients : Bool} {i k p : ℕ} {qs : List Pair} {R : ResidueMatrix} {old new : SchurRows} → with_coefficients ≡ false → R ≡ t.rows → p ≡ R.modulus → 2 ≤ p → qs ≡ t.pairs →
-    IsRowOfPair qs i k → MayTakeRow t old → AddsZeros 1 old new → AddsLeft t with_coefficients i old new
+    IsRowOfPair qs i k → MayTakeRow t old → AddsZeros 1 old new → AddsReduced t with_coefficients i old new
 left_none {t} {with_coefficients} {i} {k} {p} {qs} {R} {old} {new} off same value two pairs here room added =
     let m : ℕ = t.rows.modulus in
     let big : 2 ≤ m = omega (arith, value, ap (λ (R : ResidueMatrix). R.modulus) same) in
@@ -217,7 +217,7 @@ left_none {t} {with_coefficients} {i} {k} {p} {qs} {R} {old} {new} off same valu
 -- by the call that keeps the coefficients
 pub left_kept : {t : TriangleState} {with_coefficients : Bool} {i : ℕ} {R : ResidueMatrix} {qs : List Pair} {cols vals : List ℕ} {r : Reduced} {old new : SchurRows} → R ≡ t.rows → IsMatrix R.modulus R.matrix → i < t.rows.matrix.height →
     cols ≡ support (row R.matrix i) → vals ≡ nonzeros (row R.matrix i) → qs ≡ t.pairs → ¬ IsPivotRow qs i → FitsReduced t r →
-    (IsPrime t.rows.modulus → IsReduced t.rows.modulus t.rows.matrix t.pairs (spread t.rows.matrix.width cols vals) (reduction_of r)) → AddsRow (reduction_of r) old new → AddsLeft t with_coefficients i old new
+    (IsPrime t.rows.modulus → IsReduced t.rows.modulus t.rows.matrix t.pairs (spread t.rows.matrix.width cols vals) (reduction_of r)) → AddsRow (reduction_of r) old new → AddsReduced t with_coefficients i old new
 left_kept {t} {with_coefficients} {i} {R} {qs} {cols} {vals} {r} {old} {new} same sound li columns values pairs none fits reduced added =
     let free : ¬ IsPivotRow t.pairs i = subst (λ qs. ¬ IsPivotRow qs i) pairs none in
     let v : spread t.rows.matrix.width cols vals ≡ row t.rows.matrix i = spread_row same sound li columns values in
@@ -240,7 +240,7 @@ left_kept {t} {with_coefficients} {i} {R} {qs} {cols} {vals} {r} {old} {new} sam
 pub left_rest : {t : TriangleState} {with_coefficients : Bool} {i : ℕ} {R : ResidueMatrix} {qs : List Pair} {cols vals : List ℕ} {w : ResidueRow} {old new : SchurRows} → with_coefficients ≡ false → R ≡ t.rows → IsMatrix R.modulus R.matrix → 2 ≤ R.modulus →
     i < t.rows.matrix.height → cols ≡ support (row R.matrix i) → vals ≡ nonzeros (row R.matrix i) → qs ≡ t.pairs → ¬ IsPivotRow qs i → FitsRest t w →
     (IsPrime t.rows.modulus → IsSchurRow t.rows.modulus t.rows.matrix t.pairs (spread t.rows.matrix.width cols vals) w.row) → MayTakeRow t old →
-    AddsRow (record { rest = w.row; coefficients = zeros old.coefficients.matrix.width }) old new → AddsLeft t with_coefficients i old new
+    AddsRow (record { rest = w.row; coefficients = zeros old.coefficients.matrix.width }) old new → AddsReduced t with_coefficients i old new
 left_rest {t} {with_coefficients} {i} {R} {qs} {cols} {vals} {w} {old} {new} off same sound two li columns values pairs none fits schur room added =
     let free : ¬ IsPivotRow t.pairs i = subst (λ qs. ¬ IsPivotRow qs i) pairs none in
     let big : 2 ≤ t.rows.modulus = omega (arith, ap (λ (R : ResidueMatrix). R.modulus) same) in
@@ -284,7 +284,7 @@ zeros_high {d} {s} {v} a = ap (λ (M : Matrix). M.height) a.rows
 
 -- one step of a part, and its last
 pub part_step : {t : TriangleState} {with_coefficients : Bool} {from next i p : ℕ} {R : ResidueMatrix} {s u v : SchurRows} → R ≡ t.rows → p ≡ R.modulus → 2 ≤ p → IsMatrix R.modulus R.matrix → Triangular t.rows.matrix t.pairs →
-    i < t.rows.matrix.height → IsPartTo t with_coefficients from next s → IsNextFilled R.matrix next i → AddsZeros (i - next) s u → AddsLeft t with_coefficients i u v → IsPartTo t with_coefficients from (i + 1) v
+    i < t.rows.matrix.height → IsPartTo t with_coefficients from next s → IsNextFilled R.matrix next i → AddsZeros (i - next) s u → AddsReduced t with_coefficients i u v → IsPartTo t with_coefficients from (i + 1) v
 part_step {t} {with_coefficients} {from} {next} {i} {p} {R} {s} {u} {v} same value two sound tri li h found z a =
     let big : 2 ≤ t.rows.modulus = omega (arith, value, ap (λ (R : ResidueMatrix). R.modulus) same) in
     let m : IsMatrix t.rows.modulus t.rows.matrix = subst (λ (T : ResidueMatrix). IsMatrix T.modulus T.matrix) same sound in

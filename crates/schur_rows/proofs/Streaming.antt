@@ -17,7 +17,7 @@ use Rattle.dense_finish.specs.Factors.{IsRightFactored}
 use Rattle.dense_finish.specs.declared.right_factor.RightFactor.{RightFactor}
 use Rattle.echelon_form.specs.Form.{Form, IsFormOf}
 use Rattle.schur_rows.specs.Parts.{IsPartTo}
-use Rattle.schur_rows.specs.Streamed.{IsBasisOf, IsBasisUpTo, IsFullFor, IsInColumns, IsRestBasis}
+use Rattle.schur_rows.specs.RestBasis.{IsBasisOf, IsBasisUpTo, IsFullFor, IsInColumns, IsRestBasis}
 use Rattle.schur_rows.specs.declared.round.SchurRows.{SchurRows}
 use Rattle.schur_rows.proofs.Above.{above_first, above_matrix, above_second, each_of}
 use Rattle.schur_rows.proofs.FactorRows.{factor_rows_independent, factor_rows_span, fit_few}

@@ -2,4 +2,4 @@ pub mod Laws
 pub mod Parts
 pub mod PivotNumbers
 pub mod Round
-pub mod Streamed
+pub mod RestBasis

@@ -12,8 +12,8 @@ use Rattle.triangular_solve.specs.Reduced.{IsPivotRow, IsReduced, IsSchurRow, Re
 use Rattle.triangular_solve.specs.Triangle.{TriangleState}
 use Rattle.schur_rows.specs.PivotNumbers.{HasNumbers}
 use Rattle.schur_rows.specs.declared.round.SchurRows.{SchurRows}
-use Rattle.schur_rows.specs.declared.deal.Deal.{Deal}
-use Rattle.schur_rows.specs.declared.deal.Stage.{Stage}
+use Rattle.schur_rows.specs.declared.dealt_rows.DealtRows.{DealtRows}
+use Rattle.schur_rows.specs.declared.stage.Stage.{Stage}
 use Rattle.schur_rows.specs.declared.numbered_part.NumberedPart.{NumberedPart}
 
 -- r is row i of a round: a pivot row is itself and leaves nothing, for another row its Schur row is left; where the
@@ -74,7 +74,7 @@ abbrev pub itself : SchurRows → ℕ → Reduction
 itself s k = record { rest = zeros s.rows.matrix.width; coefficients = unit s.coefficients.matrix.width k }
 
 -- they are row i of a round
-pub record AddsLeft (t : TriangleState) (with_coefficients : Bool) (i : ℕ)
+pub record AddsReduced (t : TriangleState) (with_coefficients : Bool) (i : ℕ)
     (old new : SchurRows) : Type 0 where
   pub left : Reduction
   pub rest : IsVector t.rows.modulus t.rows.matrix.width left.rest
@@ -107,7 +107,7 @@ pub record ArePartCuts (from to count : ℕ) (cuts : List ℕ) : Type 0 where
   pub inside : (j : ℕ) → j ≤ count → slice_index cuts j ≤ to
 
 -- the parts are those of the cuts, of rows of the matrix, and the pass knows which rows are pivots'
-pub record IsDeal (deal : Deal) : Type 0 where
+pub record AreDealtRows (deal : DealtRows) : Type 0 where
   pub numbers : HasNumbers deal.pass.reducer.now.pairs deal.pass.pivot_rows.now
   pub order : deal.from ≤ deal.to
   pub inside : deal.to ≤ deal.pass.reducer.now.rows.matrix.height
@@ -117,19 +117,19 @@ pub record IsDeal (deal : Deal) : Type 0 where
   pub cuts : ArePartCuts deal.from deal.to deal.count deal.cuts.now
 
 -- where part j begins
-abbrev pub cut_at : Deal → ℕ → ℕ
+abbrev pub cut_at : DealtRows → ℕ → ℕ
 cut_at deal j = slice_index deal.cuts.now j
 
 -- part j
-abbrev pub IsPartOf : TriangleState → Deal → ℕ → SchurRows → Type 0
+abbrev pub IsPartOf : TriangleState → DealtRows → ℕ → SchurRows → Type 0
 IsPartOf t deal j s = IsPartTo t deal.pass.with_coefficients (cut_at deal j) (cut_at deal (j + 1)) s
 
 -- the part of its number
-abbrev pub IsNumbered : TriangleState → Deal → NumberedPart → Type 0
+abbrev pub IsNumbered : TriangleState → DealtRows → NumberedPart → Type 0
 IsNumbered t deal part = IsPartOf t deal part.number part.left
 
 -- parts that a worker made, where memory did not run out
-abbrev pub IsWorkersShare : {E : Type 0} → TriangleState → Deal → Result (Vec NumberedPart Global) E → Type 0
+abbrev pub IsWorkersShare : {E : Type 0} → TriangleState → DealtRows → Result (Vec NumberedPart Global) E → Type 0
 IsWorkersShare {E} t deal share = IfOk share (λ parts. All (IsNumbered t deal) parts.items)
 
 -- among these is a part of this number
@@ -137,7 +137,7 @@ abbrev pub IsPartAmong : List NumberedPart → ℕ → SchurRows → Type 0
 IsPartAmong parts number s = Contains parts (record { number = number; left = s })
 
 -- the parts before the stage's are made, and some of these joined
-pub record IsStage (deal : Deal) (stage : Stage) : Type 0 where
+pub record IsStage (deal : DealtRows) (stage : Stage) : Type 0 where
   pub joined : stage.joined ≤ stage.begun
   pub begun : stage.begun ≤ stage.end
   pub end : stage.end ≤ deal.count

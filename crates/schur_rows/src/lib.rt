@@ -6,25 +6,29 @@
 //! a round of the elimination of Bouillaguet, Delaplace and Voge, 'Parallel Sparse PLUQ Factorization modulo p', PASCO 2017.
 #![tactic(auto)]
 
-mod deal;
+mod chunk_size;
+mod chunked_basis;
 mod dealing;
+mod dealt_rows;
 mod numbered_part;
-mod pass;
+mod part_cuts;
 mod pivot_numbers;
+mod reduction_pass;
 mod round;
 mod row_ranges;
 mod row_reducer;
 mod sampling;
-mod streamed;
+mod stage;
 mod workers;
 
 ghost use Rattle.schur_rows.specs.Laws.{ComplementIsOne, RoundJoins, RoundRank, RoundSpans};
 
+pub use chunk_size::ChunkSize;
+pub use chunked_basis::{rest_basis, rest_basis_by};
 pub use dealing::Dealing;
 pub use round::{SchurRows, complement, schur};
 pub use row_reducer::RowReducer;
 pub use sampling::{mean_reduced, mean_rest};
-pub use streamed::{ChunkSize, rest_basis, rest_basis_by};
 
 /// A matrix has at most one complement, for a prime modulus.
 pub fn complement_is_one()

@@ -4,11 +4,11 @@ ghost use Rattle.std.specs.Option.{MatchOption};
 ghost use Rattle.sparse_rows.specs.declared.rows.TheConstants.{LARGEST_SIZE};
 ghost use Rattle.triangular_solve.specs.PivotRows.{IsAlike};
 ghost use Rattle.triangular_solve.specs.Reduced.{HasSizesOf, workspace_of};
-ghost use Rattle.schur_rows.specs.Parts.{AddsLeft, AddsRow, AddsZeros, AreZeroRows, MayTakeRow, IsNextBelow, IsPartTo, itself};
+ghost use Rattle.schur_rows.specs.Parts.{AddsReduced, AddsRow, AddsZeros, AreZeroRows, MayTakeRow, IsNextBelow, IsPartTo, itself};
 ghost use Rattle.schur_rows.specs.PivotNumbers.{HasNumbers};
 
-use crate::pass::Pass;
 use crate::pivot_numbers::PivotNumbers;
+use crate::reduction_pass::ReductionPass;
 use crate::round::SchurRows;
 use crate::row_reducer::RowReducer;
 use sparse_rows::{Rows, Sparse};
@@ -16,7 +16,11 @@ use std::alloc::{AllocError, Global};
 use triangular_solve::{Reduced, Work};
 
 // No row, with room for so many rows and their share of the entries.
-pub(crate) fn no_rows(alloc: Global, pass: Pass, height: u32) -> Result<SchurRows, AllocError>
+pub(crate) fn no_rows(
+    alloc: Global,
+    pass: ReductionPass,
+    height: u32,
+) -> Result<SchurRows, AllocError>
     requires { height ≤ LARGEST_SIZE }
     ensures { IfOk result (λ part. (from : ℕ) →
         IsPartTo pass.entry.reducer.now pass.entry.with_coefficients from from part) }
@@ -42,7 +46,7 @@ pub(crate) fn share_of_rows(rows: &Rows, total: u64, height: u32) -> usize {
 // What is left of the rows from `from` up to `to`; the coefficients are zeros where they aren't kept.
 pub(crate) fn part_of(
     alloc: Global,
-    pass: Pass,
+    pass: ReductionPass,
     from: u32,
     to: u32,
     work: &mut Work,
@@ -65,7 +69,7 @@ pub(crate) fn part_of(
 // The same by the caller alone, in room of its own.
 pub(crate) fn part_by_caller(
     alloc: Global,
-    pass: Pass,
+    pass: ReductionPass,
     from: u32,
     to: u32,
 ) -> Result<SchurRows, AllocError>
@@ -81,7 +85,7 @@ pub(crate) fn part_by_caller(
 // Appends what is left of the rows from `from` up to `to`.
 fn append_rows(
     alloc: Global,
-    pass: Pass,
+    pass: ReductionPass,
     from: u32,
     to: u32,
     work: &mut Work,
@@ -104,7 +108,7 @@ fn append_rows(
     let mut next = from;
     while let Some(i) = next_below(rows, next, to) {
         append_zeros(part, i - next)?;
-        append_left(alloc, pass, i, work, &mut left, part)?;
+        append_reduced(alloc, pass, i, work, &mut left, part)?;
         next = i + 1;
     }
     append_zeros(part, to - next)?;
@@ -123,7 +127,11 @@ fn next_below(rows: &Rows, from: u32, to: u32) -> Option<u32>
 }
 
 // The first row from `from` on that has an entry and is no pivot's, if there is one.
-pub(crate) fn next_left(reducer: &RowReducer, pivot_rows: &PivotNumbers, from: u32) -> Option<u32>
+pub(crate) fn next_without_pivot(
+    reducer: &RowReducer,
+    pivot_rows: &PivotNumbers,
+    from: u32,
+) -> Option<u32>
     requires numbers { HasNumbers reducer.now.pairs pivot_rows.now }
     ensures { IfSome result (λ i. (from ≤ i) × (i < reducer.now.rows.matrix.height)) }
 {
@@ -151,7 +159,7 @@ pub(crate) fn end_of(reducer: &RowReducer, pivot_rows: &PivotNumbers, from: u32,
     let height = reducer.rows().height();
     let mut end = from;
     for _ in 0..count {
-        let Some(i) = next_left(reducer, pivot_rows, end) else {
+        let Some(i) = next_without_pivot(reducer, pivot_rows, end) else {
             return height;
         };
         end = i + 1;
@@ -171,9 +179,9 @@ fn append_zeros(part: &mut SchurRows, count: u32) -> Result<(), AllocError>
 }
 
 // Appends what is left of row i, with its coefficients where they are kept. It passes through `left`.
-fn append_left(
+fn append_reduced(
     alloc: Global,
-    pass: Pass,
+    pass: ReductionPass,
     i: u32,
     work: &mut Work,
     left: &mut Reduced,
@@ -186,7 +194,7 @@ fn append_left(
     requires part { MayTakeRow pass.reducer.now part.old }
     ensures work { work.new ≡ work.old }
     ensures sizes { OnOk result (HasSizesOf pass.entry.reducer.now left.new) }
-    ensures added { OnOk result (AddsLeft pass.entry.reducer.now pass.entry.with_coefficients
+    ensures added { OnOk result (AddsReduced pass.entry.reducer.now pass.entry.with_coefficients
         i part.old part.new) }
 {
     let reducer = pass.reducer;

@@ -1,13 +1,11 @@
 // How full what a round leaves is, by samples.
-ghost use Rattle.std.specs.Prelude.{◌≡◌, ◌<◌, ◌≤◌, length};
-ghost use Rattle.triangular_solve.specs.PivotRows.{IsAlike};
+ghost use Rattle.std.specs.Prelude.{◌≡◌, ◌<◌, ◌≤◌};
 ghost use Rattle.triangular_solve.specs.Reduced.{HasSizesOf, workspace_of};
 ghost use Rattle.schur_rows.specs.PivotNumbers.{HasNumbers};
 
 use crate::pivot_numbers::PivotNumbers;
-use crate::row_ranges::next_left;
+use crate::row_ranges::next_without_pivot;
 use crate::row_reducer::RowReducer;
-use sparse_rows::Sparse;
 use std::alloc::{AllocError, Global};
 use triangular_solve::{Reduced, Triangle, Work};
 
@@ -23,7 +21,7 @@ pub fn mean_rest(alloc: Global, reducer: &RowReducer, samples: u32) -> Result<u6
     requires { 1 ≤ samples }
 {
     let pivot_rows = PivotNumbers::of(alloc, reducer)?;
-    mean_of(alloc, reducer, &pivot_rows, samples)
+    mean_of(alloc, reducer, &pivot_rows, samples, false)
 }
 
 /// How many entries the pivots leave of a row and how many coefficients it takes, together, on average of so many rows, chosen as for
@@ -33,58 +31,7 @@ pub fn mean_reduced(alloc: Global, triangle: &Triangle, samples: u32) -> Result<
 {
     let reducer = RowReducer::by_walks(triangle);
     let pivot_rows = PivotNumbers::of(alloc, &reducer)?;
-    mean_with_coefficients(alloc, &reducer, &pivot_rows, samples)
-}
-
-// The same where the pivots' rows are known.
-fn mean_with_coefficients(
-    alloc: Global,
-    reducer: &RowReducer,
-    pivot_rows: &PivotNumbers,
-    samples: u32,
-) -> Result<u64, AllocError>
-    requires some { 1 ≤ samples }
-    requires numbers { HasNumbers reducer.now.pairs pivot_rows.now }
-{
-    let height = u64::from(reducer.rows().height());
-    let mut work = reducer.work(alloc)?;
-    let mut reduced = reducer.room(alloc);
-    let mut left: u64 = 0;
-    for k in 0..samples {
-        let from = (u64::from(k) * height / u64::from(samples)) as u32;
-        if let Some(i) = next_left(reducer, pivot_rows, from) {
-            let count = entries_reduced(alloc, reducer, i, &mut work, &mut reduced)?;
-            left = left.saturating_add(count as u64);
-        }
-    }
-    Ok(left / u64::from(samples))
-}
-
-// How many entries are left of row i, and with how many coefficients.
-fn entries_reduced(
-    alloc: Global,
-    reducer: &RowReducer,
-    i: u32,
-    work: &mut Work,
-    reduced: &mut Reduced,
-) -> Result<usize, AllocError>
-    requires row { i < reducer.now.rows.matrix.height }
-    requires work { work.old ≡ workspace_of reducer.now }
-    requires sizes { HasSizesOf reducer.now reduced.old }
-    ensures work { work.new ≡ work.old }
-    ensures sizes { HasSizesOf reducer.now reduced.new }
-{
-    let rows = reducer.rows();
-    // The call's contract tells that the entries are residues.
-    rows.is_sound();
-    reducer.reduce(alloc, rows.cols(i), rows.vals(i), work, reduced)?;
-    Ok(
-        reduced
-            .rest
-            .cols()
-            .len()
-            .saturating_add(reduced.coefficients.cols().len()),
-    )
+    mean_of(alloc, &reducer, &pivot_rows, samples, true)
 }
 
 // Room for the entries that the pivots leave in all: for twice as many as samples tell, so that it is seldom too small and what is left
@@ -96,57 +43,70 @@ pub(crate) fn total_left(
 ) -> Result<u64, AllocError>
     requires { HasNumbers reducer.now.pairs pivot_rows.now }
 {
-    let mean = mean_of(alloc, reducer, pivot_rows, SAMPLES)?;
+    let mean = mean_of(alloc, reducer, pivot_rows, SAMPLES, false)?;
     let others = pivot_rows.len().saturating_sub(reducer.pairs().len()) as u64;
     let total = mean.saturating_add(1).saturating_mul(others);
     Ok(total.saturating_mul(2).min(MOST))
 }
 
-// The mean where the pivots' rows are known.
+// The mean where the pivots' rows are known, with the coefficients if they are wanted.
 fn mean_of(
     alloc: Global,
     reducer: &RowReducer,
     pivot_rows: &PivotNumbers,
     samples: u32,
+    with_coefficients: bool,
 ) -> Result<u64, AllocError>
     requires some { 1 ≤ samples }
     requires numbers { HasNumbers reducer.now.pairs pivot_rows.now }
 {
-    let rows = reducer.rows();
-    let height = u64::from(rows.height());
+    let height = u64::from(reducer.rows().height());
     let mut work = reducer.work(alloc)?;
-    let mut rest = Sparse::new(alloc, rows.width(), rows.modulus());
-    let mut left: u64 = 0;
+    let mut reduced = reducer.room(alloc);
+    let mut sum: u64 = 0;
     for k in 0..samples {
         let from = (u64::from(k) * height / u64::from(samples)) as u32;
-        let count = entries_left(alloc, reducer, pivot_rows, from, &mut work, &mut rest)?;
-        left = left.saturating_add(count as u64);
+        if let Some(i) = next_without_pivot(reducer, pivot_rows, from) {
+            reduce_row(
+                alloc,
+                reducer,
+                i,
+                with_coefficients,
+                &mut work,
+                &mut reduced,
+            )?;
+            sum = sum.saturating_add(entries_of(&reduced) as u64);
+        }
     }
-    Ok(left / u64::from(samples))
+    Ok(sum / u64::from(samples))
 }
 
-// How many entries are left of the first row from `from` on that has one and is no pivot's.
-fn entries_left(
+// Makes `reduced` what is left of row i, with its coefficients if they are wanted.
+fn reduce_row(
     alloc: Global,
     reducer: &RowReducer,
-    pivot_rows: &PivotNumbers,
-    from: u32,
+    i: u32,
+    with_coefficients: bool,
     work: &mut Work,
-    rest: &mut Sparse,
-) -> Result<usize, AllocError>
-    requires numbers { HasNumbers reducer.now.pairs pivot_rows.now }
+    reduced: &mut Reduced,
+) -> Result<(), AllocError>
+    requires row { i < reducer.now.rows.matrix.height }
     requires work { work.old ≡ workspace_of reducer.now }
-    requires rest_modulus { rest.old.modulus ≡ reducer.now.rows.modulus }
-    requires rest_width { length rest.old.row ≡ reducer.now.rows.matrix.width }
+    requires sizes { HasSizesOf reducer.now reduced.old }
     ensures work { work.new ≡ work.old }
-    ensures rest { IsAlike rest.old rest.new }
+    ensures sizes { HasSizesOf reducer.now reduced.new }
 {
-    let Some(i) = next_left(reducer, pivot_rows, from) else {
-        return Ok(0);
-    };
     let rows = reducer.rows();
     // The call's contract tells that the entries are residues.
     rows.is_sound();
-    reducer.rest(alloc, rows.cols(i), rows.vals(i), work, rest)?;
-    Ok(rest.cols().len())
+    if with_coefficients {
+        return reducer.reduce(alloc, rows.cols(i), rows.vals(i), work, reduced);
+    }
+    reducer.rest(alloc, rows.cols(i), rows.vals(i), work, &mut reduced.rest)
+}
+
+// How many entries both rows have.
+fn entries_of(reduced: &Reduced) -> usize {
+    let rest = reduced.rest.cols().len();
+    rest.saturating_add(reduced.coefficients.cols().len())
 }

@@ -2,19 +2,21 @@
 ghost use Rattle.std.specs.Prelude.{◌≡◌, ◌<◌, ◌≤◌, ◌+◌, All, IfOk, OnOk};
 ghost use Rattle.std.specs.Thread.{IsSync};
 ghost use Rattle.sparse_rows.specs.declared.rows.TheConstants.{LARGEST_SIZE};
-ghost use Rattle.schur_rows.specs.Parts.{IsDeal, IsNumbered, IsPartOf, IsPartTo, IsWorkersShare, IsStage, Joins, cut_at};
+ghost use Rattle.schur_rows.specs.Parts.{AreDealtRows, IsNumbered, IsPartOf, IsPartTo, IsWorkersShare, IsStage, Joins, cut_at};
 ghost use Rattle.schur_rows.specs.PivotNumbers.{HasNumbers};
 ghost use Rattle.triangular_solve.specs.Reduced.{workspace_of};
 
-use crate::deal::{Deal, Stage, cuts_between};
 use crate::dealing::Dealing;
+use crate::dealt_rows::DealtRows;
 use crate::numbered_part::{NumberedPart, part_among};
-use crate::pass::Pass;
+use crate::part_cuts::cuts_between;
 use crate::pivot_numbers::PivotNumbers;
+use crate::reduction_pass::ReductionPass;
 use crate::round::SchurRows;
 use crate::row_ranges::{no_rows, part_by_caller, part_of, share_of_rows};
 use crate::row_reducer::RowReducer;
 use crate::sampling::total_left;
+use crate::stage::Stage;
 use std::alloc::{AllocError, Global};
 use std::sync::atomic::{AtomicU64, Ordering};
 use std::thread;
@@ -60,7 +62,7 @@ pub(crate) fn left_by<C: Dealing>(
     } else {
         total_left(alloc, reducer, &pivot_rows)?
     };
-    let pass = Pass {
+    let pass = ReductionPass {
         reducer,
         pivot_rows: &pivot_rows,
         with_coefficients,
@@ -73,7 +75,7 @@ pub(crate) fn left_by<C: Dealing>(
 pub(crate) fn left_between<C: Dealing>(
     crew: &C,
     alloc: Global,
-    pass: Pass,
+    pass: ReductionPass,
     workers: u32,
     from: u32,
     to: u32,
@@ -94,7 +96,7 @@ pub(crate) fn left_between<C: Dealing>(
     let stage = PARTS * workers as usize;
     let count = stage * stages(share_of_rows(rows, pass.total, to - from));
     let cuts = cuts_between(alloc, from, to, count, stage)?;
-    let deal = Deal {
+    let deal = DealtRows {
         pass,
         from,
         to,
@@ -110,9 +112,9 @@ pub(crate) fn left_between<C: Dealing>(
 pub(crate) fn left_by_stages<R: Threads + Sync>(
     rt: &R,
     alloc: Global,
-    deal: Deal,
+    deal: DealtRows,
 ) -> Result<SchurRows, AllocError>
-    requires deal { IsDeal deal }
+    requires deal { AreDealtRows deal }
     ensures { IfOk result (IsPartTo deal.entry.pass.reducer.now deal.entry.pass.with_coefficients
         deal.entry.from deal.entry.to) }
 {
@@ -137,12 +139,12 @@ pub(crate) fn left_by_stages<R: Threads + Sync>(
 fn next_stage<R: Threads + Sync>(
     rt: &R,
     alloc: Global,
-    deal: Deal,
+    deal: DealtRows,
     stage: Stage,
     parts: &[NumberedPart],
     made: &mut SchurRows,
 ) -> Share
-    requires deal { IsDeal deal }
+    requires deal { AreDealtRows deal }
     requires stage { IsStage deal stage }
     requires parts { All (IsNumbered deal.pass.reducer.now deal) parts.now }
     requires made { IsPartTo deal.pass.reducer.now deal.pass.with_coefficients
@@ -154,11 +156,11 @@ fn next_stage<R: Threads + Sync>(
     let next = AtomicU64::new(stage.begun as u64);
     let helpers = deal.workers - 1;
     let mut help = || -> Share
-        requires { IsSync R.row × (1 ≤ helpers) × IsDeal deal × (stage.end ≤ deal.count) }
+        requires { IsSync R.row × (1 ≤ helpers) × AreDealtRows deal × (stage.end ≤ deal.count) }
         ensures { IsWorkersShare deal.entry.pass.reducer.now deal.entry result }
     { parts_by(rt, alloc, deal, stage.end, &next, helpers) };
     let mut own = || -> Share
-        requires { IsDeal deal × IsStage deal stage
+        requires { AreDealtRows deal × IsStage deal stage
             × All (IsNumbered deal.pass.reducer.now deal) parts.now
             × IsPartTo deal.pass.reducer.now deal.pass.with_coefficients
             deal.from (cut_at deal stage.joined) made.now }
@@ -177,13 +179,13 @@ fn next_stage<R: Threads + Sync>(
 // these parts will be joined in, where they are as full as those before: the others would wait for that behind the last stage.
 fn join_and_go_on(
     alloc: Global,
-    deal: Deal,
+    deal: DealtRows,
     stage: Stage,
     next: &AtomicU64,
     parts: &[NumberedPart],
     made: &mut SchurRows,
 ) -> Share
-    requires deal { IsDeal deal }
+    requires deal { AreDealtRows deal }
     requires stage { IsStage deal stage }
     requires parts { All (IsNumbered deal.pass.reducer.now deal) parts.now }
     requires made { IsPartTo deal.pass.reducer.now deal.pass.with_coefficients
@@ -204,12 +206,12 @@ fn join_and_go_on(
 fn parts_by<R: Threads + Sync>(
     rt: &R,
     alloc: Global,
-    deal: Deal,
+    deal: DealtRows,
     end: usize,
     next: &AtomicU64,
     workers: usize,
 ) -> Share
-    requires deal { IsDeal deal }
+    requires deal { AreDealtRows deal }
     requires end { end ≤ deal.count }
     ensures { IsWorkersShare deal.entry.pass.reducer.now deal.entry result }
 {
@@ -226,12 +228,12 @@ fn parts_by<R: Threads + Sync>(
 fn shares_of<R: Threads + Sync>(
     rt: &R,
     alloc: Global,
-    deal: Deal,
+    deal: DealtRows,
     end: usize,
     next: &AtomicU64,
     workers: usize,
 ) -> Result<Vec<Share>, AllocError>
-    requires deal { IsDeal deal }
+    requires deal { AreDealtRows deal }
     requires end { end ≤ deal.count }
     ensures { IfOk result (λ shares.
         All (IsWorkersShare deal.entry.pass.reducer.now deal.entry) shares.items) }
@@ -245,8 +247,8 @@ fn shares_of<R: Threads + Sync>(
 }
 
 // The parts that one worker makes: it takes the next one below `end` as long as there is one.
-fn parts_of_worker(alloc: Global, deal: Deal, end: usize, next: &AtomicU64) -> Share
-    requires deal { IsDeal deal }
+fn parts_of_worker(alloc: Global, deal: DealtRows, end: usize, next: &AtomicU64) -> Share
+    requires deal { AreDealtRows deal }
     requires end { end ≤ deal.count }
     ensures { IsWorkersShare deal.entry.pass.reducer.now deal.entry result }
 {
@@ -269,11 +271,11 @@ fn parts_of_worker(alloc: Global, deal: Deal, end: usize, next: &AtomicU64) -> S
 // The part of this number.
 fn part_by_number(
     alloc: Global,
-    deal: Deal,
+    deal: DealtRows,
     number: usize,
     work: &mut Work,
 ) -> Result<SchurRows, AllocError>
-    requires deal { IsDeal deal }
+    requires deal { AreDealtRows deal }
     requires number { number < deal.count }
     requires work { work.old ≡ workspace_of deal.pass.reducer.now }
     ensures work { work.new ≡ work.old }
@@ -293,13 +295,13 @@ fn part_by_number(
 // Puts the parts from `from` on and below `to` below what there is.
 fn join_parts(
     alloc: Global,
-    deal: Deal,
+    deal: DealtRows,
     from: usize,
     to: usize,
     parts: &[NumberedPart],
     made: &mut SchurRows,
 ) -> Result<(), AllocError>
-    requires deal { IsDeal deal }
+    requires deal { AreDealtRows deal }
     requires order { from ≤ to }
     requires end { to ≤ deal.count }
     requires parts { All (IsNumbered deal.pass.reducer.now deal) parts.now }
@@ -318,12 +320,12 @@ fn join_parts(
 // made here.
 fn join_number(
     alloc: Global,
-    deal: Deal,
+    deal: DealtRows,
     number: usize,
     parts: &[NumberedPart],
     made: &mut SchurRows,
 ) -> Result<(), AllocError>
-    requires deal { IsDeal deal }
+    requires deal { AreDealtRows deal }
     requires number { number < deal.count }
     requires parts { All (IsNumbered deal.pass.reducer.now deal) parts.now }
     requires made { IsPartTo deal.pass.reducer.now deal.pass.with_coefficients
@@ -343,11 +345,11 @@ fn join_number(
 // Makes the part of this number, and puts it below what there is.
 fn join_missing(
     alloc: Global,
-    deal: Deal,
+    deal: DealtRows,
     number: usize,
     made: &mut SchurRows,
 ) -> Result<(), AllocError>
-    requires deal { IsDeal deal }
+    requires deal { AreDealtRows deal }
     requires number { number < deal.count }
     requires made { IsPartTo deal.pass.reducer.now deal.pass.with_coefficients
         deal.from (cut_at deal number) made.old }
@@ -362,8 +364,8 @@ fn join_missing(
 }
 
 // The part of this number, made in room of its own.
-fn part_alone(alloc: Global, deal: Deal, number: usize) -> Result<SchurRows, AllocError>
-    requires deal { IsDeal deal }
+fn part_alone(alloc: Global, deal: DealtRows, number: usize) -> Result<SchurRows, AllocError>
+    requires deal { AreDealtRows deal }
     requires number { number < deal.count }
     ensures { IfOk result (IsPartOf deal.entry.pass.reducer.now deal.entry number) }
 {

@@ -1,13 +1,14 @@
-// A basis of what a round leaves, without storing it.
+// A basis of what a round leaves, made chunk by chunk, without storing it.
 ghost use Rattle.std.specs.Prelude.{◌≡◌, ◌<◌, ◌≤◌, ◌↔◌, ◌+◌, ℕ, length, slice_index, Contains, IfOk, IsTrue};
 ghost use Rattle.sparse_rows.specs.declared.rows.TheConstants.{LARGEST_SIZE};
 ghost use Rattle.sparse_rows.specs.Rows.{AreRising, above};
 ghost use Rattle.schur_rows.specs.PivotNumbers.{HasNumbers};
-ghost use Rattle.schur_rows.specs.Streamed.{IsBasisOf, IsBasisUpTo, IsBasisWith, IsFullFor, IsRestBasis, HasColumnsLeft};
+ghost use Rattle.schur_rows.specs.RestBasis.{IsBasisOf, IsBasisWith, IsFullFor, IsRestBasis, HasColumnsLeft};
 
+use crate::chunk_size::{CHUNK, ChunkSize, lacks_few};
 use crate::dealing::Dealing;
-use crate::pass::Pass;
 use crate::pivot_numbers::{PivotNumbers, place_of};
+use crate::reduction_pass::ReductionPass;
 use crate::round::SchurRows;
 use crate::row_ranges::end_of;
 use crate::row_reducer::RowReducer;
@@ -19,54 +20,6 @@ use echelon_form::Echelon;
 use sparse_rows::Rows;
 use std::alloc::{AllocError, Global};
 use weight_order::last_first;
-
-/// How many rows a chunk has, of those that have an entry and are no pivot's. Any two numbers will do: they decide about time and
-/// memory alone.
-#[derive(Clone, Copy, Debug)]
-pub struct ChunkSize {
-    /// At least so many rows, where so many are left; 0 is as 1.
-    pub rows: u32,
-    /// As many rows as have about so many places in a dense block on the columns that are left, or up to four times as many below a
-    /// basis of many rows; while rows are independent, no more than the basis lacks, and some.
-    pub places: u32,
-}
-
-// A block of 16 MB where the modulus is below 2^31.
-const CHUNK: ChunkSize = ChunkSize {
-    rows: 256,
-    places: 1 << 22,
-};
-
-// A chunk has so many times the rows of the basis, which is eliminated again with it.
-const TIMES_THE_BASIS: u32 = 4;
-
-// But so many times the places at most.
-const TIMES_THE_PLACES: u32 = 4;
-
-// A basis lacks few rows if they are no more than one in so many of those that it has.
-const FEW_LACKING: usize = 16;
-
-// While rows are independent a chunk has so many more of them than the basis lacks, since a few may not be.
-const SPARE_ROWS: usize = 32;
-
-impl ChunkSize {
-    // How many rows the next chunk has on so many columns, below a basis of so many rows: some times as many after rows that were not
-    // independent. While rows are independent, and if the basis lacks few, it is no more than the basis lacks, and some.
-    fn rows_below(&self, basis: u32, columns: usize, independent: bool) -> u32
-        ensures { 1 ≤ result }
-    {
-        let least = (self.places as usize / columns.max(1)) as u32;
-        let most = least.saturating_mul(TIMES_THE_PLACES);
-        let mut count = basis.saturating_mul(TIMES_THE_BASIS).min(most);
-        if independent || lacks_few(basis, columns) {
-            let lacking = columns.saturating_sub(basis as usize);
-            count = lacking
-                .saturating_add(SPARE_ROWS)
-                .min(count.max(least) as usize) as u32;
-        }
-        count.max(self.rows).max(1)
-    }
-}
 
 /// Independent rows with the row space of what the pivots of a triangle leave of its matrix, for a prime modulus, by so many
 /// workers, at least one. For a modulus that is not prime they are some rows of its width, no more than it has.
@@ -106,7 +59,7 @@ pub fn rest_basis_by<C: Dealing + Finishing>(
     ensures { IfOk result (IsRestBasis reducer.now) }
 {
     let pivot_rows = PivotNumbers::of(alloc, reducer)?;
-    let pass = Pass {
+    let pass = ReductionPass {
         reducer,
         pivot_rows: &pivot_rows,
         with_coefficients: false,
@@ -119,7 +72,7 @@ pub fn rest_basis_by<C: Dealing + Finishing>(
 fn basis_of<C: Dealing + Finishing>(
     crew: &C,
     alloc: Global,
-    pass: Pass,
+    pass: ReductionPass,
     workers: u32,
     size: ChunkSize,
 ) -> Result<Rows, AllocError>
@@ -232,11 +185,6 @@ fn basis_with<C: Finishing>(
     let both = stacked(basis, below)?;
     let RightFactor { u, .. } = finish_right(crew, alloc, both, workers)?;
     Ok(u)
-}
-
-// Whether a basis of so many rows has nearly one for each of so many columns, so that its reduced form has few entries.
-fn lacks_few(basis: u32, columns: usize) -> bool {
-    0 < basis && columns.saturating_sub(basis as usize) <= basis as usize / FEW_LACKING
 }
 
 // The reduced echelon form of these rows, by their entries: a row whose columns are those of leads costs no more than the form has

@@ -1,6 +1,6 @@
 use Rattle.std.proofs.Common.{◌≤◌, ◌-◌}
-use Rattle.schur_rows.specs.Streamed.{IsBasisUpTo}
-use Rattle.schur_rows.proofs.streamed.basis_of.Given as goal
+use Rattle.schur_rows.specs.RestBasis.{IsBasisUpTo}
+use Rattle.schur_rows.proofs.chunked_basis.basis_of.Given as goal
 
 abbrev pub invariant-loop-from : goal.invariant-loop-from
 invariant-loop-from g l = record {

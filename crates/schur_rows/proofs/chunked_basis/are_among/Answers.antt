@@ -2,7 +2,7 @@ use Rattle.std.proofs.Common.{◌∙◌, ap, arith, inl, inr, not, subst, sym, s
 use Rattle.std.specs.List.{Contains}
 use Rattle.std.proofs.lemmas.Bool.{cases_eq, false≢true}
 use Rattle.schur_rows.proofs.Numbers.{found_among, not_among}
-use Rattle.schur_rows.proofs.streamed.are_among.Goals as goal
+use Rattle.schur_rows.proofs.chunked_basis.are_among.Goals as goal
 
 pub returns-then-is_none : goal.returns-then-is_none
 returns-then-is_none c = (

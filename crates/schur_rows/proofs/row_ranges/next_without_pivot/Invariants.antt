@@ -1,5 +1,5 @@
 use Rattle.std.proofs.Common.{◌≤◌, ◌-◌}
-use Rattle.schur_rows.proofs.row_ranges.next_left.Given as goal
+use Rattle.schur_rows.proofs.row_ranges.next_without_pivot.Given as goal
 
 abbrev pub invariant-loop-i : goal.invariant-loop-i
 invariant-loop-i l = l.from ≤ l.next

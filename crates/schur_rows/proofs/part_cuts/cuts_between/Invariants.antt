@@ -1,6 +1,6 @@
 use Rattle.std.proofs.Common.{◌≤◌, ◌-◌}
 use Rattle.schur_rows.specs.Parts.{ArePartCuts}
-use Rattle.schur_rows.proofs.deal.cuts_between.Given as goal
+use Rattle.schur_rows.proofs.part_cuts.cuts_between.Given as goal
 
 abbrev pub invariant-loop-number : goal.invariant-loop-number
 invariant-loop-number l = record {

@@ -1,6 +1,6 @@
 use Rattle.std.proofs.Common.{arith, refl}
 use Rattle.schur_rows.proofs.Parting.{left_kept, left_none, left_pivot, left_rest}
-use Rattle.schur_rows.proofs.row_ranges.append_left.Goals as goal
+use Rattle.schur_rows.proofs.row_ranges.append_reduced.Goals as goal
 
 pub returns-then-pass-clause-added : goal.returns-then-pass-clause-added
 returns-then-pass-clause-added c = left_pivot c.rows-rows.ensures refl c.is_sound.ensures.two_or_more c.pairs.ensures.triangular c.pairs.ensures.pairs c.in-Some.ensures c.requires.part c.in_ok-append_pivot.ensures.added

@@ -1,7 +1,7 @@
 use Rattle.std.proofs.Common.{◌≡◌, ◌+◌, ◌-◌, ◌∷◌, [], ◌++◌, ◌∙◌, ap, arith, subst}
 use Rattle.schur_rows.specs.Parts.{ArePartCuts}
 use Rattle.schur_rows.proofs.Cuts.{cuts_begin, cuts_more}
-use Rattle.schur_rows.proofs.deal.cuts_between.Goals as goal
+use Rattle.schur_rows.proofs.part_cuts.cuts_between.Goals as goal
 
 pub loop-number-init : goal.loop-number-init
 loop-number-init c = record {

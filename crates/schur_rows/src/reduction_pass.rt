@@ -4,7 +4,7 @@ use crate::row_reducer::RowReducer;
 
 // What the workers of a pass share.
 #[derive(Clone, Copy, Debug)]
-pub struct Pass<'r, 't, 'a> {
+pub struct ReductionPass<'r, 't, 'a> {
     pub reducer: &'r RowReducer<'t, 'a>,
     pub pivot_rows: &'r PivotNumbers,
     // Whether the coefficients are kept.

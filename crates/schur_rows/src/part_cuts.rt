@@ -1,41 +1,8 @@
-// How the rows of a pass are dealt to workers.
-ghost use Rattle.std.specs.Prelude.{◌≡◌, ◌≤◌, IfOk};
-ghost use Rattle.schur_rows.specs.Parts.{ArePartCuts, IsDeal, cut_at};
+// Where the parts begin into which rows are cut for workers.
+ghost use Rattle.std.specs.Prelude.{◌≤◌, IfOk};
+ghost use Rattle.schur_rows.specs.Parts.{ArePartCuts};
 
-use crate::pass::Pass;
 use std::alloc::{AllocError, Global};
-
-// The rows from `from` up to `to` in so many parts, which begin at these cuts: so many parts a stage, which the workers take as they
-// become free.
-#[derive(Clone, Copy, Debug)]
-pub struct Deal<'r, 't, 'a> {
-    pub pass: Pass<'r, 't, 'a>,
-    pub from: u32,
-    pub to: u32,
-    pub cuts: &'r [u32],
-    pub count: usize,
-    pub stage: usize,
-    pub workers: usize,
-}
-
-impl<'r, 't, 'a> Deal<'r, 't, 'a> {
-    // Where part j begins, and the one before it ends.
-    pub(crate) fn cut(&self, j: usize) -> u32
-        requires deal { IsDeal self.now }
-        requires part { j ≤ self.now.count }
-        ensures { result ≡ cut_at self.now j }
-    {
-        self.cuts[j]
-    }
-}
-
-// How far a deal is: the parts before `joined` stand in the result, those before `begun` are made, and those before `end` come next.
-#[derive(Clone, Copy, Debug)]
-pub(crate) struct Stage {
-    pub(crate) joined: usize,
-    pub(crate) begun: usize,
-    pub(crate) end: usize,
-}
 
 // Cuts of the rows from `from` up to `to` into so many parts, so many a stage. The parts of a stage become smaller one after another, so
 // that no worker waits long for the last part of another; and so do the stages, since nothing is made while the last one is joined.

@@ -1,6 +1,6 @@
 use Rattle.std.proofs.Common.{arith}
 use Rattle.schur_rows.proofs.FullBasis.{full_for}
-use Rattle.schur_rows.proofs.streamed.is_full_for.Goals as goal
+use Rattle.schur_rows.proofs.chunked_basis.is_full_for.Goals as goal
 
 pub returns : goal.returns
 returns c = λ yes. full_for c.args.below.now.matrix c.args.basis.now.matrix c.in_ok-columns.columns.items c.in_ok-others.others.items c.deref.result.now c.deref-2.result.now

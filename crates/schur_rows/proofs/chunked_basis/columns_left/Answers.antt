@@ -1,9 +1,9 @@
 use Rattle.std.proofs.Common.{◌≡◌, ◌-◌, ap, arith, length, subst}
 use Rattle.sparse_rows.specs.Rows.{AreOccupied, ResidueMatrix}
 use Rattle.triangular_solve.specs.Triangle.{TriangleState}
-use Rattle.schur_rows.specs.Streamed.{HasColumnsLeft}
+use Rattle.schur_rows.specs.RestBasis.{HasColumnsLeft}
 use Rattle.schur_rows.proofs.FullBasis.{columns_left}
-use Rattle.schur_rows.proofs.streamed.columns_left.Goals as goal
+use Rattle.schur_rows.proofs.chunked_basis.columns_left.Goals as goal
 
 pub returns : goal.returns
 returns c =

@@ -4,7 +4,7 @@ use Rattle.residue_words.specs.Matrix.{IsMatrix}
 use Rattle.row_space.specs.Echelon.{SameSpan}
 use Rattle.weight_order.proofs.Turning.{turned_few, turned_matrix, turned_span, turned_width}
 use Rattle.schur_rows.proofs.Streaming.{basis_factored, basis_kept, basis_more, both_sound, span_itself}
-use Rattle.schur_rows.proofs.streamed.basis_with.Goals as goal
+use Rattle.schur_rows.proofs.chunked_basis.basis_with.Goals as goal
 
 pub returns-then-full : goal.returns-then-full
 returns-then-full g c = λ t from to b left. basis_kept b left (c.in_ok-full.ensures c.if-full.true)

@@ -5,8 +5,8 @@ use Rattle.sparse_rows.specs.declared.rows.TheConstants.{LARGEST_SIZE}
 use Rattle.schur_rows.proofs.Streaming.{basis_all, basis_none, without_coefficients}
 use Rattle.triangular_solve.proofs.SchurRows.{schur_row_one}
 use Rattle.schur_rows.proofs.FullBasis.{basis_full}
-use Rattle.schur_rows.proofs.streamed.basis_of.Goals as goal
-use Rattle.schur_rows.proofs.streamed.basis_of.Goals.{else-loop-from-test, then-loop-from-test+else-height-columns}
+use Rattle.schur_rows.proofs.chunked_basis.basis_of.Goals as goal
+use Rattle.schur_rows.proofs.chunked_basis.basis_of.Goals.{else-loop-from-test, then-loop-from-test+else-height-columns}
 
 pub loop-from-init : goal.loop-from-init
 loop-from-init g c = record {
