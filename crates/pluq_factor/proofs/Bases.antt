@@ -1,24 +1,25 @@
 -- Rows that show a row space, round by round.
-use Rattle.std.proofs.Common.{ℕ, ◌≡◌, ◌+◌, ◌<◌, ◌≤◌, ◌∙◌, true, false, slice_index, sym, refl, ap, subst, arith}
+use Rattle.std.proofs.Common.{ℕ, ◌≡◌, ◌+◌, ◌<◌, ◌≤◌, ◌∙◌, List, slice_index, sym, ap, subst, arith}
+use Rattle.residue_words.specs.declared.plain.Pair.{Pair}
 use Rattle.residue_words.specs.Residues.{IsPrime}
 use Rattle.residue_words.specs.Matrix.{Matrix, IsMatrix}
 use Rattle.row_space.specs.Echelon.{IsIndependent, SameSpan}
 use Rattle.row_space.proofs.Counting.{independent_height}
-use Rattle.row_space.proofs.Spans.{places_independent, same_span_chained}
+use Rattle.row_space.proofs.Spans.{places_independent}
 use Rattle.sparse_rows.specs.Rows.{ResidueMatrix, above}
 use Rattle.sparse_rows.specs.declared.rows.TheConstants.{LARGEST_SIZE}
 use Rattle.triangular_solve.specs.Reduced.{IsComplement}
-use Rattle.triangular_solve.specs.Triangle.{TriangleState}
 use Rattle.dense_finish.specs.Factors.{IsRightFactored}
 use Rattle.dense_finish.specs.declared.right_factor.RightFactor.{RightFactor}
 use Rattle.echelon_form.specs.Form.{Form, IsFormOf}
-use Rattle.schur_rows.specs.Round.{FitsComplement, pivot_rows}
 use Rattle.schur_rows.specs.RestBasis.{IsRestBasis}
+use Rattle.schur_rows.specs.Round.{FitsComplement, pivot_rows}
 use Rattle.schur_rows.proofs.FactorRows.{factor_rows_independent, factor_rows_span}
 use Rattle.schur_rows.proofs.Spanning.{round_spanned}
 use Rattle.pluq_factor.specs.Basis.{IsBasis}
-use Rattle.pluq_factor.specs.RoundPivots.{IsLeftBy, IsRestOf}
-use Rattle.pluq_factor.specs.declared.round_pivots.Left.{Left}
+use Rattle.pluq_factor.specs.RoundPivots.{IsBasisRound, IsRestOf, triangle_on}
+use Rattle.pluq_factor.specs.declared.basis_round.BasisRound.{BasisRound}
+use Rattle.pluq_factor.specs.declared.rest.Rest.TheVariants.{Stored, Basis}
 
 -- the rows of the right factor are a basis
 pub basis_finished : {p : ℕ} {A : Matrix} {f : RightFactor} → IsMatrix p A → IsRightFactored p A f → IsBasis p A f.u
@@ -41,36 +42,60 @@ basis_form {p} {A} {f} {U} h modulus same =
     } in
     subst (λ M. IsBasis p A (record { modulus = U.modulus; matrix = M })) (sym same) at
 
--- what is left, with the rows of a basis of it
-module _ {R : ResidueMatrix} {l : Left} {V : ResidueMatrix} (h : IsLeftBy R l) (mv : IsMatrix V.modulus V.matrix) (basis : IsBasis l.rest.rows.modulus l.rest.rows.matrix V) where
+-- independent rows with the row space of what pivots leave
+pub record IsBasisBelow (R : ResidueMatrix) (qs : List Pair) (V : ResidueMatrix) : Type 0 where
+  pub modulus : V.modulus ≡ R.modulus
+  pub matrix : IsMatrix R.modulus V.matrix
+  pub width : V.matrix.width ≡ R.matrix.width
+  pub independent : IsPrime R.modulus → IsIndependent R.modulus V.matrix
+  pub span : IsPrime R.modulus → (B : Matrix) × IsComplement R.modulus R.matrix qs B × SameSpan R.modulus B V.matrix
+
+-- such are a basis that was made of what is left
+pub below_made : {R : ResidueMatrix} {r : BasisRound} {U : ResidueMatrix} (h : IsBasisRound R r) → r.rest ≡ Basis U → IsBasisBelow R h.pairs U
+below_made {R} {r} {U} h is = let rest : IsRestBasis (triangle_on R h.pairs) U = subst (IsRestOf (triangle_on R h.pairs)) is h.rest in record {
+  modulus = rest.fits.modulus;
+  matrix = rest.fits.matrix;
+  width = rest.fits.width;
+  independent = rest.independent;
+  span = rest.span;
+}
+
+-- and one of the complement
+pub below_stored : {R : ResidueMatrix} {r : BasisRound} {C V : ResidueMatrix} (h : IsBasisRound R r) → r.rest ≡ Stored C → IsMatrix V.modulus V.matrix → IsBasis C.modulus C.matrix V → IsBasisBelow R h.pairs V
+below_stored {R} {r} {C} {V} h is mv basis =
+    let rest : IsRestOf (triangle_on R h.pairs) (Stored C) = subst (IsRestOf (triangle_on R h.pairs)) is h.rest in
+    let fits : FitsComplement (triangle_on R h.pairs) C = rest.0 in
+    let at : IsBasis R.modulus C.matrix V = subst (λ p. IsBasis p C.matrix V) fits.modulus basis in record {
+      modulus = at.modulus;
+      matrix = subst (λ p. IsMatrix p V.matrix) at.modulus mv;
+      width = at.width ∙ fits.width;
+      independent = at.independent;
+      span = λ prime. (C.matrix, rest.1 prime, at.span prime);
+    }
+
+-- the pivots' rows, with a basis of what they leave
+module _ {R : ResidueMatrix} {r : BasisRound} {V : ResidueMatrix} (h : IsBasisRound R r) (below : IsBasisBelow R h.pairs V) where
   abbrev p : ℕ
   p = R.modulus
 
   abbrev A : Matrix
   A = R.matrix
 
-  rest : IsBasis p l.rest.rows.matrix V
-  rest = subst (λ p. IsBasis p l.rest.rows.matrix V) h.rest.modulus basis
-
-  wide : V.matrix.width ≡ A.width
-  wide = rest.width ∙ h.rest.width
-
   abbrev N : Matrix
   N = above (pivot_rows A h.pairs) V.matrix
 
   both : IsPrime p → IsIndependent p N × SameSpan p A N
   both prime =
-      let left = h.rest.span prime in
-      round_spanned p A h.pairs left.0 V.matrix prime h.sound h.triangular left.1 (subst (λ p. IsMatrix p V.matrix) rest.modulus mv) wide (rest.independent prime)
-      (same_span_chained p left.0 l.rest.rows.matrix V.matrix left.2 (rest.span prime))
+      let left = below.span prime in
+      round_spanned p A h.pairs left.0 V.matrix prime h.sound h.triangular left.1 below.matrix below.width (below.independent prime) left.2
 
   -- the pivot rows and these are no more than the matrix's rows, so they fit
-  pub basis_few : IsPrime p → l.top.matrix.height + V.matrix.height ≤ A.height
+  pub basis_few : IsPrime p → r.top.matrix.height + V.matrix.height ≤ A.height
   basis_few prime =
       let e = both prime in
       omega (arith, ap (λ (M : Matrix). M.height) h.top, independent_height p N A prime.two_or_more e.0 (λ v c. (e.1 v).1 c))
 
-  pub basis_joined : {W : ResidueMatrix} → A.height ≤ LARGEST_SIZE → W.modulus ≡ l.top.modulus → W.matrix.width ≡ l.top.matrix.width → (l.top.matrix.height + V.matrix.height ≤ LARGEST_SIZE → W.matrix ≡ above l.top.matrix V.matrix) → IsBasis p A W
+  pub basis_joined : {W : ResidueMatrix} → A.height ≤ LARGEST_SIZE → W.modulus ≡ r.top.modulus → W.matrix.width ≡ r.top.matrix.width → (r.top.matrix.height + V.matrix.height ≤ LARGEST_SIZE → W.matrix ≡ above r.top.matrix V.matrix) → IsBasis p A W
   basis_joined {W} small modulus width stacked =
       let same : IsPrime p → W.matrix ≡ N = λ prime. stacked (omega (arith, basis_few prime)) ∙ ap (λ T. above T V.matrix) h.top in
       record {
@@ -80,30 +105,9 @@ module _ {R : ResidueMatrix} {l : Left} {V : ResidueMatrix} (h : IsLeftBy R l) (
         span = λ prime. subst (SameSpan p A) (sym (same prime)) (both prime).1;
       }
 
--- rows that are independent are a basis of themselves
-pub basis_itself : {R : ResidueMatrix} {l : Left} → IsLeftBy R l → l.rest.is_basis ≡ true → IsBasis l.rest.rows.modulus l.rest.rows.matrix l.rest.rows
-basis_itself {R} {l} h is = record {
-  modulus = refl;
-  width = refl;
-  independent = subst (λ p. IsPrime p → IsIndependent p l.rest.rows.matrix) (sym h.rest.modulus) (h.rest.independent is);
-  span = λ prime v. ((λ y. y), (λ y. y));
-}
+  -- modulus and width are those of the pivots' rows
+  pub below_modulus : r.top.modulus ≡ V.modulus
+  below_modulus = h.modulus ∙ sym below.modulus
 
--- the complement, and a basis of it, are what pivots leave
-pub rest_complement : {r t : TriangleState} {B : ResidueMatrix} → r ≡ t → FitsComplement r B → (IsPrime r.rows.modulus → IsComplement r.rows.modulus r.rows.matrix r.pairs B.matrix) → IsRestOf t (record { rows = B; is_basis = false })
-rest_complement {r} {t} {B} same fits left = subst (λ t. IsRestOf t (record { rows = B; is_basis = false })) same (record {
-  modulus = fits.modulus;
-  width = fits.width;
-  independent = λ e. absurd (let f : false ≡ true = e in cc);
-  span = λ prime. (B.matrix, left prime, λ v. ((λ y. y), (λ y. y)));
-})
-
-pub rest_basis : {r t : TriangleState} {U : ResidueMatrix} → r ≡ t → IsRestBasis r U → IsRestOf t (record { rows = U; is_basis = true })
-rest_basis {r} {t} {U} same h = subst (λ t. IsRestOf t (record { rows = U; is_basis = true })) same (record { modulus = h.fits.modulus; width = h.fits.width; independent = λ e. h.independent; span = h.span })
-
--- what is left has the modulus and the width of the pivots' rows
-pub rest_modulus : {R : ResidueMatrix} {l : Left} → IsLeftBy R l → l.top.modulus ≡ l.rest.rows.modulus
-rest_modulus h = h.modulus ∙ sym h.rest.modulus
-
-pub rest_width : {R : ResidueMatrix} {l : Left} → IsLeftBy R l → l.top.matrix.width ≡ l.rest.rows.matrix.width
-rest_width h = ap (λ (M : Matrix). M.width) h.top ∙ sym h.rest.width
+  pub below_width : r.top.matrix.width ≡ V.matrix.width
+  below_width = ap (λ (M : Matrix). M.width) h.top ∙ sym below.width

@@ -4,10 +4,12 @@ ghost use Rattle.sparse_rows.specs.declared.rows.TheConstants.{LARGEST_SIZE};
 ghost use Rattle.sparse_rows.specs.Rows.{above};
 ghost use Rattle.pluq_factor.specs.Basis.{IsBasis};
 
+use crate::basis_round::{BasisRound, take_basis_round};
 use crate::eliminating::Eliminating;
-use crate::extent::Extent;
+use crate::measured::Measured;
 use crate::plan::Plan;
-use crate::round_pivots::{Left, Rest, take_left};
+use crate::policy::{is_block, is_dense, is_full};
+use crate::rest::Rest;
 use dense_finish::{RightFactor, finish_right};
 use echelon_form::Echelon;
 use sparse_rows::{LARGEST_SIZE, Rows};
@@ -49,24 +51,30 @@ fn basis_by<C: Eliminating>(
     requires some { 1 ≤ plan.workers }
     ensures { IfOk result (IsBasis rows.modulus rows.matrix) }
 {
-    if plan.rounds == 0 || Extent::of(alloc, &rows)?.is_full() {
+    if plan.rounds == 0 {
         return dense_basis(crew, alloc, rows, plan.workers);
     }
-    basis_from(crew, alloc, rows, plan.workers, plan.rounds)
+    let matrix = Measured::of(alloc, rows)?;
+    if is_full(&matrix.occupancy) {
+        let Measured { rows, .. } = matrix;
+        return dense_basis(crew, alloc, rows, plan.workers);
+    }
+    basis_from(crew, alloc, matrix, plan.workers, plan.rounds)
 }
 
 // The rows of a finish.
 fn finished<C: Eliminating>(
     crew: &C,
     alloc: Global,
-    rows: Rows,
+    matrix: Measured,
     workers: u32,
 ) -> Result<Rows, AllocError>
     requires able { C.can_work }
     requires some { 1 ≤ workers }
-    ensures { IfOk result (IsBasis rows.modulus rows.matrix) }
+    ensures { IfOk result (IsBasis matrix.rows.modulus matrix.rows.matrix) }
 {
-    if Extent::of(alloc, &rows)?.is_block() {
+    let Measured { rows, occupancy } = matrix;
+    if is_block(&occupancy) {
         dense_basis(crew, alloc, rows, workers)
     } else {
         form_basis(crew, alloc, &rows, workers)
@@ -107,54 +115,49 @@ fn form_basis<C: Eliminating>(
 }
 
 // How many of so many further rounds are worth their time.
-fn rounds_behind(alloc: Global, rest: &Rows, rounds: u32) -> Result<u32, AllocError>
-    ensures { IfOk result (λ n. n ≤ rounds) }
+fn rounds_behind(rest: &Measured, rounds: u32) -> u32
+    ensures { result ≤ rounds }
 {
-    if Extent::of(alloc, rest)?.is_dense() {
-        Ok(0)
-    } else {
-        Ok(rounds)
-    }
+    if is_dense(&rest.occupancy) { 0 } else { rounds }
 }
 
 // The rows by so many rounds and the finish. The matrix is given up before the next round begins.
 fn basis_from<C: Eliminating>(
     crew: &C,
     alloc: Global,
-    rows: Rows,
+    matrix: Measured,
     workers: u32,
     rounds: u32,
 ) -> Result<Rows, AllocError>
     requires able { C.can_work }
     requires some { 1 ≤ workers }
-    ensures { IfOk result (IsBasis rows.modulus rows.matrix) }
+    ensures { IfOk result (IsBasis matrix.rows.modulus matrix.rows.matrix) }
 {
     // The call's contract tells how high a matrix is.
-    rows.is_sound();
+    matrix.rows.is_sound();
     if rounds == 0 {
-        return finished(crew, alloc, rows, workers);
+        return finished(crew, alloc, matrix, workers);
     }
-    let Some(left) = take_left(crew, alloc, &rows, workers)? else {
-        return finished(crew, alloc, rows, workers);
+    let Some(round) = take_basis_round(crew, alloc, &matrix, workers)? else {
+        return finished(crew, alloc, matrix, workers);
     };
-    drop(rows);
-    let Left { top, rest } = left;
-    let Rest {
-        rows: rest,
-        is_basis,
-    } = rest;
-    // The call's contract tells that the entries are residues.
-    rest.is_sound();
-    if is_basis {
-        let whole = with_below(top, &rest)?;
-        return Ok(whole);
+    drop(matrix);
+    let BasisRound { top, rest } = round;
+    match rest {
+        Rest::Basis(below) => {
+            let whole = with_below(top, &below)?;
+            Ok(whole)
+        }
+        Rest::Stored(rows) => {
+            let rest = Measured::of(alloc, rows)?;
+            let more = rounds_behind(&rest, rounds - 1);
+            let below = basis_from(crew, alloc, rest, workers, more)?;
+            // The call's contract tells that the entries are residues.
+            below.is_sound();
+            let basis = with_below(top, &below)?;
+            Ok(basis)
+        }
     }
-    let more = rounds_behind(alloc, &rest, rounds - 1)?;
-    let below = basis_from(crew, alloc, rest, workers, more)?;
-    // And here too.
-    below.is_sound();
-    let basis = with_below(top, &below)?;
-    Ok(basis)
 }
 
 // The rows with others below them; without these where there would be more than a matrix has, which a prime modulus excludes.

@@ -4,8 +4,9 @@ ghost use Rattle.echelon_form.specs.Form.{IsFormOf};
 
 use crate::basis::row_basis;
 use crate::eliminating::Eliminating;
-use crate::extent::Extent;
+use crate::occupancy::Occupancy;
 use crate::plan::Plan;
+use crate::policy::is_block;
 use echelon_form::{Echelon, Settling};
 use sparse_rows::Rows;
 use std::alloc::{AllocError, Global};
@@ -27,7 +28,7 @@ pub fn form<C: Eliminating>(
     requires some { 1 ≤ plan.workers }
     ensures { IfOk result (IsFormOf rows.now.modulus rows.now.matrix) }
 {
-    if plan.rounds == 0 && !Extent::of(alloc, rows)?.is_block() {
+    if plan.rounds == 0 && !is_block(&Occupancy::of(alloc, rows)?) {
         let form = Echelon::made_by(crew, alloc, rows, plan.workers)?;
         return Ok(form);
     }

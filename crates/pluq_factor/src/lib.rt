@@ -6,12 +6,18 @@
 #![tactic(auto)]
 
 mod basis;
+mod basis_round;
 mod by_rounds;
+mod counted_round;
 mod eliminating;
-mod extent;
 mod form_by_rounds;
+mod measured;
+mod occupancy;
 mod plan;
+mod policy;
 mod rank_by_rounds;
+mod rest;
+mod round;
 mod round_pivots;
 
 ghost use Rattle.pluq_factor.specs.Example.{AreWorkedFactors};

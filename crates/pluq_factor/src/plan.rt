@@ -1,7 +1,6 @@
 // How a matrix is taken apart.
 ghost use Rattle.std.specs.Prelude.{◌≡◌, ◌≤◌, length, map, IfOk};
-ghost use Rattle.pivot_table.specs.Order.{Triangular};
-ghost use Rattle.pivot_table.specs.Selected.{Selected};
+ghost use Rattle.pluq_factor.specs.RoundPivots.{AreSelected};
 
 use fl_pivots::leftmost;
 use optimistic_search::{Gate, search, search_alone, search_within};
@@ -37,8 +36,7 @@ pub(crate) fn select_pivots<'a, R: Threads + Sync, G: Gate>(
     gate: &G,
 ) -> Result<Triangle<'a>, AllocError>
     requires some { 1 ≤ workers }
-    ensures rows { IfOk result (λ t. t.rows ≡ rows.now) }
-    ensures selected { IfOk result (λ t. Selected rows.now.matrix workers t.pairs) }
+    ensures { IfOk result (AreSelected rows.now workers) }
 {
     let found = found_by(rt, alloc, rows, workers, gate)?;
     if workers == 1 || rows.entries() < WORTH_COMPARING {
@@ -61,8 +59,7 @@ fn found_by<'a, R: Threads + Sync, G: Gate>(
     gate: &G,
 ) -> Result<Triangle<'a>, AllocError>
     requires some { 1 ≤ workers }
-    ensures rows { IfOk result (λ t. t.rows ≡ rows.now) }
-    ensures selected { IfOk result (λ t. Selected rows.now.matrix workers t.pairs) }
+    ensures { IfOk result (AreSelected rows.now workers) }
 {
     let book = search(rt, alloc, leftmost(alloc, rows)?, workers, gate)?;
     let triangle = Triangle::of(alloc, &book)?;
@@ -92,8 +89,7 @@ pub(crate) fn few_pivots<'a>(
     rows: &'a Rows,
     searches: bool,
 ) -> Result<FewPivots<'a>, AllocError>
-    ensures rows { IfOk result (λ f. f.triangle.rows ≡ rows.now) }
-    ensures triangular { IfOk result (λ f. Triangular rows.now.matrix f.triangle.pairs) }
+    ensures { IfOk result (λ f. f.triangle.rows ≡ rows.now) }
 {
     let first = leftmost(alloc, rows)?;
     if !searches {
@@ -109,30 +105,19 @@ pub(crate) fn few_pivots<'a>(
 
 // The pairs of a book in triangular order.
 fn found<'a>(alloc: Global, book: &Book<'a>, searches: bool) -> Result<FewPivots<'a>, AllocError>
-    ensures rows { IfOk result (λ f. f.triangle.rows ≡ book.now.rows) }
-    ensures triangular { IfOk result (λ f. Triangular book.now.rows.matrix f.triangle.pairs) }
+    ensures { IfOk result (λ f. f.triangle.rows ≡ book.now.rows) }
 {
     let triangle = Triangle::of(alloc, book)?;
-    // The call's contract tells that the pivots are triangular.
-    triangle.is_sound();
     Ok(FewPivots { triangle, searches })
 }
 
 // Pivots of a round in triangular order, to which none can be added: the leftmost ones, and those that one worker finds by levels.
 pub(crate) fn all_pivots<'a>(alloc: Global, rows: &'a Rows) -> Result<Triangle<'a>, AllocError>
-    ensures rows { IfOk result (λ t. t.rows ≡ rows.now) }
-    ensures triangular { IfOk result (λ t. Triangular rows.now.matrix t.pairs) }
+    ensures { IfOk result (λ t. t.rows ≡ rows.now) }
 {
     let book = search_alone(alloc, leftmost(alloc, rows)?)?;
     let triangle = Triangle::of(alloc, &book)?;
-    // The call's contract tells that the pivots are triangular.
-    triangle.is_sound();
     Ok(triangle)
-}
-
-// Whether what takes memory by rows and columns, as a board does, would take much more than the entries do.
-pub(crate) fn has_few_entries(rows: &Rows) -> bool {
-    rows.entries() < u64::from(rows.height().max(rows.width()) / 4)
 }
 
 // The rows of the pairs.

@@ -1,14 +1,16 @@
 // The rank by rounds.
-ghost use Rattle.std.specs.Prelude.{◌≡◌, ◌≤◌, min, IfOk};
+ghost use Rattle.std.specs.Prelude.{◌≡◌, ◌≤◌, ◌+◌, ◌-◌, min, IfOk};
 ghost use Rattle.residue_words.specs.Residues.{IsPrime};
 ghost use Rattle.row_space.specs.Echelon.{HasRank};
-ghost use Rattle.sparse_rows.specs.Rows.{ResidueMatrix};
-ghost use Rattle.pluq_factor.specs.Counted.{LeavesRank};
+ghost use Rattle.weight_order.specs.Keeping.{KeepsRank};
+ghost use Rattle.pluq_factor.specs.Counted.{IsRankOf};
 
+use crate::counted_round::{CountedRound, count_round};
 use crate::eliminating::Eliminating;
-use crate::extent::Extent;
+use crate::measured::Measured;
 use crate::plan::Plan;
-use crate::round_pivots::{Counted, count_round};
+use crate::policy::{is_block, is_dense, is_full};
+use crate::rest::Rest;
 use dense_finish::finish_right;
 use sparse_rows::Rows;
 use std::alloc::{AllocError, Global};
@@ -61,91 +63,98 @@ fn rank_in_order<C: Eliminating>(
 ) -> Result<u32, AllocError>
     requires able { C.can_work }
     requires some { 1 ≤ workers }
-    ensures rank { IfOk result (λ r. IsPrime rows.modulus → HasRank rows.modulus rows.matrix r) }
-    ensures at_most_height { IfOk result (λ r. r ≤ rows.matrix.height) }
-    ensures at_most_width { IfOk result (λ r. r ≤ rows.matrix.width) }
+    ensures { IfOk result (IsRankOf rows) }
 {
-    if Extent::of(alloc, &rows)?.is_full() {
+    let matrix = Measured::of(alloc, rows)?;
+    if is_full(&matrix.occupancy) {
+        let Measured { rows, .. } = matrix;
         return dense_rank(crew, alloc, rows, workers);
     }
-    // The call's contract tells that the entries are residues.
-    let most = rows.height().min(rows.width());
-    let Counted { count, rest, .. } = count_rounds(crew, alloc, rows, workers)?;
-    let below = rank_of_rest(crew, alloc, rest, workers)?;
-    // Less only if the modulus isn't prime.
-    let rank = count + below.min(most - count);
-    Ok(rank)
+    rank_from(crew, alloc, matrix, true, workers, MOST_ROUNDS)
 }
 
-// The pivots of all rounds, and what they leave.
-fn count_rounds<C: Eliminating>(
+// The rank by so many rounds and the finish, the first of them with a search if there is to be one. The matrix is given up before the
+// next round begins.
+fn rank_from<C: Eliminating>(
     crew: &C,
     alloc: Global,
-    rows: Rows,
+    matrix: Measured,
+    searches: bool,
     workers: u32,
-) -> Result<Counted, AllocError>
+    rounds: u32,
+) -> Result<u32, AllocError>
     requires able { C.can_work }
     requires some { 1 ≤ workers }
-    ensures { IfOk result (LeavesRank rows) }
+    ensures { IfOk result (IsRankOf matrix.rows) }
 {
-    let most = rows.height().min(rows.width());
-    let mut left = Counted {
-        count: 0,
-        rest: rows,
-        searches: true,
-    };
-    for _ in 0..MOST_ROUNDS {
-        if Extent::of(alloc, &left.rest)?.is_dense() {
-            break;
-        }
-        let Some(round) = count_round(crew, alloc, &left, workers)? else {
-            break;
-        };
-        left = counted_with(alloc, left, round, most)?;
+    // The law's contract: the rank of the complement gives that of the matrix.
+    schur_rows::round_rank();
+    if rounds == 0 || is_dense(&matrix.occupancy) {
+        return finished_rank(crew, alloc, matrix, workers);
     }
-    Ok(left)
+    let Some(round) = count_round(crew, alloc, &matrix, searches, workers)? else {
+        return finished_rank(crew, alloc, matrix, workers);
+    };
+    let most = matrix.rows.height().min(matrix.rows.width());
+    drop(matrix);
+    let CountedRound {
+        count,
+        rest,
+        searches,
+    } = round;
+    match rest {
+        Rest::Basis(basis) => Ok(with_count(count, basis.height(), most)),
+        Rest::Stored(rows) => {
+            let rest = in_order(alloc, rows)?;
+            let below = rank_from(crew, alloc, rest, searches, workers, rounds - 1)?;
+            Ok(with_count(count, below, most))
+        }
+    }
 }
 
-// The counts of rounds and of the next one, and what this leaves, in order of weight.
-fn counted_with(
-    alloc: Global,
-    left: Counted,
-    round: Counted,
-    most: u32,
-) -> Result<Counted, AllocError>
-    requires few { left.count ≤ most }
-    ensures { IfOk result (λ c. (R : ResidueMatrix) → most ≡ min R.matrix.height R.matrix.width →
-        LeavesRank R left → LeavesRank left.rest round → LeavesRank R c) }
+// The pivots and the rank of what they leave, together, of a matrix whose rank is at most `most`.
+fn with_count(count: u32, below: u32, most: u32) -> u32
+    requires { count ≤ most }
+    ensures { result ≡ count + min below (most - count) }
 {
-    let count = left.count;
-    drop(left);
     // Less only if the modulus isn't prime.
-    let more = round.count.min(most - count);
-    Ok(Counted {
-        count: count + more,
-        rest: by_weight(alloc, &round.rest, RowOrder::Kept)?,
-        searches: round.searches,
-    })
+    count + below.min(most - count)
+}
+
+// The rows in order of weight.
+fn in_order(alloc: Global, rows: Rows) -> Result<Measured, AllocError>
+    ensures { IfOk result (λ m. KeepsRank rows m.rows) }
+{
+    let ordered = by_weight(alloc, &rows, RowOrder::Kept)?;
+    drop(rows);
+    Measured::of(alloc, ordered)
 }
 
 // The rank without a round, of a matrix that nobody wants any more.
-fn rank_of_rest<C: Eliminating>(
+fn finished_rank<C: Eliminating>(
     crew: &C,
     alloc: Global,
-    rows: Rows,
+    matrix: Measured,
     workers: u32,
 ) -> Result<u32, AllocError>
     requires able { C.can_work }
     requires some { 1 ≤ workers }
-    ensures rank { IfOk result (λ r. IsPrime rows.modulus → HasRank rows.modulus rows.matrix r) }
-    ensures at_most_height { IfOk result (λ r. r ≤ rows.matrix.height) }
-    ensures at_most_width { IfOk result (λ r. r ≤ rows.matrix.width) }
+    ensures { IfOk result (IsRankOf matrix.rows) }
 {
-    if Extent::of(alloc, &rows)?.is_block() {
+    let Measured { rows, occupancy } = matrix;
+    if is_block(&occupancy) {
         dense_rank(crew, alloc, rows, workers)
     } else {
-        echelon_form::rank(alloc, &rows)
+        rank_of_form(alloc, &rows)
     }
+}
+
+// The rank as the number of rows of the echelon form.
+fn rank_of_form(alloc: Global, rows: &Rows) -> Result<u32, AllocError>
+    ensures { IfOk result (IsRankOf rows.now) }
+{
+    let rank = echelon_form::rank(alloc, rows)?;
+    Ok(rank)
 }
 
 // The rank as the number of pivots of a dense elimination.
@@ -157,9 +166,7 @@ fn dense_rank<C: Eliminating>(
 ) -> Result<u32, AllocError>
     requires able { C.can_work }
     requires some { 1 ≤ workers }
-    ensures rank { IfOk result (λ r. IsPrime rows.modulus → HasRank rows.modulus rows.matrix r) }
-    ensures at_most_height { IfOk result (λ r. r ≤ rows.matrix.height) }
-    ensures at_most_width { IfOk result (λ r. r ≤ rows.matrix.width) }
+    ensures { IfOk result (IsRankOf rows) }
 {
     // The law's contract: the rank is the number of the pivots of factors.
     row_space::factors_give_rank();
