@@ -1,5 +1,5 @@
 -- Rows from the last to the first, and forms of bases.
-use Rattle.std.proofs.Common.{ℕ, ◌≡◌, ◌∙◌, sym, ap, subst, arith}
+use Rattle.std.proofs.Common.{ℕ, ◌≡◌, ◌∙◌, sym, subst, arith}
 use Rattle.residue_words.specs.Residues.{IsPrime}
 use Rattle.residue_words.specs.Matrix.{Matrix}
 use Rattle.row_space.specs.Echelon.{IsIndependent, SameSpan}
