@@ -52,12 +52,12 @@ are_names = each_name names refl
 
 -- ---- accepted words are taken, and set what the batch has
 
-record Taken (words : List Text) (c : BatchCommand) : Type 0 where
+record WordsTaken (words : List Text) (c : BatchCommand) : Type 0 where
   no_fault : fault_of batch_line words ≡ []
   sets : SetBatch (matches_of batch_line words) c
   dashes : NoDashes words
 
-taken_options : (c : BatchCommand) (options : List Given) → Fits names [] options → SetBatch (map row_of_given options) c → Taken (flat_map spelling options) c
+taken_options : (c : BatchCommand) (options : List Given) → Fits names [] options → SetBatch (map row_of_given options) c → WordsTaken (flat_map spelling options) c
 taken_options c options f set =
     let plain = all_plain options (λ g k. plain_value g.value (all_begin (batch_settings c) (map row_of_given options) g refl set ((fits_known names options f).known g k) (fits_first names [] options g f k))) in
     let level = passes_level title names (flat_map spelling options) (map row_of_given options) (reads_passes title names are_names options f plain) in
@@ -67,10 +67,10 @@ taken_options c options f set =
       dashes = options_dashes names are_names [] options f plain;
     }
 
-taken : (words : List Text) (c : BatchCommand) → AcceptedBatch words c → Taken words c
+taken : (words : List Text) (c : BatchCommand) → AcceptedBatch words c → WordsTaken words c
 taken words c a =
     let f = known_fits names a.options a.known in
-    subst (λ (ws : List Text). Taken ws c) (sym a.spelled) (taken_options c a.options f (λ k d lt. set_rows names a.options _ f (a.set k d lt)))
+    subst (λ (ws : List Text). WordsTaken ws c) (sym a.spelled) (taken_options c a.options f (λ k d lt. set_rows names a.options _ f (a.set k d lt)))
 
 -- ---- and words that are taken and set what a batch has are accepted
 

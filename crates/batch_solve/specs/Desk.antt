@@ -3,18 +3,18 @@ use Rattle.std.specs.Prelude.{◌≡◌, ℕ, ◌<◌, Bool, true, false, List, 
 use Rattle.atomic_table.specs.Seated.{TableId}
 use Rattle.atomic_table.specs.declared.badge.Badge.{Badge}
 use Rattle.crossbeam_channel.specs.declared.flavors.array.Key.{Key}
-use Rattle.batch_solve.specs.declared.slip.Slip.{Slip}
+use Rattle.batch_solve.specs.declared.number_or_end.NumberOrEnd.{NumberOrEnd}
 
 -- a desk: the names of its channel, and how many numbers it began with
 pub record DeskState : Type 0 where
   pub table : TableId
-  pub keys : Badge (Key Slip)
+  pub keys : Badge (Key NumberOrEnd)
   pub count : ℕ
 
 -- a taker: the names and the numbers of its desk, the numbers that it was given, in order, and whether it was told that none is left
 pub record TakerState : Type 0 where
   pub table : TableId
-  pub keys : Badge (Key Slip)
+  pub keys : Badge (Key NumberOrEnd)
   pub count : ℕ
   pub taken : List ℕ
   pub drained : Bool

@@ -11,10 +11,10 @@ ghost use Rattle.batch_solve.specs.BatchRan.{BatchRan, IsOneBatchAnswer};
 ghost use Rattle.batch_solve.specs.BatchStatus.{BatchSaysWhy, is_batch_done, is_batch_written};
 ghost use Rattle.batch_solve.specs.BatchWords.{AcceptedBatch, AskForNoBatch};
 
+use crate::all_replies::answer_all;
 use crate::batch_status::BatchStatus;
 use crate::batch_texts::{misfit_of, read_texts};
 use crate::batch_words::{BatchCommand, read_batch_words};
-use crate::together::answer_all;
 use crate::watch::Watch;
 use crate::written_replies::write_replies;
 use kernel_solve::Reply;

@@ -4,11 +4,11 @@ ghost use Rattle.std.specs.Option.{MatchOption};
 ghost use Rattle.crossbeam_channel.specs.Claims.{view, IsSeatAt};
 ghost use Rattle.crossbeam_channel.specs.Ends.{sends_on};
 ghost use Rattle.batch_solve.specs.Desk.{TakesNumber, LeavesDrained, IsTakerOf};
-ghost use Rattle.batch_solve.specs.Rule.{first_hand, full_hand};
+ghost use Rattle.batch_solve.specs.Rule.{known_first, known_filling};
 
-use crate::desk_rule::{End, Fill, Law, Part, Take};
-use crate::hand::Hand;
-use crate::slip::Slip;
+use crate::desk_rule::{DeskLaw, DeskPart, End, Fill, Take};
+use crate::known_numbers::KnownNumbers;
+use crate::number_or_end::NumberOrEnd;
 use crate::taker::Taker;
 use crossbeam_channel::{Pass, RuledReceiver, RuledSender, bounded_with};
 use std::alloc::{AllocError, Global};
@@ -24,8 +24,8 @@ use std::sync::Wait;
 /// puts an end, and who takes one knows that no number is left.
 #[derive(Drop)]
 pub struct Desk {
-    sender: RuledSender<Slip, Hand, Law>,
-    receiver: RuledReceiver<Slip, Hand, Law>,
+    sender: RuledSender<NumberOrEnd, KnownNumbers, DeskLaw>,
+    receiver: RuledReceiver<NumberOrEnd, KnownNumbers, DeskLaw>,
     count: u32,
 }
 
@@ -54,12 +54,14 @@ impl Desk {
         ensures desk { IfOk result (λ r. r.0.count ≡ count) }
         ensures taker { IfOk result (λ r. IsTakerOf r.0 r.1 × (r.1.taken ≡ []) × (r.1.drained ≡ false)) }
     {
-        let (sender, receiver, mut pass) = bounded_with::<Slip, Hand, Law, Global>(
-            alloc,
-            count as usize,
-        )?;
+        let (sender, receiver, mut pass) = bounded_with::<
+            NumberOrEnd,
+            KnownNumbers,
+            DeskLaw,
+            Global,
+        >(alloc, count as usize)?;
         fill(rt, &sender, &mut pass, count)?;
-        let pass = sender.another::<Part>(&mut pass);
+        let pass = sender.another::<DeskPart>(&mut pass);
         let desk = Desk {
             sender,
             receiver,
@@ -74,7 +76,7 @@ impl Desk {
         ensures same { taker.new ≡ taker.old }
         ensures taker { IfOk result (λ t. IsTakerOf self.now t × (t.taken ≡ []) × (t.drained ≡ false)) }
     {
-        let pass = self.sender.another::<Part>(&mut taker.pass);
+        let pass = self.sender.another::<DeskPart>(&mut taker.pass);
         Ok(Taker { pass })
     }
 
@@ -88,13 +90,13 @@ impl Desk {
     {
         for _ in rt.forever() {
             match self.receiver.try_recv_as::<Take, R>(rt, &mut taker.pass) {
-                Ok(Slip::Number(number)) => return Some(number),
-                Ok(Slip::End) => return None,
+                Ok(NumberOrEnd::Number(number)) => return Some(number),
+                Ok(NumberOrEnd::End) => return None,
                 // Where it isn't put, it is tried again.
                 Err(_) => {
                     let _ = self
                         .sender
-                        .try_send_as::<End, R>(rt, &mut taker.pass, Slip::End);
+                        .try_send_as::<End, R>(rt, &mut taker.pass, NumberOrEnd::End);
                 }
             }
         }
@@ -105,19 +107,19 @@ impl Desk {
 // Puts the numbers into a new channel.
 fn fill<R: Wait>(
     rt: &R,
-    sender: &RuledSender<Slip, Hand, Law>,
-    pass: &mut Pass<Slip, Hand>,
+    sender: &RuledSender<NumberOrEnd, KnownNumbers, DeskLaw>,
+    pass: &mut Pass<NumberOrEnd, KnownNumbers>,
     count: u32,
 ) -> Result<(), AllocError>
     requires channel { IsSeatAt (sends_on sender.now) pass.old }
-    requires first { view pass.old ≡ first_hand }
+    requires first { view pass.old ≡ known_first }
     ensures channel { IsSeatAt (sends_on sender.now) pass.new }
-    ensures full { OnOk result (view pass.new ≡ full_hand count) }
+    ensures full { OnOk result (view pass.new ≡ known_filling count) }
 {
     for number in 0..count {
         // There is room, and both ends are there.
         if sender
-            .send_as::<Fill, R>(rt, pass, Slip::Number(number))
+            .send_as::<Fill, R>(rt, pass, NumberOrEnd::Number(number))
             .is_err()
         {
             return Err(AllocError);

@@ -1,56 +1,56 @@
 // The rule of a desk's channel, and what its steps tell.
 ghost use Rattle.std.specs.Prelude.{◌≡◌, ⊤};
-ghost use Rattle.batch_solve.specs.Rule.{KeepsDesk, first_hand, filled, Gives, left_hand, new_hand};
+ghost use Rattle.batch_solve.specs.Rule.{KeepsDesk, known_first, filled, Gives, known_kept, known_new};
 
-use crate::hand::Hand;
-use crate::slip::Slip;
+use crate::known_numbers::KnownNumbers;
+use crate::number_or_end::NumberOrEnd;
 use crossbeam_channel::protocol::{Lesson, Outcome, Protocol, Split};
 
-pub struct Law;
+pub struct DeskLaw;
 
-impl Protocol<Slip, Hand> for Law {
+impl Protocol<NumberOrEnd, KnownNumbers> for DeskLaw {
     ghost holds = { KeepsDesk };
 
-    ghost first = { first_hand };
+    ghost first = { known_first };
 }
 
 // A number is put, before the first is taken.
 pub(crate) struct Fill;
 
-impl Outcome<Slip, Hand> for Fill {
+impl Outcome<NumberOrEnd, KnownNumbers> for Fill {
     ghost then = { λ v x w. w ≡ filled v };
 }
 
-impl Lesson<Slip, Hand> for Fill {
+impl Lesson<NumberOrEnd, KnownNumbers> for Fill {
     ghost fact = { λ v items. ⊤ };
 }
 
-// A slip is taken.
+// A number or an end is taken.
 pub(crate) struct Take;
 
-impl Outcome<Slip, Hand> for Take {
+impl Outcome<NumberOrEnd, KnownNumbers> for Take {
     ghost then = { Gives };
 }
 
-impl Lesson<Slip, Hand> for Take {
+impl Lesson<NumberOrEnd, KnownNumbers> for Take {
     ghost fact = { λ v items. ⊤ };
 }
 
 // An end is put.
 pub(crate) struct End;
 
-impl Outcome<Slip, Hand> for End {
+impl Outcome<NumberOrEnd, KnownNumbers> for End {
     ghost then = { λ v x w. w ≡ v };
 }
 
-impl Lesson<Slip, Hand> for End {
+impl Lesson<NumberOrEnd, KnownNumbers> for End {
     ghost fact = { λ v items. ⊤ };
 }
 
-pub(crate) struct Part;
+pub(crate) struct DeskPart;
 
-impl Split<Hand> for Part {
-    ghost left = { left_hand };
+impl Split<KnownNumbers> for DeskPart {
+    ghost left = { known_kept };
 
-    ghost right = { new_hand };
+    ghost right = { known_new };
 }

@@ -1,6 +1,6 @@
 // One who takes numbers at a desk.
-use crate::hand::Hand;
-use crate::slip::Slip;
+use crate::known_numbers::KnownNumbers;
+use crate::number_or_end::NumberOrEnd;
 use crossbeam_channel::Pass;
 use std::marker::Model;
 
@@ -8,7 +8,7 @@ use std::marker::Model;
 /// that no number is left. It can be handed to another thread.
 #[derive(Drop)]
 pub struct Taker {
-    pub(crate) pass: Pass<Slip, Hand>,
+    pub(crate) pass: Pass<NumberOrEnd, KnownNumbers>,
 }
 
 impl Model for Taker {

@@ -1,10 +1,10 @@
 use Rattle.std.proofs.Common.{ap, sym}
-use Rattle.batch_solve.specs.declared.hand.Hand.{Hand}
+use Rattle.batch_solve.specs.declared.known_numbers.KnownNumbers.{KnownNumbers}
 use Rattle.batch_solve.proofs.Serving.{puts_number}
 use Rattle.batch_solve.proofs.desk.fill.Goals as goal
 
 pub send_as-requires-clause-rule : goal.send_as-requires-clause-rule
 send_as-requires-clause-rule g c = (
-  puts_number _ _ _ _ (ap (λ (h : Hand). h.fills) c.loop-number.invariant.1) (sym (ap (λ (h : Hand). h.count) c.loop-number.invariant.1)),
+  puts_number _ _ _ _ (ap (λ (h : KnownNumbers). h.fills) c.loop-number.invariant.1) (sym (ap (λ (h : KnownNumbers). h.count) c.loop-number.invariant.1)),
   λ items views k at. tt,
 )

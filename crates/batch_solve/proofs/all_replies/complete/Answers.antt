@@ -5,7 +5,7 @@ use Rattle.kernel_solve.specs.Prepared.{IsReply}
 use Rattle.kernel_solve.specs.declared.prepared.Reply.{Reply}
 use Rattle.batch_solve.specs.Replies.{IsQuestion}
 use Rattle.batch_solve.proofs.Slots.{AreFirst, first_all, first_more, first_none, found_at, none_isnt, reply_at, slots_set}
-use Rattle.batch_solve.proofs.together.complete.Goals as goal
+use Rattle.batch_solve.proofs.all_replies.complete.Goals as goal
 
 pub found_or_answered-requires-clause-found : goal.found_or_answered-requires-clause-found
 found_or_answered-requires-clause-found c =

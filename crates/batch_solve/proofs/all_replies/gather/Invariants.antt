@@ -1,7 +1,7 @@
 use Rattle.std.proofs.Common.{vec_len}
 use Rattle.std.specs.Prelude.{All}
 use Rattle.batch_solve.specs.Replies.{AreSlots, WorksAt}
-use Rattle.batch_solve.proofs.together.gather.Given as goal
+use Rattle.batch_solve.proofs.all_replies.gather.Given as goal
 
 abbrev pub invariant-loop-worker : goal.invariant-loop-worker
 invariant-loop-worker l = AreSlots l.prepared l.questions l.slots × All (WorksAt l.desk l.prepared l.questions) l.workers.items

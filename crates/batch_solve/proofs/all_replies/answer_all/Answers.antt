@@ -3,8 +3,8 @@ use Rattle.std.proofs.Common.{◌≡◌, length, ap, ◌∙◌, arith}
 use Rattle.std.proofs.lemmas.List.{length-replicate}
 use Rattle.std.specs.Prelude.{None}
 use Rattle.batch_solve.proofs.Slots.{slots_back, slots_empty}
-use Rattle.batch_solve.proofs.together.answer_all.Goals as goal
-use Rattle.batch_solve.proofs.together.answer_all.Goals.{then-questions-gt0+in_ok-desk+in_ok-team, else-questions-gt0}
+use Rattle.batch_solve.proofs.all_replies.answer_all.Goals as goal
+use Rattle.batch_solve.proofs.all_replies.answer_all.Goals.{then-questions-gt0+in_ok-desk+in_ok-team, else-questions-gt0}
 
 pub complete-requires-clause-slots : goal.complete-requires-clause-slots
 complete-requires-clause-slots g c = elim c.if-questions-gt0.branch [

@@ -1,5 +1,5 @@
 use Rattle.std.proofs.Common.{◌≡◌, None, replicate}
-use Rattle.batch_solve.proofs.together.empty_slots.Given as goal
+use Rattle.batch_solve.proofs.all_replies.empty_slots.Given as goal
 
 abbrev pub invariant-loop : goal.invariant-loop
 invariant-loop l = l.slots.items ≡ replicate l.counter None

@@ -2,7 +2,7 @@
 
 // A number to take, or word that there is none.
 #[derive(Clone, Copy)]
-pub enum Slip {
+pub enum NumberOrEnd {
     Number(u32),
     // It stands behind all numbers.
     End,

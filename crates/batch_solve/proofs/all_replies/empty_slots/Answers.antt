@@ -1,7 +1,7 @@
 use Rattle.std.proofs.Common.{◌≡◌, ◌∙◌, [], ◌∷◌, ◌++◌, List, Option, None, ap, arith, replicate}
 use Rattle.std.proofs.lemmas.List.{replicate_more}
 use Rattle.kernel_solve.specs.declared.prepared.Reply.{Reply}
-use Rattle.batch_solve.proofs.together.empty_slots.Goals as goal
+use Rattle.batch_solve.proofs.all_replies.empty_slots.Goals as goal
 
 pub loop-init : goal.loop-init
 loop-init c = c.in_ok-slots.ensures.items

@@ -2,7 +2,7 @@ use Rattle.std.proofs.Common.{Some, subst}
 use Rattle.kernel_solve.specs.declared.prepared.Reply.{Reply}
 use Rattle.batch_solve.specs.Replies.{RepliesAt}
 use Rattle.batch_solve.proofs.Slots.{slots_set, some_is}
-use Rattle.batch_solve.proofs.together.fill_slot.Goals as goal
+use Rattle.batch_solve.proofs.all_replies.fill_slot.Goals as goal
 
 pub returns-then-is_none : goal.returns-then-is_none
 returns-then-is_none c =
