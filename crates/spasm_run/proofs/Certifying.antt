@@ -9,7 +9,7 @@ use Rattle.certificates.specs.declared.certificate.CertKind.{CertKind}
 use Rattle.certificates.specs.declared.certificate.CertKind.TheVariants as kind
 use Rattle.certificates.specs.Certificate.{HasExtra, IsFormed, certificate_of, claim_of}
 use Rattle.certificates.specs.CertificateText.{HasText, claim_word, kind_word}
-use Rattle.spasm_run.specs.declared.answer.Answer.TheVariants as answer
+use Rattle.spasm_run.specs.declared.command_answer.CommandAnswer.TheVariants as answer
 use Rattle.spasm_run.specs.declared.words.Command.{Command}
 use Rattle.spasm_run.specs.declared.words.Task.TheVariants as task
 use Rattle.spasm_run.specs.Computed.{IsAnswerTo, asking}

@@ -216,12 +216,12 @@ dashes_at (v ∷ words) d w (suc k, lt, e) = dashes_at words d.1 w (k, omega ari
 
 -- ---- accepted words are taken, and say their command
 
-record Taken (words : List Text) (c : Command) : Type 0 where
+record WordsTaken (words : List Text) (c : Command) : Type 0 where
   no_fault : fault_of command_line words ≡ []
   says : AsksFor (subcommand_of command_line words) c
   dashes : NoDashes words
 
-taken_options : (c : Command) (options : List Given) → Fits (task_names c.task) [] options → All (RowsSet (map row_of_given options)) (settings c) → Taken (task_name c.task ∷ flat_map spelling options) c
+taken_options : (c : Command) (options : List Given) → Fits (task_names c.task) [] options → All (RowsSet (map row_of_given options)) (settings c) → WordsTaken (task_name c.task ∷ flat_map spelling options) c
 taken_options c options f set =
     let names : List Text = task_names c.task in
     let plain = all_plain options (λ g k. plain_value g.value (given_plainly c (map row_of_given options) g set ((fits_known names options f).known g k) (fits_first names [] options g f k))) in
@@ -238,9 +238,9 @@ accepted_fits words c a = known_fits (task_names c.task) a.options a.known
 accepted_rows : (words : List Text) (c : Command) (a : Accepted words c) → All (RowsSet (map row_of_given a.options)) (settings c)
 accepted_rows words c a = λ k d lt. set_rows (task_names c.task) a.options _ (accepted_fits words c a) (a.set k d lt)
 
-taken : (words : List Text) (c : Command) → Accepted words c → Taken words c
+taken : (words : List Text) (c : Command) → Accepted words c → WordsTaken words c
 taken words c a =
-    subst (λ (ws : List Text). Taken ws c) (sym a.spelled) (taken_options c a.options (accepted_fits words c a) (accepted_rows words c a))
+    subst (λ (ws : List Text). WordsTaken ws c) (sym a.spelled) (taken_options c a.options (accepted_fits words c a) (accepted_rows words c a))
 
 pub accepted_fault : (words : List Text) (c : Command) → Accepted words c → fault_of command_line words ≡ []
 accepted_fault words c a = (taken words c a).no_fault
@@ -308,7 +308,7 @@ says_accepted_at t rest c d none s =
 pub says_accepted : (words : List Text) (c : Command) → NoDashes words → fault_of command_line words ≡ [] → AsksFor (subcommand_of command_line words) c → Accepted words c
 says_accepted words c d none s =
     let first = first_is_named words (dashes_at words d) none in
-    let i = subst (λ (ws : List Text). Taken ws c) first.2 (record { dashes = d; no_fault = none; says = s }) in
+    let i = subst (λ (ws : List Text). WordsTaken ws c) first.2 (record { dashes = d; no_fault = none; says = s }) in
     subst (λ (ws : List Text). Accepted ws c) (sym first.2) (says_accepted_at first.0 first.1 c i.dashes.1 i.no_fault i.says)
 
 -- ---- one command at most

@@ -15,7 +15,7 @@ use Rattle.pivot_table.specs.Leftmost.{IsLeftmost, IsSparsest}
 use Rattle.pivot_table.specs.Order.{IsTriangularOrder, Triangular}
 use Rattle.pivot_table.specs.Selected.{IsGreedySelection, Selected}
 use Rattle.pivot_table.proofs.Selecting.{greedy_one, sparsest_one}
-use Rattle.spasm_run.specs.declared.answer.Answer.TheVariants as answer
+use Rattle.spasm_run.specs.declared.command_answer.CommandAnswer.TheVariants as answer
 use Rattle.spasm_run.specs.declared.words.Task.TheVariants as task
 use Rattle.sms_text.specs.Written.{IsSmallPlace}
 use Rattle.spasm_run.specs.Computed.{IsAnswerTo, asking}

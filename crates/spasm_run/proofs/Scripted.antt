@@ -19,7 +19,7 @@ use Rattle.sms_text.proofs.Scripts.{scripted_short, scripted_taken, scripted_unr
 use Rattle.certificates.proofs.CertificateLines.{words_have}
 use Rattle.grow_form.specs.declared.answering.Answer.{Answer}
 use Rattle.grow_form.specs.Scripts.{AnswersLines, AnswerFitsText, SaysScript, answers_text}
-use Rattle.spasm_run.specs.declared.answer.Answer.TheVariants as answer
+use Rattle.spasm_run.specs.declared.command_answer.CommandAnswer.TheVariants as answer
 use Rattle.spasm_run.specs.declared.words.Command.{Command}
 use Rattle.spasm_run.specs.declared.words.Task.TheVariants as task
 use Rattle.spasm_run.specs.Answers.{AnswersScript}

@@ -15,7 +15,7 @@ use Rattle.spasm_lib.specs.declared.outcome.Inverse.TheVariants as inversion
 use Rattle.spasm_lib.specs.declared.outcome.Solution.TheVariants as solution
 use Rattle.spasm_lib.specs.Inversion.{HasInversionShape, IsInversion}
 use Rattle.spasm_lib.specs.Solved.{HasSolutionShape, IsSolved}
-use Rattle.spasm_run.specs.declared.answer.Answer.TheVariants as answer
+use Rattle.spasm_run.specs.declared.command_answer.CommandAnswer.TheVariants as answer
 use Rattle.spasm_run.specs.declared.commands.TheConstants.{LARGEST_INVERTED}
 use Rattle.spasm_run.specs.declared.words.Command.{Command}
 use Rattle.spasm_run.specs.declared.words.Task.TheVariants as task

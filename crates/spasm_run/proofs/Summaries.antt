@@ -4,7 +4,7 @@ use Rattle.residue_words.specs.Matrix.{Matrix, IsMatrix}
 use Rattle.residue_words.specs.Residues.{IsPrime}
 use Rattle.row_space.specs.Echelon.{IsRref}
 use Rattle.sparse_rows.specs.Rows.{ResidueMatrix, entry_count}
-use Rattle.spasm_run.specs.declared.answer.Answer.TheVariants as answer
+use Rattle.spasm_run.specs.declared.command_answer.CommandAnswer.TheVariants as answer
 use Rattle.spasm_run.specs.declared.generator.Generator.{Generator}
 use Rattle.spasm_run.specs.declared.summary.Summary.{Summary}
 use Rattle.spasm_run.specs.declared.words.Command.{Command}

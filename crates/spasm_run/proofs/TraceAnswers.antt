@@ -5,7 +5,7 @@ use Rattle.sparse_rows.specs.Rows.{ResidueMatrix}
 use Rattle.run_trace.specs.declared.trace.Trace.{Trace}
 use Rattle.run_trace.specs.Lawful.{IsLawfulTrace, IsTraceOf}
 use Rattle.run_trace.specs.TraceText.{HasTraceText}
-use Rattle.spasm_run.specs.declared.answer.Answer.TheVariants as answer
+use Rattle.spasm_run.specs.declared.command_answer.CommandAnswer.TheVariants as answer
 use Rattle.spasm_run.specs.declared.words.Command.{Command}
 use Rattle.spasm_run.specs.declared.words.Task.TheVariants as task
 use Rattle.spasm_run.specs.Computed.{IsAnswerTo, asking}

@@ -6,7 +6,7 @@ use Rattle.sparse_rows.specs.Rows.{ResidueMatrix}
 use Rattle.certificates.specs.declared.certificate.Certificate.{Certificate}
 use Rattle.certificates.specs.Certificate.{IsFormed, certificate_of}
 use Rattle.certificates.specs.CertificateText.{certificate_said}
-use Rattle.spasm_run.specs.declared.answer.Answer.TheVariants as answer
+use Rattle.spasm_run.specs.declared.command_answer.CommandAnswer.TheVariants as answer
 use Rattle.spasm_run.specs.declared.words.Command.{Command}
 use Rattle.spasm_run.specs.declared.words.Task.TheVariants as task
 use Rattle.spasm_run.specs.Computed.{IsAnswerTo, asking}

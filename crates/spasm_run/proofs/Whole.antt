@@ -12,8 +12,8 @@ use Rattle.sms_text.specs.Stream.{SinkState, SourceState, Gained, Rose}
 use Rattle.sms_text.specs.Text.{FirstFault, Header, Request}
 use Rattle.sms_text.specs.Writing.{Writes}
 use Rattle.sms_text.proofs.Moving.{draws_none, draws_with}
-use Rattle.spasm_run.specs.declared.answer.Answer.{Answer}
-use Rattle.spasm_run.specs.declared.answer.Answer.TheVariants as answer
+use Rattle.spasm_run.specs.declared.command_answer.CommandAnswer.{CommandAnswer}
+use Rattle.spasm_run.specs.declared.command_answer.CommandAnswer.TheVariants as answer
 use Rattle.spasm_run.specs.declared.status.Status.{Status}
 use Rattle.spasm_run.specs.declared.status.Status.TheVariants as status
 use Rattle.spasm_run.specs.declared.words.Command.{Command}
@@ -33,7 +33,7 @@ use Rattle.spasm_run.proofs.Outcomes.{Answered, Endings, Faulty, Outcome, Refuse
 
 -- what comes of the matrices that were read for a command is found for the words that ask for it
 module _ (words : List (List ℕ)) (c : Command) (limit : ℕ) (accepted : Accepted words c) (old new : SourceState) where
-  found_in : (said : Contents) (result : Result Answer Status) (input : Input) → ComesOfContents c said result →
+  found_in : (said : Contents) (result : Result CommandAnswer Status) (input : Input) → ComesOfContents c said result →
       HasContents (request c limit) input said → IsFoundIn words limit input result
   found_in said (Ok a) input comes reads = (c, accepted, record { said = said; reads = reads; fits = comes.fits; shape = comes.shape; answers = comes.answers; ends = comes.ends })
   found_in said (Err status.Done) input comes reads = absurd comes
@@ -46,7 +46,7 @@ module _ (words : List (List ℕ)) (c : Command) (limit : ℕ) (accepted : Accep
   found_in said (Err status.Memory) input comes reads = tt
   found_in said (Err (status.Wide h w)) input comes reads = (c, accepted, record { said = said; reads = reads; refused = comes })
 
-  read_well : (said : Contents) (result : Result Answer Status) → ComesOfContents c said result → false ≡ is_unread_in result
+  read_well : (said : Contents) (result : Result CommandAnswer Status) → ComesOfContents c said result → false ≡ is_unread_in result
   read_well said (Ok a) comes = refl
   read_well said (Err status.Done) comes = refl
   read_well said (Err status.No) comes = refl
@@ -61,7 +61,7 @@ module _ (words : List (List ℕ)) (c : Command) (limit : ℕ) (accepted : Accep
   few : (bytes : List ℕ) → IsShort (request c limit) bytes → AreTooFew words limit bytes
   few bytes short = (c, accepted, short)
 
-  found_for : (said : Contents) (result : Result Answer Status) → WasRead (request c limit) (Ok said) old new →
+  found_for : (said : Contents) (result : Result CommandAnswer Status) → WasRead (request c limit) (Ok said) old new →
       ComesOfContents c said result → WasFound words limit result old new
   found_for said result was comes =
       let moved = draws_with (IsShort (request c limit)) (AreTooFew words limit) false was.input.bytes (untouched old) (supply_behind was.input new) few was.draws in
@@ -94,7 +94,7 @@ abbrev pub asked : Task → ℕ → ℕ → Request
 asked t p limit = record { modulus = p; limit = limit; due = wanted t }
 
 -- what is wanted was read, and something came of it
-pub found_given : (words : List (List ℕ)) (c : Command) (t : Task) (p q limit : ℕ) (old new : SourceState) (said : Contents) (result : Result Answer Status) →
+pub found_given : (words : List (List ℕ)) (c : Command) (t : Task) (p q limit : ℕ) (old new : SourceState) (said : Contents) (result : Result CommandAnswer Status) →
     c.task ≡ t → p ≡ c.modulus → q ≡ p → Accepted words c → WasRead (asked t p limit) (Ok said) old new → ComesOfContents (asking t q c) said result → WasFound words limit result old new
 found_given words c t p q limit old new said result asks modulus same accepted was comes =
     let at_task : WasRead (asked c.task p limit) (Ok said) old new = subst (λ t. WasRead (asked t p limit) (Ok said) old new) (sym asks) was in
@@ -103,13 +103,13 @@ found_given words c t p q limit old new said result asks modulus same accepted w
     found_for words c limit accepted old new said result read (subst (λ q. ComesOfContents (asking c.task q c) said result) (same ∙ modulus) of_task)
 
 -- nothing is read for what is generated
-pub found_generated : (words : List (List ℕ)) (c : Command) (g : Generator) (p limit : ℕ) (source : SourceState) (result : Result Answer Status) →
+pub found_generated : (words : List (List ℕ)) (c : Command) (g : Generator) (p limit : ℕ) (source : SourceState) (result : Result CommandAnswer Status) →
     c.task ≡ task.Drill g → p ≡ c.modulus → Accepted words c → ComesOf (asking (task.Drill g) p c) [] result → WasFound words limit result source source
 found_generated words c g p limit source result asks modulus accepted comes =
     found_given words c (task.Drill g) p p limit source source (matrices_alone []) result asks modulus refl accepted (all_read p limit source) comes
 
 -- they weren't
-pub found_unread : (words : List (List ℕ)) (c : Command) (t : Task) (p limit : ℕ) (old new : SourceState) (e : TextError) (result : Result Answer Status) →
+pub found_unread : (words : List (List ℕ)) (c : Command) (t : Task) (p limit : ℕ) (old new : SourceState) (e : TextError) (result : Result CommandAnswer Status) →
     c.task ≡ t → p ≡ c.modulus → IsErrAnd result (λ s. s ≡ status_of e) → Accepted words c → WasRead (asked t p limit) (Err e) old new → WasFound words limit result old new
 found_unread words c t p limit old new e result asks modulus is accepted was =
     let at_task : WasRead (asked c.task p limit) (Err e) old new = subst (λ t. WasRead (asked t p limit) (Err e) old new) (sym asks) was in
@@ -139,7 +139,7 @@ abbrev pub asked_for_one : ℕ → ℕ → Request
 asked_for_one p limit = record { modulus = p; limit = limit; due = Header ∷ [] }
 
 -- its matrix was read, and something came of it
-pub found_of_one : (words : List (List ℕ)) (c : Command) (p q limit : ℕ) (old new : SourceState) (value : Matrix) (result : Result Answer Status) →
+pub found_of_one : (words : List (List ℕ)) (c : Command) (p q limit : ℕ) (old new : SourceState) (value : Matrix) (result : Result CommandAnswer Status) →
     wanted c.task ≡ Header ∷ [] → p ≡ c.modulus → q ≡ p → Accepted words c → WasRead (asked_for_one p limit) (Ok (matrices_alone (value ∷ []))) old new →
     ComesOf (asking c.task q c) (value ∷ []) result → WasFound words limit result old new
 found_of_one words c p q limit old new value result one modulus same accepted was comes =
@@ -148,7 +148,7 @@ found_of_one words c p q limit old new value result one modulus same accepted wa
     found_given words c c.task p q limit old new (matrices_alone (value ∷ [])) result refl modulus same accepted read comes
 
 -- it wasn't
-pub unread_of_one : (words : List (List ℕ)) (c : Command) (p limit : ℕ) (old new : SourceState) (e : TextError) (result : Result Answer Status) →
+pub unread_of_one : (words : List (List ℕ)) (c : Command) (p limit : ℕ) (old new : SourceState) (e : TextError) (result : Result CommandAnswer Status) →
     wanted c.task ≡ Header ∷ [] → p ≡ c.modulus → IsErrAnd result (λ s. s ≡ status_of e) → Accepted words c → WasRead (asked_for_one p limit) (Err e) old new → WasFound words limit result old new
 unread_of_one words c p limit old new e result one modulus is accepted was =
     let read : WasRead (asked c.task p limit) (Err e) old new =
@@ -255,7 +255,7 @@ ran_without words limit old new out s was = ran (run_between words limit old new
     unwritten (status.Wide h w) none = (none, refl)
 
 -- an answer leaves the run with Done or No
-ends_done_or_no : (a : Answer) → (status_behind a ≡ status.Done) ⊎ (status_behind a ≡ status.No)
+ends_done_or_no : (a : CommandAnswer) → (status_behind a ≡ status.Done) ⊎ (status_behind a ≡ status.No)
 ends_done_or_no (answer.Rank r) = inl refl
 ends_done_or_no (answer.Matrix A) = inl refl
 ends_done_or_no (answer.Solution x) = inl refl
@@ -271,11 +271,11 @@ ends_done_or_no (answer.Verdict false) = inr refl
 ends_done_or_no (answer.Script answers) = inl refl
 
 -- the answer was written
-written : (r : Run) (input : Input) (a : Answer) (s : Status) → status_behind a ≡ s → IsAnswered r.words r.limit input (answer_text a) (status_behind a) → Gained (answer_text a) r.out r.out_after →
+written : (r : Run) (input : Input) (a : CommandAnswer) (s : Status) → status_behind a ≡ s → IsAnswered r.words r.limit input (answer_text a) (status_behind a) → Gained (answer_text a) r.out r.out_after →
     HasWritten r input s
 written r input a s e found gained = (answer_text a, subst (IsAnswered r.words r.limit input (answer_text a)) e found, gained)
 
-ran_written : (words : List (List ℕ)) (limit : ℕ) (old new : SourceState) (out out' : SinkState) (a : Answer) → WasFound words limit (Ok a) old new → Gained (answer_text a) out out' →
+ran_written : (words : List (List ℕ)) (limit : ℕ) (old new : SourceState) (out out' : SinkState) (a : CommandAnswer) → WasFound words limit (Ok a) old new → Gained (answer_text a) out out' →
     (status_behind a ≡ status.Done) ⊎ (status_behind a ≡ status.No) → Ran (run_between words limit old new out out') (status_behind a)
 ran_written words limit old new out out' a was gained (inl e) =
     let r = run_between words limit old new out out' in
@@ -285,23 +285,23 @@ ran_written words limit old new out out' a was gained (inr e) =
     subst (Ran r) (sym e) (ran r was.input status.No was.draws (written r was.input a status.No e was.found gained))
 
 -- an answer was found and written, or a part of it
-pub ran_done : (words : List (List ℕ)) (limit : ℕ) (old new : SourceState) (out out' : SinkState) (a : Answer) (s : Status) → s ≡ status_behind a → WasFound words limit (Ok a) old new →
+pub ran_done : (words : List (List ℕ)) (limit : ℕ) (old new : SourceState) (out out' : SinkState) (a : CommandAnswer) (s : Status) → s ≡ status_behind a → WasFound words limit (Ok a) old new →
     Gained (answer_text a) out out' → Ran (run_between words limit old new out out') s
 ran_done words limit old new out out' a s is was gained =
     subst (Ran (run_between words limit old new out out')) (sym is) (ran_written words limit old new out out' a was gained (ends_done_or_no a))
 
-pub ran_failed : (words : List (List ℕ)) (limit : ℕ) (old new : SourceState) (out out' : SinkState) (a : Answer) (fault : WriteFault) → WasFound words limit (Ok a) old new →
+pub ran_failed : (words : List (List ℕ)) (limit : ℕ) (old new : SourceState) (out out' : SinkState) (a : CommandAnswer) (fault : WriteFault) → WasFound words limit (Ok a) old new →
     Writes (Err fault) (answer_text a) out out' → Ran (run_between words limit old new out out') status.WriteFault
 ran_failed words limit old new out out' a fault was (part, rest, cut, gained) =
     ran (run_between words limit old new out out') was.input status.WriteFault was.draws
     (part, rest, status_behind a, subst (λ t. IsAnswered words limit was.input t (status_behind a)) cut was.found, gained)
 
 -- no run whose answer was written has a status of one that wrote nothing
-pub behind_is_written : (a : Answer) → is_written (status_behind a) ≡ true
+pub behind_is_written : (a : CommandAnswer) → is_written (status_behind a) ≡ true
 behind_is_written a = elim (ends_done_or_no a) [ inl e ↦ ap is_written e | inr e ↦ ap is_written e ]
 
 -- what was found and how it was written tell what the run did
-pub ran_of : (words : List (List ℕ)) (limit : ℕ) (old new : SourceState) (out out' : SinkState) (found : Result Answer Status) (s : Status) → WasFound words limit found old new →
+pub ran_of : (words : List (List ℕ)) (limit : ℕ) (old new : SourceState) (out out' : SinkState) (found : Result CommandAnswer Status) (s : Status) → WasFound words limit found old new →
     WasWritten found s out out' → Ran (run_between words limit old new out out') s
 ran_of words limit old new out out' (Ok a) s was written = elim written [
   | inl w ↦ ran_done words limit old new out out' a s w.0 was w.1
@@ -310,8 +310,8 @@ ran_of words limit old new out out' (Ok a) s was written = elim written [
 ran_of words limit old new out out' (Err e) s was written = rw written.0 (rw written.1 (ran_without words limit old new out e was))
 
 -- a whole text, and a first part of it, are what an answer that was found has written
-pub whole_written : {found : Result Answer Status} {a : Answer} {s : Status} (old new : SinkState) → found ≡ Ok a → s ≡ status_behind a → Writes (Ok tt) (answer_text a) old new → WasWritten found s old new
+pub whole_written : {found : Result CommandAnswer Status} {a : CommandAnswer} {s : Status} (old new : SinkState) → found ≡ Ok a → s ≡ status_behind a → Writes (Ok tt) (answer_text a) old new → WasWritten found s old new
 whole_written {found} {a} {s} old new is ends writes = subst (λ f. WasWritten f s old new) (sym is) (inl (ends, writes))
 
-pub part_written : {found : Result Answer Status} {a : Answer} {fault : WriteFault} (old new : SinkState) → found ≡ Ok a → Writes (Err fault) (answer_text a) old new → WasWritten found status.WriteFault old new
+pub part_written : {found : Result CommandAnswer Status} {a : CommandAnswer} {fault : WriteFault} (old new : SinkState) → found ≡ Ok a → Writes (Err fault) (answer_text a) old new → WasWritten found status.WriteFault old new
 part_written {found} {a} {fault} old new is writes = subst (λ f. WasWritten f status.WriteFault old new) (sym is) (inr (fault, refl, writes))

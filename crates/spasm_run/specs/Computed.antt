@@ -11,8 +11,8 @@ use Rattle.sms_text.specs.Stream.{SinkState, SourceState}
 use Rattle.sms_text.specs.Writing.{Writes}
 use Rattle.sms_text.specs.Written.{IsSmallPlace, text_of}
 use Rattle.grow_form.specs.Scripts.{AnswerFitsText, answers_text, rank_line}
-use Rattle.spasm_run.specs.declared.answer.Answer.{Answer}
-use Rattle.spasm_run.specs.declared.answer.Answer.TheVariants as answer
+use Rattle.spasm_run.specs.declared.command_answer.CommandAnswer.{CommandAnswer}
+use Rattle.spasm_run.specs.declared.command_answer.CommandAnswer.TheVariants as answer
 use Rattle.spasm_run.specs.declared.status.Status.{Status}
 use Rattle.spasm_run.specs.declared.status.Status.TheVariants as status
 use Rattle.spasm_run.specs.declared.words.Command.{Command}
@@ -27,7 +27,7 @@ use Rattle.spasm_run.specs.Shapes.{HasAnswerShape}
 use Rattle.spasm_run.specs.Status.{is_unread}
 
 -- the text of an answer
-abbrev pub answer_text : Answer → List ℕ
+abbrev pub answer_text : CommandAnswer → List ℕ
 answer_text (answer.Rank r) = rank_line r
 answer_text (answer.Matrix A) = text_of A.matrix
 answer_text (answer.Solution x) = codes "solution\n" ++ text_of x.matrix
@@ -42,7 +42,7 @@ answer_text (answer.Verdict valid) = if valid then codes "yes\n" else codes "no\
 answer_text (answer.Script answers) = answers_text answers.items
 
 -- the status of a run that wrote this answer
-abbrev pub status_behind : Answer → Status
+abbrev pub status_behind : CommandAnswer → Status
 status_behind (answer.Verdict valid) = if valid then status.Done else status.No
 status_behind a = status.Done
 
@@ -50,7 +50,7 @@ status_behind a = status.Done
 abbrev pub HasSmallSizes : Matrix → Type 0
 HasSmallSizes A = (A.height < LARGEST_SIZE) × (A.width < LARGEST_SIZE)
 
-abbrev pub IsSmall : Answer → Type 0
+abbrev pub IsSmall : CommandAnswer → Type 0
 IsSmall (answer.Rank r) = Unit {0}
 IsSmall (answer.Matrix A) = HasSmallSizes A.matrix
 IsSmall (answer.Solution x) = HasSmallSizes x.matrix
@@ -74,7 +74,7 @@ IsOfSizes (task.Drill g) = HasSizesInRange g
 IsOfSizes t = Unit {0}
 
 -- the answer to a command for what was read, with matrices of the shapes that are wanted
-pub record IsAnswerTo (c : Command) (said : Contents) (a : Answer) : Type 0 where
+pub record IsAnswerTo (c : Command) (said : Contents) (a : CommandAnswer) : Type 0 where
   pub small : IsSmall a
   pub fits : misfit c.task said.matrices ≡ None
   pub shape : HasAnswerShape c.task c.modulus said.matrices (answer_text a)
@@ -82,7 +82,7 @@ pub record IsAnswerTo (c : Command) (said : Contents) (a : Answer) : Type 0 wher
   pub ends : EndsWith c.task c.modulus said (status_behind a)
 
 -- what comes of a command for what was read: its answer; or its matrices are refused for their shapes; or memory was wanted
-abbrev pub ComesOfContents : Command → Contents → Result Answer Status → Type 0
+abbrev pub ComesOfContents : Command → Contents → Result CommandAnswer Status → Type 0
 ComesOfContents c said (Ok a) = IsAnswerTo c said a
 ComesOfContents c said (Err (status.Shape h w)) = misfit c.task said.matrices ≡ Some (status.Shape h w)
 ComesOfContents c said (Err (status.Wide h w)) = misfit c.task said.matrices ≡ Some (status.Wide h w)
@@ -90,22 +90,22 @@ ComesOfContents c said (Err status.Memory) = Unit {0}
 ComesOfContents c said (Err _) = ⊥
 
 -- the same for matrices alone
-abbrev pub ComesOf : Command → List Matrix → Result Answer Status → Type 0
+abbrev pub ComesOf : Command → List Matrix → Result CommandAnswer Status → Type 0
 ComesOf c values result = ComesOfContents c (matrices_alone values) result
 
 -- whether the source failed
-abbrev pub is_unread_in : Result Answer Status → Bool
+abbrev pub is_unread_in : Result CommandAnswer Status → Bool
 is_unread_in (Ok a) = false
 is_unread_in (Err s) = is_unread s
 
 -- the answer that was found for these words in an input, or why there is none
-abbrev pub IsFoundIn : List (List ℕ) → ℕ → Input → Result Answer Status → Type 0
+abbrev pub IsFoundIn : List (List ℕ) → ℕ → Input → Result CommandAnswer Status → Type 0
 IsFoundIn words limit input (Ok a) = IsAnswered words limit input (answer_text a) (status_behind a)
 IsFoundIn words limit input (Err s) = HasNoAnswer words limit input s
 
 -- The answer that was found for these words, or why there is none, in the input that was taken from a source, of which nothing was asked
 -- before; the last pull of it was needed.
-pub record WasFound (words : List (List ℕ)) (limit : ℕ) (result : Result Answer Status)
+pub record WasFound (words : List (List ℕ)) (limit : ℕ) (result : Result CommandAnswer Status)
     (old new : SourceState) : Type 0 where
   pub input : Input
   pub draws : Draws (AreTooFew words limit) (is_unread_in result) input.bytes
@@ -113,7 +113,7 @@ pub record WasFound (words : List (List ℕ)) (limit : ℕ) (result : Result Ans
   pub found : IsFoundIn words limit input result
 
 -- How a run ends that found this, and what its output gained: an answer's whole text, or a first part of it; nothing if there is no answer.
-abbrev pub WasWritten : Result Answer Status → Status → SinkState → SinkState → Type 0
+abbrev pub WasWritten : Result CommandAnswer Status → Status → SinkState → SinkState → Type 0
 WasWritten (Ok a) s old new = ((s ≡ status_behind a) × Writes (Ok tt) (answer_text a) old new)
     ⊎ ((fault : WriteFault) × (s ≡ status.WriteFault) × Writes (Err fault) (answer_text a) old new)
 WasWritten (Err e) s old new = (s ≡ e) × (new ≡ old)

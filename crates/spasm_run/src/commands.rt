@@ -10,7 +10,7 @@ ghost use Rattle.spasm_run.specs.Generator.{HasSizesInRange};
 ghost use Rattle.spasm_run.specs.declared.words.Command.{Command};
 ghost use Rattle.spasm_run.specs.declared.words.Task.TheVariants as task;
 
-use crate::answer::Answer;
+use crate::command_answer::CommandAnswer;
 use crate::generator::Generator;
 use crate::status::Status;
 use crate::summary::Summary;
@@ -81,7 +81,7 @@ pub(crate) fn find_of_matrix<R: Threads + Sync, G: Gate>(
     a: &Rows,
     command: Command,
     gate: &G,
-) -> Result<Answer, Status>
+) -> Result<CommandAnswer, Status>
     requires some { 1 ≤ command.workers }
     requires height { a.now.matrix.height < LARGEST_SIZE }
     requires width { a.now.matrix.width < LARGEST_SIZE }
@@ -108,12 +108,12 @@ fn find_rank<R: Threads + Sync, G: Gate>(
     a: &Rows,
     command: Command,
     gate: &G,
-) -> Result<Answer, Status>
+) -> Result<CommandAnswer, Status>
     requires some { 1 ≤ command.workers }
     ensures { ComesOf (asking task.Rank a.now.modulus command) (a.now.matrix ∷ []) result }
 {
     let rank = spasm_lib::rank(team_of(rt, alloc, a, command, gate), a)?;
-    Ok(Answer::Rank(u64::from(rank)))
+    Ok(CommandAnswer::Rank(u64::from(rank)))
 }
 
 // The structural pivots of a matrix in triangular order.
@@ -123,14 +123,14 @@ fn find_pivots<R: Threads + Sync, G: Gate>(
     a: &Rows,
     command: Command,
     gate: &G,
-) -> Result<Answer, Status>
+) -> Result<CommandAnswer, Status>
     requires some { 1 ≤ command.workers }
     requires height { a.now.matrix.height < LARGEST_SIZE }
     requires width { a.now.matrix.width < LARGEST_SIZE }
     ensures { ComesOf (asking task.Pivots a.now.modulus command) (a.now.matrix ∷ []) result }
 {
     let pairs = spasm_lib::pivots(team_of(rt, alloc, a, command, gate), a)?;
-    Ok(Answer::Pivots(pairs))
+    Ok(CommandAnswer::Pivots(pairs))
 }
 
 // The echelon form of a matrix.
@@ -140,13 +140,13 @@ fn find_form<R: Threads + Sync, G: Gate>(
     a: &Rows,
     command: Command,
     gate: &G,
-) -> Result<Answer, Status>
+) -> Result<CommandAnswer, Status>
     requires some { 1 ≤ command.workers }
     requires width { a.now.matrix.width < LARGEST_SIZE }
     ensures { ComesOf (asking task.Rref a.now.modulus command) (a.now.matrix ∷ []) result }
 {
     let form = spasm_lib::rref(team_of(rt, alloc, a, command, gate), a)?;
-    Ok(Answer::Matrix(form))
+    Ok(CommandAnswer::Matrix(form))
 }
 
 // A summary of the echelon form of a matrix that is generated modulo p.
@@ -157,14 +157,14 @@ pub(crate) fn find_summary<R: Threads + Sync, G: Gate>(
     generator: &Generator,
     command: Command,
     gate: &G,
-) -> Result<Answer, Status>
+) -> Result<CommandAnswer, Status>
     requires some { 1 ≤ command.workers }
     requires sizes { HasSizesInRange generator.now }
     ensures { ComesOf (asking (task.Drill generator.now) p.now command) [] result }
 {
     let a = generator.matrix(alloc, p)?;
     let form = spasm_lib::rref(team_of(rt, alloc, &a, command, gate), &a)?;
-    Ok(Answer::Summary(Summary::of(&form)))
+    Ok(CommandAnswer::Summary(Summary::of(&form)))
 }
 
 // The kernel basis of a matrix.
@@ -174,13 +174,13 @@ fn find_kernel<R: Threads + Sync, G: Gate>(
     a: &Rows,
     command: Command,
     gate: &G,
-) -> Result<Answer, Status>
+) -> Result<CommandAnswer, Status>
     requires some { 1 ≤ command.workers }
     requires width { a.now.matrix.width < LARGEST_SIZE }
     ensures { ComesOf (asking task.Kernel a.now.modulus command) (a.now.matrix ∷ []) result }
 {
     let basis = spasm_lib::kernel(team_of(rt, alloc, a, command, gate), a)?;
-    Ok(Answer::Matrix(basis))
+    Ok(CommandAnswer::Matrix(basis))
 }
 
 // The kernel basis of the transposed matrix.
@@ -190,13 +190,13 @@ fn find_left_kernel<R: Threads + Sync, G: Gate>(
     a: &Rows,
     command: Command,
     gate: &G,
-) -> Result<Answer, Status>
+) -> Result<CommandAnswer, Status>
     requires some { 1 ≤ command.workers }
     requires height { a.now.matrix.height < LARGEST_SIZE }
     ensures { ComesOf (asking task.LeftKernel a.now.modulus command) (a.now.matrix ∷ []) result }
 {
     let basis = spasm_lib::left_kernel(team_of(rt, alloc, a, command, gate), a)?;
-    Ok(Answer::Matrix(basis))
+    Ok(CommandAnswer::Matrix(basis))
 }
 
 // The inverse of a matrix, or a null vector. A matrix that isn't square is refused, and one of more than 2^30 rows.
@@ -206,7 +206,7 @@ fn find_inverse<R: Threads + Sync, G: Gate>(
     a: &Rows,
     command: Command,
     gate: &G,
-) -> Result<Answer, Status>
+) -> Result<CommandAnswer, Status>
     requires some { 1 ≤ command.workers }
     ensures { ComesOf (asking task.Inverse a.now.modulus command) (a.now.matrix ∷ []) result }
 {
@@ -219,8 +219,8 @@ fn find_inverse<R: Threads + Sync, G: Gate>(
         return Err(Status::Wide { height, width });
     }
     match spasm_lib::inverse(team_of(rt, alloc, a, command, gate), a)? {
-        Inverse::Found(b) => Ok(Answer::Inverse(b)),
-        Inverse::Singular(v) => Ok(Answer::Singular(v)),
+        Inverse::Found(b) => Ok(CommandAnswer::Inverse(b)),
+        Inverse::Singular(v) => Ok(CommandAnswer::Singular(v)),
     }
 }
 
@@ -232,7 +232,7 @@ pub(crate) fn find_solution<R: Threads + Sync, G: Gate>(
     b: &Rows,
     command: Command,
     gate: &G,
-) -> Result<Answer, Status>
+) -> Result<CommandAnswer, Status>
     requires some { 1 ≤ command.workers }
     requires moduli { a.now.modulus ≡ b.now.modulus }
     requires height { a.now.matrix.height < LARGEST_SIZE }
@@ -245,8 +245,8 @@ pub(crate) fn find_solution<R: Threads + Sync, G: Gate>(
         return Err(Status::Shape { height, width });
     }
     match spasm_lib::solve(team_of(rt, alloc, a, command, gate), a, b)? {
-        Solution::Found(x) => Ok(Answer::Solution(x)),
-        Solution::Refuted(y) => Ok(Answer::Refutation(y)),
+        Solution::Found(x) => Ok(CommandAnswer::Solution(x)),
+        Solution::Refuted(y) => Ok(CommandAnswer::Refutation(y)),
     }
 }
 
@@ -258,14 +258,14 @@ fn find_certificate<R: Threads + Sync, G: Gate>(
     kind: CertKind,
     command: Command,
     gate: &G,
-) -> Result<Answer, Status>
+) -> Result<CommandAnswer, Status>
     requires some { 1 ≤ command.workers }
     requires height { a.now.matrix.height < LARGEST_SIZE }
     requires width { a.now.matrix.width < LARGEST_SIZE }
     ensures { ComesOf (asking (task.Certify kind) a.now.modulus command) (a.now.matrix ∷ []) result }
 {
     let certificate = spasm_lib::certificate(team_of(rt, alloc, a, command, gate), a, kind)?;
-    Ok(Answer::Certificate(certificate))
+    Ok(CommandAnswer::Certificate(certificate))
 }
 
 // Whether a certificate is valid for a matrix, by multiplying: nothing is eliminated.
@@ -273,14 +273,14 @@ pub(crate) fn find_verdict(
     alloc: Global,
     a: &Rows,
     certificate: &Certificate,
-) -> Result<Answer, Status>
+) -> Result<CommandAnswer, Status>
     requires { IsFormed a.now.modulus certificate.now }
     ensures comes { (c : Command) (said : Contents) → AreToCheck a.now certificate.now said
         → ComesOfContents (asking task.Check a.now.modulus c) said result }
     ensures small { IfOk result IsSmall }
 {
     let valid = spasm_lib::check(alloc, a, certificate)?;
-    Ok(Answer::Verdict(valid))
+    Ok(CommandAnswer::Verdict(valid))
 }
 
 // What a search published that begins with the leftmost pivots, in its order.
@@ -290,7 +290,7 @@ fn find_trace<R: Threads + Sync, G: Gate>(
     a: &Rows,
     command: Command,
     gate: &G,
-) -> Result<Answer, Status>
+) -> Result<CommandAnswer, Status>
     requires some { 1 ≤ command.workers }
     requires height { a.now.matrix.height < LARGEST_SIZE }
     requires width { a.now.matrix.width < LARGEST_SIZE }
@@ -298,15 +298,19 @@ fn find_trace<R: Threads + Sync, G: Gate>(
 {
     let workers = fitting_workers(a, command.workers);
     let trace = trace_of(rt, alloc, a, workers, gate)?;
-    Ok(Answer::Trace(trace))
+    Ok(CommandAnswer::Trace(trace))
 }
 
 // Whether a trace is lawful for a matrix, by a walk for each of its publications.
-pub(crate) fn find_lawfulness(alloc: Global, a: &Rows, trace: &Trace) -> Result<Answer, Status>
+pub(crate) fn find_lawfulness(
+    alloc: Global,
+    a: &Rows,
+    trace: &Trace,
+) -> Result<CommandAnswer, Status>
     ensures comes { (c : Command) (said : Contents) → AreToReplay a.now trace.now said
         → ComesOfContents (asking task.Replay a.now.modulus c) said result }
     ensures small { IfOk result IsSmall }
 {
     let lawful = replay(alloc, a, trace)?;
-    Ok(Answer::Verdict(lawful))
+    Ok(CommandAnswer::Verdict(lawful))
 }

@@ -1,7 +1,7 @@
 //! The top call of the program: from words and bytes to an answer.
 #![tactic(auto)]
 
-mod answer;
+mod command_answer;
 mod commands;
 mod generator;
 mod numbered_text;

@@ -9,7 +9,7 @@ ghost use Rattle.spasm_run.specs.Ran.{Ran, WantNothing};
 ghost use Rattle.spasm_run.specs.Status.{SaysWhy, is_answered, is_written};
 ghost use Rattle.spasm_run.specs.Words.{Accepted};
 
-use crate::answer::Answer;
+use crate::command_answer::CommandAnswer;
 use crate::commands::{find_lawfulness, find_of_matrix, find_solution, find_summary, find_verdict};
 use crate::read_matrices::{read_and_answer, read_one, read_to_check, read_to_replay, read_two};
 use crate::status::Status;
@@ -86,7 +86,7 @@ pub fn run_within<'a, R: Threads + Sync, S: Source, K: Sink, E: Sink, G: Gate>(
 }
 
 // Writes the answer that was found, and tells how the run ends.
-fn write_found<K: Sink>(out: &mut K, found: Result<Answer, Status>) -> Status
+fn write_found<K: Sink>(out: &mut K, found: Result<CommandAnswer, Status>) -> Status
     requires { IfOk found IsSmall }
     ensures written { WasWritten found result (K.state out.old) (K.state out.new) }
     ensures unwritten { is_written result ≡ false → out.new ≡ out.old }
@@ -108,7 +108,7 @@ fn find<'a, R: Threads + Sync, S: Source, G: Gate>(
     source: &mut S,
     gate: &G,
     limit: u64,
-) -> Result<Answer, Status>
+) -> Result<CommandAnswer, Status>
     requires { limit ≤ LARGEST_INPUT }
     ensures found { WasFound (bytes_of words.now) limit result (S.state source.old) (S.state source.new) }
     ensures unread { WantNothing (bytes_of words.now) → source.new ≡ source.old }
@@ -129,7 +129,7 @@ fn find_for<R: Threads + Sync, S: Source, G: Gate>(
     source: &mut S,
     gate: &G,
     limit: u64,
-) -> Result<Answer, Status>
+) -> Result<CommandAnswer, Status>
     requires limit { limit ≤ LARGEST_INPUT }
     requires two_or_more { 2 ≤ command.modulus }
     requires in_range { command.modulus < MODULUS_BOUND }
@@ -156,7 +156,7 @@ fn find_for<R: Threads + Sync, S: Source, G: Gate>(
         }
         Task::Grow => {
             let answers = read_and_answer(alloc, &p, source, limit)?;
-            Ok(Answer::Script(answers))
+            Ok(CommandAnswer::Script(answers))
         }
         Task::Drill(generator) => find_summary(rt, alloc, &p, &generator, command, gate),
         _ => {

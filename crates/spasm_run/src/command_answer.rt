@@ -15,7 +15,7 @@ use sparse_rows::Rows;
 
 // What is answered to a command.
 #[derive(Drop)]
-pub(crate) enum Answer {
+pub(crate) enum CommandAnswer {
     // The rank of a matrix.
     Rank(u64),
     // The echelon form or a kernel basis of a matrix.
@@ -42,7 +42,7 @@ pub(crate) enum Answer {
     Script(Vec<grow_form::Answer>),
 }
 
-impl Answer {
+impl CommandAnswer {
     ghost use Rattle.spasm_run.specs.Computed.{IsSmall, answer_text, status_behind};
 
     // Writes the answer. It takes no memory.
@@ -51,19 +51,19 @@ impl Answer {
         ensures { Writes result (answer_text self.now) (K.state out.old) (K.state out.new) }
     {
         match self {
-            Answer::Rank(rank) => write_line(out, "rank ", *rank),
-            Answer::Matrix(rows) => write_rows(out, rows),
-            Answer::Solution(x) => write_titled(out, "solution\n", x),
-            Answer::Refutation(y) => write_titled(out, "no solution\n", y),
-            Answer::Inverse(b) => write_titled(out, "inverse\n", b),
-            Answer::Singular(v) => write_titled(out, "singular\n", v),
-            Answer::Pivots(pairs) => write_pivots(out, pairs),
-            Answer::Summary(summary) => summary.write(out),
-            Answer::Certificate(certificate) => certificates::write(out, certificate),
-            Answer::Trace(trace) => run_trace::write(out, trace),
-            Answer::Verdict(true) => write_text(out, "yes\n"),
-            Answer::Verdict(false) => write_text(out, "no\n"),
-            Answer::Script(answers) => write_answers(out, answers),
+            CommandAnswer::Rank(rank) => write_line(out, "rank ", *rank),
+            CommandAnswer::Matrix(rows) => write_rows(out, rows),
+            CommandAnswer::Solution(x) => write_titled(out, "solution\n", x),
+            CommandAnswer::Refutation(y) => write_titled(out, "no solution\n", y),
+            CommandAnswer::Inverse(b) => write_titled(out, "inverse\n", b),
+            CommandAnswer::Singular(v) => write_titled(out, "singular\n", v),
+            CommandAnswer::Pivots(pairs) => write_pivots(out, pairs),
+            CommandAnswer::Summary(summary) => summary.write(out),
+            CommandAnswer::Certificate(certificate) => certificates::write(out, certificate),
+            CommandAnswer::Trace(trace) => run_trace::write(out, trace),
+            CommandAnswer::Verdict(true) => write_text(out, "yes\n"),
+            CommandAnswer::Verdict(false) => write_text(out, "no\n"),
+            CommandAnswer::Script(answers) => write_answers(out, answers),
         }
     }
 
@@ -72,7 +72,7 @@ impl Answer {
         ensures { result ≡ status_behind self.now }
     {
         match self {
-            Answer::Verdict(false) => Status::No,
+            CommandAnswer::Verdict(false) => Status::No,
             _ => Status::Done,
         }
     }
