@@ -12,8 +12,8 @@ mod counts;
 mod factored;
 mod rounds;
 mod searched;
-mod task;
 mod texts;
+mod timing;
 
 use added_rows::time_additions;
 use certified::time_certificate;
@@ -28,8 +28,8 @@ use std::process::ExitCode;
 use std::thread::Threads;
 use std::time::Clock;
 use std_edge::words_of;
-use task::Task;
 use texts::{time_reading, time_writing};
+use timing::Timing;
 
 // How many structural rounds there are, as the program has it without an option.
 const ROUNDS: u32 = 3;
@@ -38,7 +38,7 @@ fn main(rt: HostRuntime) -> ExitCode {
     let Ok(words) = words_of(&rt) else {
         return ExitCode::from(2);
     };
-    let task = Task::asked(&words);
+    let task = Timing::asked(&words);
     match perform(&rt, rt.alloc(), task, rt.stdin(), rt.stdout()) {
         Ok(()) => ExitCode::from(0),
         Err(_) => ExitCode::from(1),
@@ -49,35 +49,35 @@ fn main(rt: HostRuntime) -> ExitCode {
 fn perform<R: Threads + Sync + Clock + Print + Eprint, I: Read + Drop, O: Write + Drop>(
     rt: &R,
     alloc: Global,
-    task: Option<Task>,
+    task: Option<Timing>,
     input: I,
     output: O,
 ) -> io::Result<()> {
     match task {
-        Some(Task::Lanes) => time_additions(rt),
-        Some(Task::Factors(p, workers))
+        Some(Timing::Lanes) => time_additions(rt),
+        Some(Timing::Factors(p, workers))
             if 2 <= p && p < MODULUS_BOUND && 1 <= workers && workers <= 64 => {
             time_factors(rt, alloc, input, &Modulus::new(p), workers)
         }
-        Some(Task::Pivots(workers)) if 1 <= workers && workers <= 64 => {
+        Some(Timing::Pivots(workers)) if 1 <= workers && workers <= 64 => {
             time_pivots(rt, alloc, input, workers)
         }
-        Some(Task::Rounds(workers)) if 1 <= workers && workers <= 64 => {
+        Some(Timing::Rounds(workers)) if 1 <= workers && workers <= 64 => {
             let plan = Plan {
                 workers,
                 rounds: ROUNDS,
             };
             time_rounds(rt, alloc, input, plan)
         }
-        Some(Task::Walks) => time_walks(rt, alloc, input),
-        Some(Task::Board(workers)) if 1 <= workers && workers <= 64 => {
+        Some(Timing::Walks) => time_walks(rt, alloc, input),
+        Some(Timing::Board(workers)) if 1 <= workers && workers <= 64 => {
             time_board(rt, alloc, input, workers)
         }
-        Some(Task::Certified) => time_certificate(rt, alloc, input, ROUNDS),
-        Some(Task::Read(p)) if 2 <= p && p < MODULUS_BOUND => {
+        Some(Timing::Certified) => time_certificate(rt, alloc, input, ROUNDS),
+        Some(Timing::Read(p)) if 2 <= p && p < MODULUS_BOUND => {
             time_reading(rt, alloc, input, &Modulus::new(p))
         }
-        Some(Task::Write(p)) if 2 <= p && p < MODULUS_BOUND => {
+        Some(Timing::Write(p)) if 2 <= p && p < MODULUS_BOUND => {
             time_writing(rt, alloc, input, output, &Modulus::new(p))
         }
         _ => println!(rt;

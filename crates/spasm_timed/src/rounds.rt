@@ -18,7 +18,7 @@ use triangular_solve::Triangle;
 // How many microseconds a round's search and its complement take, how many pivots it finds, and how many rows, columns and entries
 // it leaves.
 #[derive(Clone, Copy)]
-struct Round {
+struct TimedRound {
     search: u128,
     elimination: u128,
     found: usize,
@@ -75,7 +75,7 @@ fn time_round<R: Threads + Sync + Clock + Print>(
     let search = start.elapsed(rt)?.as_micros();
     let found = triangle.pairs().len();
     let (rest, elimination) = left(rt, alloc, &triangle, workers)?;
-    let round = Round {
+    let round = TimedRound {
         search,
         elimination,
         found,
@@ -104,8 +104,8 @@ fn left<R: Threads + Sync + Clock>(
 }
 
 // Says what a round took.
-fn say<R: Print>(rt: &R, round: &Round) -> io::Result<()> {
-    let Round {
+fn say<R: Print>(rt: &R, round: &TimedRound) -> io::Result<()> {
+    let TimedRound {
         search,
         elimination,
         found,

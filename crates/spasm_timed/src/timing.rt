@@ -1,7 +1,7 @@
 // What is to be timed.
 
 #[derive(Clone, Copy, Debug)]
-pub(crate) enum Task {
+pub(crate) enum Timing {
     // Multiples of rows added, by lanes and plainly.
     Lanes,
     // The factors of the matrix on standard input modulo this, by so many workers.
@@ -22,24 +22,24 @@ pub(crate) enum Task {
     Write(u64),
 }
 
-impl Task {
+impl Timing {
     // What these words ask for, if they do.
-    pub(crate) fn asked(words: &[String]) -> Option<Task> {
+    pub(crate) fn asked(words: &[String]) -> Option<Timing> {
         let task = words.first()?.as_str();
         let first = number_at(words, 1);
         let second = number_at(words, 2);
         match (task, first, second) {
-            ("lanes", None, None) => Some(Task::Lanes),
+            ("lanes", None, None) => Some(Timing::Lanes),
             ("factors", Some(p), Some(workers)) => {
-                Some(Task::Factors(p, u32::try_from(workers).ok()?))
+                Some(Timing::Factors(p, u32::try_from(workers).ok()?))
             }
-            ("pivots", Some(workers), None) => Some(Task::Pivots(u32::try_from(workers).ok()?)),
-            ("walks", None, None) => Some(Task::Walks),
-            ("board", Some(workers), None) => Some(Task::Board(u32::try_from(workers).ok()?)),
-            ("rounds", Some(workers), None) => Some(Task::Rounds(u32::try_from(workers).ok()?)),
-            ("certified", None, None) => Some(Task::Certified),
-            ("read", Some(p), None) => Some(Task::Read(p)),
-            ("write", Some(p), None) => Some(Task::Write(p)),
+            ("pivots", Some(workers), None) => Some(Timing::Pivots(u32::try_from(workers).ok()?)),
+            ("walks", None, None) => Some(Timing::Walks),
+            ("board", Some(workers), None) => Some(Timing::Board(u32::try_from(workers).ok()?)),
+            ("rounds", Some(workers), None) => Some(Timing::Rounds(u32::try_from(workers).ok()?)),
+            ("certified", None, None) => Some(Timing::Certified),
+            ("read", Some(p), None) => Some(Timing::Read(p)),
+            ("write", Some(p), None) => Some(Timing::Write(p)),
             _ => None,
         }
     }
