@@ -10,10 +10,10 @@ ghost use Rattle.pivot_table.specs.Core.{meeting, opened, parting, splitting, jo
 ghost use Rattle.pivot_table.specs.History.{StandsOrIsDead, StartsWith};
 ghost use Rattle.pivot_table.specs.Rule.{rows_at};
 
-use crate::board_rule::{Both, Claim, Finish, Law, Look, Part, Publish};
+use crate::board_rule::{BoardLaw, BoardPart, Both, Claim, Finish, Look, Publish};
 use crate::board_words::{pair_at, read_cells, read_marks, read_starts, spell, word_of_pair};
 use crate::book::Book;
-use crate::closed::Closed;
+use crate::closed_board::ClosedBoard;
 use crate::marks::Marks;
 use crate::seat::Seat;
 use crate::starts::Starts;
@@ -41,7 +41,7 @@ pub enum Outcome {
 /// takes memory, and none waits for another thread. All but `close`, which goes over the words once, take constant time.
 #[derive(Drop)]
 pub struct Board<'a> {
-    table: Table<(), View, Book<'a>, Law, Global>,
+    table: Table<(), View, Book<'a>, BoardLaw, Global>,
     rows: &'a Rows,
     first: u64,
     pairs: Vec<Pair>,
@@ -201,7 +201,7 @@ impl<'a> Board<'a> {
         ensures seat { IsSeatOf self.now result }
         ensures chair { result.chair ≡ splitting seat.old.chair }
     {
-        let token = self.table.shared.split_seat::<Part>(&mut seat.token);
+        let token = self.table.shared.split_seat::<BoardPart>(&mut seat.token);
         Seat {
             token,
             seen: seat.seen,
@@ -237,7 +237,7 @@ impl<'a> Board<'a> {
     }
 
     /// Ends the board, and gives the history with what became of the rows.
-    pub fn close(self, seat: Seat) -> Closed<'a>
+    pub fn close(self, seat: Seat) -> ClosedBoard<'a>
         requires { IsSeatOf self seat }
         ensures rows { result.book.rows ≡ self.entry.rows }
         ensures room { HasRoom self.entry.rows.matrix result.book }
@@ -278,7 +278,7 @@ impl<'a> Board<'a> {
             &mut starts,
         );
         words.free();
-        Closed {
+        ClosedBoard {
             book: Book::of(rows, pairs),
             done: Marks::of(done),
             starts: Starts::of(first, starts),

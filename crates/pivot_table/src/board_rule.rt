@@ -8,9 +8,9 @@ use crate::view::View;
 use atomic_table::{Join, Play, Split, TableRule};
 
 // Between any two steps the words and the views spell a state that a run of the core reaches.
-pub(crate) struct Law;
+pub(crate) struct BoardLaw;
 
-impl<'a> TableRule<(), View, Book<'a>> for Law {
+impl<'a> TableRule<(), View, Book<'a>> for BoardLaw {
     ghost holds = { λ b. SpellsRun b.rows.matrix b.pairs };
 
     ghost first = { λ b. view b.rows.matrix true (opened b.pairs) };
@@ -40,9 +40,9 @@ impl Play<(), View> for Look {
     ghost then = { looked };
 }
 
-pub(crate) struct Part;
+pub(crate) struct BoardPart;
 
-impl Split<View> for Part {
+impl Split<View> for BoardPart {
     ghost left = { old_part };
 
     ghost right = { new_part };
