@@ -6,8 +6,8 @@ use Rattle.pivot_table.specs.History.{pair, Dead, LeastAlive}
 use Rattle.pivot_table.specs.Core.{Chair, claiming, publishing, finishing, meeting}
 use Rattle.pivot_table.specs.Board.{BoardState, SeatState, IsSeatOf}
 use Rattle.optimistic_search.specs.Walked.{Walked}
-use Rattle.optimistic_search.specs.declared.taken.Taken.{Taken}
-use Rattle.optimistic_search.specs.declared.taken.Taken.TheVariants as taken
+use Rattle.optimistic_search.specs.declared.taken_row.Taken.{Taken}
+use Rattle.optimistic_search.specs.declared.taken_row.Taken.TheVariants as taken
 
 -- the seat and the walk are of this board and have the same list; the row is in hand, unpublished, and open
 pub record IsTrying (b : BoardState) (s : SeatState) (w : Walked) (r : ℕ) : Type 0 where

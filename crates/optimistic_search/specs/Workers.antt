@@ -9,8 +9,8 @@ use Rattle.pivot_table.specs.History.{StandsOrIsDead}
 use Rattle.pivot_table.specs.Closing.{IsDone}
 use Rattle.optimistic_search.specs.Taking.{IsIdle}
 use Rattle.optimistic_search.specs.Walked.{Walked}
-use Rattle.optimistic_search.specs.declared.together.Team.{Team}
-use Rattle.optimistic_search.specs.declared.worker.Worker.{Worker}
+use Rattle.optimistic_search.specs.declared.team_search.Team.{Team}
+use Rattle.optimistic_search.specs.declared.search_worker.SearchWorker.{SearchWorker}
 
 -- seat and walk are idle
 abbrev pub AreIdle : BoardState → SeatState → Option Walked → Type 0
@@ -18,7 +18,7 @@ AreIdle b s None = ⊥
 AreIdle b s (Some w) = IsIdle b s w
 
 -- a worker that stands before its first row, or has gone through all rows
-abbrev pub IsWorkerOf : BoardState → Worker → Type 0
+abbrev pub IsWorkerOf : BoardState → SearchWorker → Type 0
 IsWorkerOf b w = AreIdle b w.seat w.walk × (w.from ≤ b.rows.matrix.height)
 
 -- the seat was split so often

@@ -6,7 +6,7 @@ ghost use Rattle.optimistic_search.specs.Versions.{AreOwnPlaces, TellsStarts};
 
 use crate::gate::Gate;
 use crate::narrow::{has_few_entries, search_by_entries};
-use crate::together::search_together;
+use crate::team_search::search_together;
 use crate::traced::Traced;
 use crate::versions::{own_places, started, version_room};
 use pivot_table::Book;

@@ -2,7 +2,7 @@ use Rattle.std.proofs.Common.{◌≡◌, ◌≤◌, vec_len, vec_capacity}
 use Rattle.std.specs.Prelude.{All}
 use Rattle.pivot_table.specs.Board.{IsSeatOf}
 use Rattle.optimistic_search.specs.Workers.{IsWorkerOf, with_parted}
-use Rattle.optimistic_search.proofs.together.prepared.Given as goal
+use Rattle.optimistic_search.proofs.team_search.prepared.Given as goal
 
 abbrev pub invariant-loop-number : goal.invariant-loop-number
 invariant-loop-number l = record {

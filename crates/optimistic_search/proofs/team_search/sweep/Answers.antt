@@ -4,7 +4,7 @@ use Rattle.sparse_rows.specs.Rows.{ResidueMatrix}
 use Rattle.pivot_table.specs.History.{StandsOrIsDead}
 use Rattle.optimistic_search.specs.Workers.{DoneAreSettled}
 use Rattle.optimistic_search.proofs.Working.{settled_maximal, settled_more, settled_since, starts_again}
-use Rattle.optimistic_search.proofs.together.sweep.Goals as goal
+use Rattle.optimistic_search.proofs.team_search.sweep.Goals as goal
 
 pub try_unless_done-requires-clause-done : goal.try_unless_done-requires-clause-done
 try_unless_done-requires-clause-done g c =

@@ -6,7 +6,7 @@ ghost use Rattle.optimistic_search.specs.Workers.{IsWorkerOf};
 use crate::gate::Gate;
 use crate::resting_walk::RestingWalk;
 use crate::steps::Steps;
-use crate::taken::take_row;
+use crate::taken_row::take_row;
 use crate::walk::Walk;
 use pivot_table::{Board, Seat};
 use std::marker::Brand;
@@ -15,7 +15,7 @@ use std::sync::ledger::{Blank, Ledger};
 // What one worker has: a seat at the board, a walk over what the seat has seen (None while it goes round), its number, the row that
 // it begins at, and how many steps it has taken, modulo 2^64.
 #[derive(Drop)]
-pub(crate) struct Worker<'a> {
+pub(crate) struct SearchWorker<'a> {
     pub(crate) seat: Seat,
     pub(crate) walk: Option<RestingWalk<'a>>,
     pub(crate) number: u32,
@@ -32,7 +32,7 @@ pub(crate) fn first_row(number: u32, workers: u32, height: u32) -> u32
     first.min(u64::from(height)) as u32
 }
 
-impl<'a> Worker<'a> {
+impl<'a> SearchWorker<'a> {
     // Takes a row.
     fn take_one<G: Gate, L: Ledger>(
         &mut self,

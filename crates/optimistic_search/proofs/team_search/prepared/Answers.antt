@@ -5,8 +5,8 @@ use Rattle.sparse_rows.specs.Rows.{ResidueMatrix}
 use Rattle.pivot_table.specs.Core.{Chair, parting}
 use Rattle.optimistic_search.specs.Walked.{Walked}
 use Rattle.optimistic_search.specs.Workers.{IsWorkerOf, with_parted}
-use Rattle.optimistic_search.specs.declared.worker.Worker.{Worker}
-use Rattle.optimistic_search.proofs.together.prepared.Goals as goal
+use Rattle.optimistic_search.specs.declared.search_worker.SearchWorker.{SearchWorker}
+use Rattle.optimistic_search.proofs.team_search.prepared.Goals as goal
 
 parted_more : (s first t : Chair) → s ≡ with_parted first s.parted → t ≡ parting s → t ≡ with_parted first t.parted
 parted_more s first t is e =
@@ -17,7 +17,7 @@ pub loop-number-preserved : goal.loop-number-preserved
 loop-number-preserved c =
     let inv = c.loop-number.invariant in
     let more = c.push_reserved.ensures in
-    let one : Worker = record { seat = c.split.result; walk = Some c.in_ok-rest.rest; number = c.loop-number.number; from = c.first_row.result; steps = 0 } in
+    let one : SearchWorker = record { seat = c.split.result; walk = Some c.in_ok-rest.rest; number = c.loop-number.number; from = c.first_row.result; steps = 0 } in
     let walk = c.in_ok-rest.ensures in
     let low = c.first_row.ensures in
     let height : c.height-height.result ≡ c.args.board.now.rows.matrix.height = c.height-height.ensures.value ∙ ap (λ (m : ResidueMatrix). m.matrix.height) c.rows.ensures in
@@ -33,7 +33,7 @@ loop-number-preserved c =
     ) in record {
       seat = c.split.ensures.old_seat;
       chair = parted_more c.loop-number.seat.chair c.args.seat.now.chair c.split.new.seat.chair inv.chair c.split.ensures.old_chair;
-      workers = subst (λ (l : List Worker). All (IsWorkerOf c.args.board.now) l) (sym more.items) (All-push (IsWorkerOf c.args.board.now) c.loop-number.workers.items one inv.workers own);
+      workers = subst (λ (l : List SearchWorker). All (IsWorkerOf c.args.board.now) l) (sym more.items) (All-push (IsWorkerOf c.args.board.now) c.loop-number.workers.items one inv.workers own);
       count = let n = inv.count in let m = more.len in omega arith;
       room = let r = inv.room in let m = more.capacity in omega arith;
     }

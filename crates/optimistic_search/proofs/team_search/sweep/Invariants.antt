@@ -1,6 +1,6 @@
 use Rattle.std.proofs.Common.{◌≡◌, ◌<◌, ℕ}
 use Rattle.pivot_table.specs.History.{StandsOrIsDead, StartsWith}
-use Rattle.optimistic_search.proofs.together.sweep.Given as goal
+use Rattle.optimistic_search.proofs.team_search.sweep.Given as goal
 
 abbrev pub invariant-loop-row : goal.invariant-loop-row
 invariant-loop-row g l = record {

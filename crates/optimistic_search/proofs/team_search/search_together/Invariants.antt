@@ -1,4 +1,4 @@
-use Rattle.optimistic_search.proofs.together.search_together.Given as goal
+use Rattle.optimistic_search.proofs.team_search.search_together.Given as goal
 
 abbrev pub ghosts-search_with : goal.ghosts-search_with
 ghosts-search_with g a = record { name = a.blank.name; parts = a.blank.parts }

@@ -8,8 +8,8 @@ ghost use Rattle.optimistic_search.specs.Workers.{DoneAreSettled, IsTeamOf, IsWo
 use crate::by_walk::{Search, follow};
 use crate::gate::Gate;
 use crate::resting_walk::RestingWalk;
+use crate::search_worker::{SearchWorker, first_row};
 use crate::steps::Steps;
-use crate::worker::{Worker, first_row};
 use pivot_table::{Board, Book, ClosedBoard, Marks, Seat, Starts};
 use std::alloc::{AllocError, Global};
 use std::marker::Brand;
@@ -32,7 +32,7 @@ fn prepared<'a>(
     board: &Board<'a>,
     seat: &mut Seat,
     count: u32,
-) -> Result<Vec<Worker<'a>>, AllocError>
+) -> Result<Vec<SearchWorker<'a>>, AllocError>
     requires seat { IsSeatOf board.now seat.old }
     requires rows { board.now.rows ≡ book.now.rows }
     requires seen { seat.old.chair.seen ≡ book.now.pairs }
@@ -44,7 +44,7 @@ fn prepared<'a>(
     let mut workers = Vec::with_capacity(alloc, count as usize)?;
     for number in 0..count {
         let rest = resting_over(alloc, book)?;
-        workers.push_reserved(Worker {
+        workers.push_reserved(SearchWorker {
             seat: board.split(seat),
             walk: Some(rest),
             number,
@@ -61,7 +61,7 @@ struct Team<'a> {
     board: Board<'a>,
     seat: Seat,
     rest: RestingWalk<'a>,
-    workers: Vec<Worker<'a>>,
+    workers: Vec<SearchWorker<'a>>,
 }
 
 // A board of the book's pairs with this many workers. It takes all memory that they need.
@@ -84,7 +84,7 @@ fn run_all<R: Threads + Sync, G: Gate>(
     rt: &R,
     board: &Board<'_>,
     gate: &G,
-    workers: &mut [Worker<'_>],
+    workers: &mut [SearchWorker<'_>],
 )
     requires { All (IsWorkerOf board.now) workers.old }
     ensures { All (IsWorkerOf board.now) workers.new }
@@ -97,7 +97,7 @@ fn run_all<R: Threads + Sync, G: Gate>(
         rt,
         workers,
         count,
-        &|_: usize, worker: &mut Worker<'_>|
+        &|_: usize, worker: &mut SearchWorker<'_>|
             requires { IsWorkerOf board.now worker.now }
             ensures { IsWorkerOf board.entry.now worker.exit.now }
         { worker.run(board, gate) },
@@ -105,7 +105,7 @@ fn run_all<R: Threads + Sync, G: Gate>(
 }
 
 // Takes the workers' seats over, and lets their walks go. Tells how many steps they took, modulo 2^64.
-fn join_all(board: &Board<'_>, seat: &mut Seat, workers: Vec<Worker<'_>>) -> u64
+fn join_all(board: &Board<'_>, seat: &mut Seat, workers: Vec<SearchWorker<'_>>) -> u64
     requires seat { IsSeatOf board.now seat.old }
     requires workers { All (IsWorkerOf board.now) workers.items }
     ensures { IsSeatOf board.now seat.new }
@@ -113,7 +113,7 @@ fn join_all(board: &Board<'_>, seat: &mut Seat, workers: Vec<Worker<'_>>) -> u64
     let mut workers = workers;
     let mut taken = 0u64;
     while let Some(worker) = workers.pop() {
-        let Worker {
+        let SearchWorker {
             seat: other,
             walk: _walk,
             number: _number,

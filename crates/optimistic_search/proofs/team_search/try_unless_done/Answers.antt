@@ -1,7 +1,7 @@
 use Rattle.std.proofs.Common.{[], sym}
 use Rattle.std.proofs.lemmas.List.{append-nil}
 use Rattle.optimistic_search.proofs.Searching.{tried_settled, tried_starts}
-use Rattle.optimistic_search.proofs.together.try_unless_done.Goals as goal
+use Rattle.optimistic_search.proofs.team_search.try_unless_done.Goals as goal
 
 pub returns-clause-begins : goal.returns-clause-begins
 returns-clause-begins g c =
