@@ -14,16 +14,16 @@ ghost use Rattle.dense_finish.specs.Pivots.{AddsPivot, AreEliminated, AreFound, 
 use crate::block::Block;
 use crate::dense::Dense;
 use crate::factors::{Factors, factors_of};
-use crate::found::Found;
 use crate::left_room::LeftRoom;
 use crate::panel::{PANEL, Panel, zeros_before};
 use crate::panel_step::PanelStep;
+use crate::panel_with_units::PanelWithUnits;
+use crate::piece_taker::PieceTaker;
 use crate::pivots::Pivots;
 use crate::reducing::Reducing;
 use crate::residue::Residue;
 use crate::share::{Share, Shares};
 use crate::split_work::Helping;
-use crate::taker::Taker;
 use crew::Threaded;
 use residue_words::{LANE_BOUND, Modulus};
 use sparse_rows::Rows;
@@ -143,7 +143,7 @@ impl<'a> Elimination<'a> {
             SplitBy self.now.p self.now.columns.now pivots block.old block.new) }
     {
         let mut pivots = Pivots::new(self.alloc, block.len(), self.columns, self.width, &self.p)?;
-        let mut found = Found::none(self.alloc, self.columns.len());
+        let mut found = PanelWithUnits::none(self.alloc, self.columns.len());
         let mut done = 0;
         while done < block.len() {
             let end = self.panel_end(done, block.len());
@@ -177,7 +177,7 @@ impl<'a> Elimination<'a> {
     // A share for the worker that finds pivots, and one for each that helps, of the rows in the queue at which the taker stands.
     pub(crate) fn shares_of<'q, W: Residue>(
         &self,
-        mut taker: Taker<'q, W>,
+        mut taker: PieceTaker<'q, W>,
     ) -> Result<Shares<'q, W>, AllocError>
         requires { 2 ≤ self.now.workers }
         ensures { IfOk result (AreNewShares taker.entry) }
@@ -192,11 +192,11 @@ impl<'a> Elimination<'a> {
     // Takes a panel's pivots out of the last rows, and finds those of these rows.
     pub(crate) fn reduce_and_find<W: Reducing>(
         &self,
-        found: &Found<W>,
+        found: &PanelWithUnits<W>,
         rows: RowRange,
         pivots: &mut Pivots,
         block: &mut [Dense<W>],
-    ) -> Result<Found<W>, AllocError>
+    ) -> Result<PanelWithUnits<W>, AllocError>
         requires modulus { W.serves self.now.p }
         requires rows { AreLastRowsOf block.old rows }
         requires ready { CanGoOn self.now.p self.now.columns.now
@@ -217,14 +217,14 @@ impl<'a> Elimination<'a> {
         rows: RowRange,
         pivots: &mut Pivots,
         block: &mut [Dense<W>],
-    ) -> Result<Found<W>, AllocError>
+    ) -> Result<PanelWithUnits<W>, AllocError>
         requires modulus { W.serves self.now.p }
         requires rows { AreRowsOf block.old rows }
         requires ready { HasReached self.now.p self.now.columns.now (stage pivots.old block.old rows.start) }
         ensures { IfOk result (λ found. FindsPart self.now.p self.now.columns.now
             (stage pivots.old block.old rows.start) (panel_stage pivots.new found block.new rows.end)) }
     {
-        let mut found = Found::none(self.alloc, self.columns.len());
+        let mut found = PanelWithUnits::none(self.alloc, self.columns.len());
         let mut done = rows.start;
         while done < rows.end {
             let part = RowRange {
@@ -244,7 +244,7 @@ impl<'a> Elimination<'a> {
         rows: RowRange,
         pivots: &mut Pivots,
         block: &mut [Dense<W>],
-    ) -> Result<Found<W>, AllocError>
+    ) -> Result<PanelWithUnits<W>, AllocError>
         requires modulus { W.serves self.now.p }
         requires rows { AreRowsOf block.old rows }
         requires ready { HasReached self.now.p self.now.columns.now (stage pivots.old block.old rows.start) }
@@ -252,7 +252,7 @@ impl<'a> Elimination<'a> {
             (stage pivots.old block.old rows.start) (panel_stage pivots.new found block.new rows.end)) }
     {
         let panel = self.find_pivots(rows, pivots, block)?;
-        let found = Found::of(self.alloc, panel, &self.p)?;
+        let found = PanelWithUnits::of(self.alloc, panel, &self.p)?;
         found.reduce_behind(block, rows.end, &self.p);
         Ok(found)
     }

@@ -7,9 +7,10 @@ ghost use Rattle.dense_finish.specs.Pivots.{CanGoOn, FindsPanel, panel_stage};
 
 use crate::dense::Dense;
 use crate::elimination::{Elimination, RowRange};
-use crate::found::Found;
 use crate::left_room::LeftRoom;
 use crate::panel::PANEL;
+use crate::panel_with_units::PanelWithUnits;
+use crate::piece_taker::PieceTaker;
 use crate::pieces::{Piece, put_pieces, with_pieces};
 use crate::pivots::Pivots;
 use crate::reducing::Reducing;
@@ -17,7 +18,6 @@ use crate::residue::Residue;
 use crate::share::Shares;
 use crate::shared_pieces::queue_of;
 use crate::split_work::Helping;
-use crate::taker::Taker;
 use std::alloc::AllocError;
 use std::thread::{Threads, join_mut};
 
@@ -30,7 +30,7 @@ const AHEAD: usize = 16 * PANEL;
 #[derive(Drop)]
 pub struct PanelStep<'a, W: Residue> {
     pub(crate) elimination: &'a Elimination<'a>,
-    pub(crate) found: Found<W>,
+    pub(crate) found: PanelWithUnits<W>,
     pub(crate) rows: RowRange,
 }
 
@@ -43,7 +43,7 @@ impl<'a, W: Reducing> PanelStep<'a, W> {
         pivots: &mut Pivots,
         block: &mut [Dense<W>],
         left: &mut LeftRoom,
-    ) -> Result<Found<W>, AllocError>
+    ) -> Result<PanelWithUnits<W>, AllocError>
         requires able { C.can_work }
         requires modulus { W.serves self.now.elimination.now.p }
         requires rows { AreRowsOf block.old self.now.rows }
@@ -68,7 +68,7 @@ impl<'a, W: Reducing> PanelStep<'a, W> {
         pivots: &mut Pivots,
         block: &mut [Dense<W>],
         left: &mut LeftRoom,
-    ) -> Result<Found<W>, AllocError>
+    ) -> Result<PanelWithUnits<W>, AllocError>
         requires able { C.can_work }
         requires modulus { W.serves self.now.elimination.now.p }
         requires rows { AreRowsOf block.old self.now.rows }
@@ -92,7 +92,7 @@ impl<'a, W: Reducing> PanelStep<'a, W> {
         pivots: &mut Pivots,
         own: &mut [Dense<W>],
         others: &mut [Dense<W>],
-    ) -> Result<Found<W>, AllocError>
+    ) -> Result<PanelWithUnits<W>, AllocError>
         requires modulus { W.serves self.now.elimination.now.p }
         requires rows { AreLastRowsOf own.old self.now.rows }
         requires ready { CanGoOn self.now.elimination.now.p self.now.elimination.now.columns.now
@@ -119,7 +119,7 @@ impl<'a, W: Reducing> PanelStep<'a, W> {
         own: &mut [Dense<W>],
         others: &mut [Dense<W>],
         left: &mut LeftRoom,
-    ) -> Result<Found<W>, AllocError>
+    ) -> Result<PanelWithUnits<W>, AllocError>
         requires modulus { W.serves self.now.elimination.now.p }
         requires several { 2 ≤ self.now.elimination.now.workers }
         requires some { 0 < length others.old }
@@ -135,7 +135,7 @@ impl<'a, W: Reducing> PanelStep<'a, W> {
             PanelReducesEach self.now.elimination.now.p self.now.found.panel others.old others.new) }
     {
         let (queue, pass) = queue_of(self.elimination.alloc, others)?;
-        let shares = self.elimination.shares_of(Taker::new(&queue, pass))?;
+        let shares = self.elimination.shares_of(PieceTaker::new(&queue, pass))?;
         let (next, pieces) = self.find_and_reduce(rt, pivots, own, shares, left)?;
         put_pieces(pieces, others)?;
         Ok(next)
@@ -149,7 +149,7 @@ impl<'a, W: Reducing> PanelStep<'a, W> {
         own: &mut [Dense<W>],
         shares: Shares<W>,
         left: &mut LeftRoom,
-    ) -> Result<(Found<W>, Vec<Piece<W>>), AllocError>
+    ) -> Result<(PanelWithUnits<W>, Vec<Piece<W>>), AllocError>
         requires modulus { W.serves self.now.elimination.now.p }
         requires rows { AreLastRowsOf own.old self.now.rows }
         requires ready { CanGoOn self.now.elimination.now.p self.now.elimination.now.columns.now
@@ -166,7 +166,7 @@ impl<'a, W: Reducing> PanelStep<'a, W> {
             own: mut own_share,
             mut others,
         } = shares;
-        let mut find = || -> (Result<Found<W>, AllocError>, Vec<Piece<W>>)
+        let mut find = || -> (Result<PanelWithUnits<W>, AllocError>, Vec<Piece<W>>)
             requires { W.serves self.now.elimination.now.p
                 × All (HasReducible self.now.elimination.now.p self.now.found) own_share.items
                 × AreLastRowsOf own.now self.now.rows

@@ -5,13 +5,13 @@ ghost use Rattle.dense_finish.specs.Pieces.{ArePut, AreReducedBy, AreReducible, 
 
 use crate::dense::Dense;
 use crate::elimination::Elimination;
-use crate::found::Found;
 use crate::left_room::LeftRoom;
+use crate::panel_with_units::PanelWithUnits;
+use crate::piece_taker::PieceTaker;
 use crate::products::TILE_ROWS;
 use crate::reducing::Reducing;
 use crate::residue::Residue;
 use crate::share::{Share, gathered};
-use crate::taker::Taker;
 use rayon::prelude::par_for_each_mut;
 use std::alloc::AllocError;
 use std::cmp::Reverse;
@@ -71,10 +71,10 @@ pub(crate) fn count_of_pieces(height: usize) -> usize
 
 // What was found, if anything, with these pieces and more in one list.
 pub(crate) fn with_pieces<W: Residue>(
-    found: Result<Found<W>, AllocError>,
+    found: Result<PanelWithUnits<W>, AllocError>,
     mut pieces: Vec<Piece<W>>,
     mut more: Vec<Piece<W>>,
-) -> Result<(Found<W>, Vec<Piece<W>>), AllocError>
+) -> Result<(PanelWithUnits<W>, Vec<Piece<W>>), AllocError>
     ensures found { IfOk result (λ made. found ≡ Ok made.0) }
     ensures pieces { IfOk result (λ made. made.1.items ≡ pieces.items ++ more.items) }
 {
@@ -115,7 +115,7 @@ impl<'a> Elimination<'a> {
     pub(crate) fn pieces_and_left<R: Threads + Sync, W: Reducing>(
         &self,
         rt: &R,
-        found: &Found<W>,
+        found: &PanelWithUnits<W>,
         shares: &mut Vec<Share<W>>,
         left: &mut LeftRoom,
     ) -> Vec<Piece<W>>
@@ -138,7 +138,7 @@ impl<'a> Elimination<'a> {
     pub(crate) fn pieces_by<R: Threads + Sync, W: Reducing>(
         &self,
         rt: &R,
-        found: &Found<W>,
+        found: &PanelWithUnits<W>,
         shares: &mut Vec<Share<W>>,
     ) -> Vec<Piece<W>>
         requires modulus { W.serves self.now.p }
@@ -155,7 +155,7 @@ impl<'a> Elimination<'a> {
     fn reduce_shares<R: Threads + Sync, W: Reducing>(
         &self,
         rt: &R,
-        found: &Found<W>,
+        found: &PanelWithUnits<W>,
         shares: &mut [Share<W>],
     )
         requires modulus { W.serves self.now.p }
@@ -173,7 +173,7 @@ impl<'a> Elimination<'a> {
     }
 
     // Takes pieces from the queue as long as there are any, and the panel's pivots out of their rows.
-    fn reduce_share<W: Reducing>(&self, found: &Found<W>, share: &mut Share<W>)
+    fn reduce_share<W: Reducing>(&self, found: &PanelWithUnits<W>, share: &mut Share<W>)
         requires modulus { W.serves self.now.p }
         requires ready { HasReducible self.now.p found.now share.old }
         ensures { KeepsShare self.now.p found.now.panel share.old share.new }
@@ -189,7 +189,11 @@ impl<'a> Elimination<'a> {
     }
 
     // The next piece, if there is one, with the panel's pivots taken out of its rows.
-    fn next_piece<W: Reducing>(&self, found: &Found<W>, taker: &mut Taker<W>) -> Option<Piece<W>>
+    fn next_piece<W: Reducing>(
+        &self,
+        found: &PanelWithUnits<W>,
+        taker: &mut PieceTaker<W>,
+    ) -> Option<Piece<W>>
         requires modulus { W.serves self.now.p }
         requires ready { AreReducible self.now.p found.now taker.old }
         ensures same { taker.new ≡ taker.old }
@@ -201,7 +205,7 @@ impl<'a> Elimination<'a> {
     }
 
     // Takes a panel's pivots out of each row.
-    fn take_out<W: Reducing>(&self, found: &Found<W>, rows: &mut [Dense<W>])
+    fn take_out<W: Reducing>(&self, found: &PanelWithUnits<W>, rows: &mut [Dense<W>])
         requires modulus { W.serves self.now.p }
         requires ready { AreReducible self.now.p found.now rows.old }
         ensures { PanelReducesEach self.now.p found.now.panel rows.old rows.new }

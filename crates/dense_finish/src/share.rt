@@ -2,16 +2,16 @@
 ghost use Rattle.std.specs.Prelude.{◌≡◌, [], All, IfOk};
 ghost use Rattle.dense_finish.specs.Pieces.{ArePiecesOf, new_share};
 
+use crate::piece_taker::PieceTaker;
 use crate::pieces::Piece;
 use crate::residue::Residue;
-use crate::taker::Taker;
 use std::alloc::{AllocError, Global};
 use std::marker::Model;
 
 // A worker at a queue of pieces, and those that it took there and reduced. Contracts see it as a `ShareOf`.
 #[derive(Drop)]
 pub(crate) struct Share<'q, W: Residue> {
-    pub(crate) taker: Taker<'q, W>,
+    pub(crate) taker: PieceTaker<'q, W>,
     pub(crate) pieces: Vec<Piece<W>>,
 }
 
@@ -25,7 +25,7 @@ impl<'q, W: Residue> Model for Share<'q, W> {
 
 impl<'q, W: Residue> Share<'q, W> {
     // A worker more, with room for all pieces, so that none wants memory for them.
-    fn of(alloc: Global, taker: &mut Taker<'q, W>) -> Result<Share<'q, W>, AllocError>
+    fn of(alloc: Global, taker: &mut PieceTaker<'q, W>) -> Result<Share<'q, W>, AllocError>
         ensures same { taker.new ≡ taker.old }
         ensures share { IfOk result (λ share. share ≡ new_share taker.old) }
     {
@@ -39,7 +39,7 @@ impl<'q, W: Residue> Share<'q, W> {
     // So many more.
     pub(crate) fn several(
         alloc: Global,
-        taker: &mut Taker<'q, W>,
+        taker: &mut PieceTaker<'q, W>,
         count: usize,
     ) -> Result<Vec<Share<'q, W>>, AllocError>
         ensures same { taker.new ≡ taker.old }

@@ -43,9 +43,9 @@ impl Split<Known> for Another {
 }
 
 // A piece is put behind the others by one who is alone.
-struct Put;
+struct PutPiece;
 
-impl<W: Residue> Outcome<Piece<W>, Known> for Put {
+impl<W: Residue> Outcome<Piece<W>, Known> for PutPiece {
     ghost use Rattle.std.specs.Prelude.{◌≡◌, ◌++◌};
     ghost use Rattle.dense_finish.specs.SharedPieces.{known};
 
@@ -53,9 +53,9 @@ impl<W: Residue> Outcome<Piece<W>, Known> for Put {
 }
 
 // A piece is taken.
-pub(crate) struct Taken;
+pub(crate) struct TakenPiece;
 
-impl<W: Residue> Outcome<Piece<W>, Known> for Taken {
+impl<W: Residue> Outcome<Piece<W>, Known> for TakenPiece {
     ghost use Rattle.std.specs.Prelude.{◌≡◌};
     ghost use Rattle.dense_finish.specs.Pieces.{IsPieceOf};
 
@@ -80,7 +80,7 @@ pub(crate) fn queue_of<W: Residue>(
         let end = at + rows_of_next(rows.len() - at);
         let piece = moved_piece(alloc, at, &mut rows[at..end])?;
         // There is room for each piece.
-        if queue.try_push_as::<Put>(&mut pass, piece).is_err() {
+        if queue.try_push_as::<PutPiece>(&mut pass, piece).is_err() {
             return Err(AllocError);
         }
         at = end;

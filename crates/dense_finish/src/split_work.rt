@@ -7,9 +7,9 @@ ghost use Rattle.sparse_rows.specs.Rows.{AreBelow, AreOccupied};
 
 use crate::block::{block_of, shared_block};
 use crate::dense::Dense;
-use crate::found::Found;
 use crate::left_room::LeftRoom;
 use crate::panel_step::PanelStep;
+use crate::panel_with_units::PanelWithUnits;
 use crate::pivots::Pivots;
 use crate::reducing::Reducing;
 use crew::{Alone, Crew, Threaded};
@@ -52,7 +52,7 @@ pub trait Helping<W: Reducing>: Crew {
         own: &mut [Dense<W>],
         others: &mut [Dense<W>],
         left: &mut LeftRoom,
-    ) -> Result<Found<W>, AllocError>
+    ) -> Result<PanelWithUnits<W>, AllocError>
         requires able { Self.can_work }
         requires modulus { W.serves step.now.elimination.now.p }
         requires several { 2 ≤ step.now.elimination.now.workers }
@@ -88,7 +88,7 @@ impl Helping<u32> for Alone {
         own: &mut [Dense<u32>],
         others: &mut [Dense<u32>],
         _left: &mut LeftRoom,
-    ) -> Result<Found<u32>, AllocError> {
+    ) -> Result<PanelWithUnits<u32>, AllocError> {
         step.find_alone(pivots, own, others)
     }
 }
@@ -112,7 +112,7 @@ impl Helping<u64> for Alone {
         own: &mut [Dense<u64>],
         others: &mut [Dense<u64>],
         _left: &mut LeftRoom,
-    ) -> Result<Found<u64>, AllocError> {
+    ) -> Result<PanelWithUnits<u64>, AllocError> {
         step.find_alone(pivots, own, others)
     }
 }
@@ -136,7 +136,7 @@ impl<'a, R: Threads + Sync> Helping<u32> for Threaded<'a, R> {
         own: &mut [Dense<u32>],
         others: &mut [Dense<u32>],
         left: &mut LeftRoom,
-    ) -> Result<Found<u32>, AllocError> {
+    ) -> Result<PanelWithUnits<u32>, AllocError> {
         step.find_beside(self.runtime, pivots, own, others, left)
     }
 }
@@ -160,7 +160,7 @@ impl<'a, R: Threads + Sync> Helping<u64> for Threaded<'a, R> {
         own: &mut [Dense<u64>],
         others: &mut [Dense<u64>],
         left: &mut LeftRoom,
-    ) -> Result<Found<u64>, AllocError> {
+    ) -> Result<PanelWithUnits<u64>, AllocError> {
         step.find_beside(self.runtime, pivots, own, others, left)
     }
 }

@@ -4,7 +4,7 @@ use Rattle.dense_finish.specs.Block.{block_row}
 use Rattle.dense_finish.specs.Panel.{ArePivots, PanelReduces, PanelRows, joined_panel}
 use Rattle.dense_finish.specs.Units.{FoundPanel, HasUnits, unit_row}
 use Rattle.dense_finish.proofs.JoinedPanels.{joined_reduces, joined_units}
-use Rattle.dense_finish.proofs.found.Found.join.Goals as goal
+use Rattle.dense_finish.proofs.panel_with_units.PanelWithUnits.join.Goals as goal
 
 pub returns-clause-units : goal.returns-clause-units
 returns-clause-units g c =

@@ -5,19 +5,19 @@ ghost use Rattle.dense_finish.specs.Pieces.{IsPieceOf};
 
 use crate::pieces::Piece;
 use crate::residue::Residue;
-use crate::shared_pieces::{Another, Known, PieceQueue, Taken};
+use crate::shared_pieces::{Another, Known, PieceQueue, TakenPiece};
 use crossbeam_queue::Pass;
 use crossbeam_queue::protocol::Free;
 use std::marker::Model;
 
 // A worker at such a queue. Contracts see the rows that were put.
 #[derive(Drop)]
-pub(crate) struct Taker<'q, W: Residue> {
+pub(crate) struct PieceTaker<'q, W: Residue> {
     queue: &'q PieceQueue<W>,
     pass: Pass<Piece<W>, Known>,
 }
 
-impl<'q, W: Residue> Model for Taker<'q, W> {
+impl<'q, W: Residue> Model for PieceTaker<'q, W> {
     ghost use Rattle.std.specs.Prelude.{List, ℕ};
     ghost use Rattle.crossbeam_queue.specs.Passes.{IsPassOf};
 
@@ -28,21 +28,21 @@ impl<'q, W: Residue> Model for Taker<'q, W> {
     ghost invariant = { λ t. IsPassOf t.queue.now t.pass };
 }
 
-impl<'q, W: Residue> Taker<'q, W> {
+impl<'q, W: Residue> PieceTaker<'q, W> {
     // The worker with this pass.
-    pub(crate) fn new(queue: &'q PieceQueue<W>, pass: Pass<Piece<W>, Known>) -> Taker<'q, W>
+    pub(crate) fn new(queue: &'q PieceQueue<W>, pass: Pass<Piece<W>, Known>) -> PieceTaker<'q, W>
         requires { IsPassOf queue.now pass }
         ensures { result ≡ (view pass).rows }
     {
-        Taker { queue, pass }
+        PieceTaker { queue, pass }
     }
 
     // One more worker.
-    pub(crate) fn another(&mut self) -> Taker<'q, W>
+    pub(crate) fn another(&mut self) -> PieceTaker<'q, W>
         ensures same { self.new ≡ self.old }
         ensures other { result ≡ self.old }
     {
-        Taker {
+        PieceTaker {
             queue: self.queue,
             pass: self.queue.another::<Another>(&mut self.pass),
         }
@@ -83,6 +83,6 @@ impl<'q, W: Residue> Taker<'q, W> {
         ensures same { self.new ≡ self.old }
         ensures piece { IfSome result (IsPieceOf self.old) }
     {
-        self.queue.try_pop_as::<Taken>(&mut self.pass)
+        self.queue.try_pop_as::<TakenPiece>(&mut self.pass)
     }
 }

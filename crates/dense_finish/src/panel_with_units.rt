@@ -16,13 +16,13 @@ use std::marker::Model;
 /// A panel's pivots, and what they leave of the unit rows at their columns, which is 0 before column `first`. Contracts see these
 /// as `FoundPanel`.
 #[derive(Drop)]
-pub struct Found<W: Residue> {
+pub struct PanelWithUnits<W: Residue> {
     pub(crate) panel: Panel<W>,
     pub(crate) units: Vec<Dense<W>>,
     pub(crate) first: usize,
 }
 
-impl<W: Residue> Model for Found<W> {
+impl<W: Residue> Model for PanelWithUnits<W> {
     ghost use Rattle.dense_finish.specs.Units.{FoundPanel};
 
     ghost Value = { FoundPanel };
@@ -30,12 +30,12 @@ impl<W: Residue> Model for Found<W> {
     ghost view = { λ f. record { panel = f.panel; units = f.units.items; first = f.first } };
 }
 
-impl<W: Residue> Found<W> {
+impl<W: Residue> PanelWithUnits<W> {
     // No pivots of rows of so many entries.
-    pub(crate) fn none(alloc: Global, width: usize) -> Found<W>
+    pub(crate) fn none(alloc: Global, width: usize) -> PanelWithUnits<W>
         ensures { result ≡ nothing_found width }
     {
-        Found {
+        PanelWithUnits {
             panel: Panel::new(alloc, width),
             units: Vec::new(alloc),
             first: 0,
@@ -43,16 +43,20 @@ impl<W: Residue> Found<W> {
     }
 }
 
-impl<W: Reducing> Found<W> {
+impl<W: Reducing> PanelWithUnits<W> {
     // A panel with what its pivots leave of the unit rows.
-    pub(crate) fn of(alloc: Global, panel: Panel<W>, p: &Modulus) -> Result<Found<W>, AllocError>
+    pub(crate) fn of(
+        alloc: Global,
+        panel: Panel<W>,
+        p: &Modulus,
+    ) -> Result<PanelWithUnits<W>, AllocError>
         requires modulus { W.serves p.now }
         requires pivots { ArePivots p.now panel }
         ensures panel { IfOk result (λ found. found.panel ≡ panel) }
         ensures units { IfOk result (HasUnits p.now) }
     {
         let (units, first) = panel.units(alloc, p)?;
-        Ok(Found {
+        Ok(PanelWithUnits {
             panel,
             units,
             first,
@@ -79,7 +83,11 @@ impl<W: Reducing> Found<W> {
     }
 
     // Puts other pivots of the same rows behind these. Where their units begin is not looked for.
-    pub(crate) fn join(&mut self, mut more: Found<W>, p: &Modulus) -> Result<(), AllocError>
+    pub(crate) fn join(
+        &mut self,
+        mut more: PanelWithUnits<W>,
+        p: &Modulus,
+    ) -> Result<(), AllocError>
         requires modulus { W.serves p.now }
         requires wide { more.panel.width ≡ self.old.panel.width }
         requires pivots { ArePivots p.now self.old.panel }
