@@ -10,25 +10,29 @@ use std::thread::Threads;
 
 // A rank, and the height and the entries of an echelon form.
 #[derive(Debug, Drop)]
-struct Found {
+struct FoundByCrew {
     rank: u32,
     height: u32,
     entries: Vec<(u32, u32, u64)>,
 }
 
 // Whether both are the same.
-fn are_same(a: &Found, b: &Found) -> bool {
+fn are_same(a: &FoundByCrew, b: &FoundByCrew) -> bool {
     a.rank == b.rank && a.height == b.height && a.entries.as_slice() == b.entries.as_slice()
 }
 
 // What two threads find.
-fn by_threads<R: Threads + Sync>(rt: &R, alloc: Global, rows: &Rows) -> Result<Found, AllocError> {
+fn by_threads<R: Threads + Sync>(
+    rt: &R,
+    alloc: Global,
+    rows: &Rows,
+) -> Result<FoundByCrew, AllocError> {
     let team = Team {
         workers: 2,
         ..Team::of(rt, alloc)
     };
     let form = rref(team, rows)?;
-    Ok(Found {
+    Ok(FoundByCrew {
         rank: rank(team, rows)?,
         height: form.height(),
         entries: form.triples(alloc)?,
@@ -36,7 +40,7 @@ fn by_threads<R: Threads + Sync>(rt: &R, alloc: Global, rows: &Rows) -> Result<F
 }
 
 // What the caller alone finds, who does the work of so many workers.
-fn alone(alloc: Global, rows: &Rows, workers: u32) -> Result<Found, AllocError>
+fn alone(alloc: Global, rows: &Rows, workers: u32) -> Result<FoundByCrew, AllocError>
     requires { 1 ≤ workers }
 {
     let team = Team {
@@ -44,7 +48,7 @@ fn alone(alloc: Global, rows: &Rows, workers: u32) -> Result<Found, AllocError>
         ..Team::alone(alloc)
     };
     let form = rref(team, rows)?;
-    Ok(Found {
+    Ok(FoundByCrew {
         rank: rank(team, rows)?,
         height: form.height(),
         entries: form.triples(alloc)?,
