@@ -5,7 +5,7 @@ use Rattle.std.proofs.Math.Seq.{get_or-append_seam}
 use Rattle.std.proofs.Math.Nat.{lt_of_mul-lt-mul_right}
 use Rattle.std.proofs.lemmas.Bool.{cases_eq}
 use Rattle.sparse_rows.specs.Rows.{ResidueRow}
-use Rattle.triangular_solve.specs.Leads.{KeptRows}
+use Rattle.lead_rows.specs.Leads.{KeptRows}
 use Rattle.echelon_form.specs.Settling.{AreShares, IsSettledRow, IsShare}
 
 -- the worker's next place is `next`

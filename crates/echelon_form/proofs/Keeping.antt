@@ -15,9 +15,9 @@ use Rattle.sparse_rows.specs.Rows.{AreZeroFrom, IsNextFilled, IsZeroRow, nonzero
 use Rattle.sparse_rows.specs.Stored.{spread, with_row}
 use Rattle.sparse_rows.proofs.FilledRows.{zero_row}
 use Rattle.sparse_rows.proofs.Spread.{spread_support}
-use Rattle.triangular_solve.proofs.Appending.{inserts_same, of_own_rows, with_own_row}
-use Rattle.triangular_solve.proofs.Combining.{leads_independent}
-use Rattle.triangular_solve.specs.Leads.{Inserts, IsSound, KeptRows, no_rows}
+use Rattle.lead_rows.proofs.Appending.{inserts_same, of_own_rows, with_own_row}
+use Rattle.lead_rows.proofs.Combining.{leads_independent}
+use Rattle.lead_rows.specs.Leads.{Inserts, IsSound, KeptRows, no_rows}
 
 -- a matrix that is made of its own rows
 own_matrix : (p : ℕ) (A : Matrix) → IsMatrix p A → IsMatrix p (of_rows A.width A.rows)

@@ -8,7 +8,7 @@ use Rattle.std.proofs.lemmas.Bool.{cases_eq, cases_lt, cond-true, cond-false}
 use Rattle.std.proofs.lemmas.List.{get_or_default}
 use Rattle.std.proofs.lemmas.List.Edits.{Swapped, swapped_from_swap, length-swap}
 use Rattle.std.proofs.lemmas.List.Sorted.{IsPermutation-keeps}
-use Rattle.triangular_solve.specs.Leads.{KeptRows, IsSound}
+use Rattle.lead_rows.specs.Leads.{KeptRows, IsSound}
 use Rattle.echelon_form.specs.Settling.{IsOrderOfLeads}
 
 -- i, but a and b in each other's place

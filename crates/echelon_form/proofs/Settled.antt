@@ -12,7 +12,7 @@ use Rattle.row_space.proofs.Counting.{spanned_back}
 use Rattle.row_space.proofs.Spans.{places_independent, same_span_chained}
 use Rattle.sparse_rows.specs.Rows.{ResidueRow}
 use Rattle.sparse_rows.specs.Stored.{with_row}
-use Rattle.triangular_solve.specs.Leads.{KeptRows, IsSettled, IsSound}
+use Rattle.lead_rows.specs.Leads.{KeptRows, IsSettled, IsSound}
 use Rattle.echelon_form.specs.Form.{Form, IsEchelon, IsFormOf}
 use Rattle.echelon_form.specs.Settling.{IsOrderOfLeads, AreSettled, IsSettledRow}
 use Rattle.sparse_rows.proofs.Loops.{matrix_more}

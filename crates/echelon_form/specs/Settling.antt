@@ -4,7 +4,7 @@ use Rattle.std.specs.declared.alloc.Global.{Global}
 use Rattle.residue_words.specs.Matrix.{Matrix, IsMatrix, row}
 use Rattle.residue_words.specs.Residues.{IsPrime}
 use Rattle.row_space.specs.Echelon.{SameSpan}
-use Rattle.triangular_solve.specs.Leads.{KeptRows, IsSettled}
+use Rattle.lead_rows.specs.Leads.{KeptRows, IsSettled}
 use Rattle.sparse_rows.specs.Rows.{ResidueRow}
 
 -- for a prime modulus the kept rows have the row space of A

@@ -1,6 +1,6 @@
 // The kept rows by ascending leads.
 ghost use Rattle.std.specs.Prelude.{◌≡◌, ◌<◌, ℕ, length, map, slice_index, IfOk};
-ghost use Rattle.triangular_solve.specs.Leads.{IsSound};
+ghost use Rattle.lead_rows.specs.Leads.{IsSound};
 ghost use Rattle.echelon_form.specs.Settling.{IsOrderOfLeads};
 
 use std::alloc::{AllocError, Global};

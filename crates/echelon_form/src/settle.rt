@@ -1,6 +1,6 @@
 // The settled rows, made by several workers.
 ghost use Rattle.std.specs.Prelude.{◌≡◌, ◌<◌, ◌≤◌, length, IfOk};
-ghost use Rattle.triangular_solve.specs.Leads.{IsSound};
+ghost use Rattle.lead_rows.specs.Leads.{IsSound};
 ghost use Rattle.echelon_form.specs.Settling.{AreSettled, AreShares, IsOrderOfLeads, IsShare};
 
 use crew::{Alone, Crew, Threaded, map_indices_alone};

@@ -7,8 +7,8 @@ use Rattle.row_space.specs.Echelon.{SameSpan}
 use Rattle.sparse_rows.specs.Rows.{ResidueMatrix, nonzeros, support}
 use Rattle.sparse_rows.specs.Stored.{IsSparse, spread, with_sparse_row}
 use Rattle.sparse_rows.proofs.Spread.{spread_support, support_sparse}
-use Rattle.triangular_solve.specs.Leads.{IsSettled, IsSound, KeptRows}
-use Rattle.triangular_solve.proofs.Appending.{combination_zero}
+use Rattle.lead_rows.specs.Leads.{IsSettled, IsSound, KeptRows}
+use Rattle.lead_rows.proofs.Appending.{combination_zero}
 use Rattle.echelon_form.specs.Settling.{AreSettled, IsOrderOfLeads}
 use Rattle.echelon_form.proofs.Settled.{settled_span}
 use Rattle.grow_form.specs.Numbering.{AreKeptByNumbers, AreUsed, IsByNumbers, IsNumbering, IsRowAtColumns, NumberedColumns, at_columns, number_of, seen_matrix}

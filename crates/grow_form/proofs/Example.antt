@@ -6,7 +6,7 @@ use Rattle.row_space.specs.Echelon.{IsRref}
 use Rattle.row_space.proofs.Spans.{same_span_of_rows}
 use Rattle.grow_form.specs.Example.{IsWorkedScript}
 use Rattle.grow_form.specs.Scripts.{rank_line}
-use Rattle.triangular_solve.proofs.Appending.{combination_zero}
+use Rattle.lead_rows.proofs.Appending.{combination_zero}
 
 -- the matrix of the one row (x, 0)
 abbrev one_row : ℕ → Matrix

@@ -13,11 +13,11 @@ use Rattle.sparse_rows.specs.Rows.{ResidueMatrix, nonzeros, support}
 use Rattle.sparse_rows.specs.Stored.{IsSparse, spread, with_row}
 use Rattle.sparse_rows.proofs.Loops.{matrix_more}
 use Rattle.sparse_rows.proofs.Spread.{sparse_none, spread_none, spread_support, support_spread}
-use Rattle.triangular_solve.specs.Leads.{Inserts, IsSound, KeptRows}
-use Rattle.triangular_solve.proofs.Appending.{inserts_same, of_own_rows, with_own_row}
-use Rattle.triangular_solve.proofs.Dividing.{listed_none}
-use Rattle.triangular_solve.proofs.Draining.{sparse_of}
-use Rattle.triangular_solve.proofs.Combining.{leads_independent}
+use Rattle.lead_rows.specs.Leads.{Inserts, IsSound, KeptRows}
+use Rattle.lead_rows.proofs.Appending.{inserts_same, of_own_rows, with_own_row}
+use Rattle.lead_rows.proofs.Dividing.{listed_none}
+use Rattle.lead_rows.proofs.Draining.{sparse_of}
+use Rattle.lead_rows.proofs.Combining.{leads_independent}
 use Rattle.echelon_form.specs.Form.{Form, IsFormOf}
 use Rattle.grow_form.specs.Growing.{AppendsRow}
 use Rattle.grow_form.specs.Numbering.{AreKeptByNumbers, ComesBehind, IsByNumbers, IsNumbering, IsRowByNumbers, NumberedColumns, at_columns, number_of, seen_matrix, seen_rows}

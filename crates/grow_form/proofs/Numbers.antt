@@ -14,8 +14,8 @@ use Rattle.row_space.proofs.Counting.{pigeonhole}
 use Rattle.sparse_rows.specs.Rows.{FitsMatrix, ResidueMatrix, built, nonzeros, row_triples, sum_at, support, triple}
 use Rattle.sparse_rows.specs.Stored.{IsSparse, entry_at, spread}
 use Rattle.sparse_rows.proofs.Spread.{at_spread, entry_cover, entry_here, entry_support, spread_vector}
-use Rattle.triangular_solve.specs.Leads.{Appends, Inserts, IsSound, KeptRows, behind_zeros, row_behind_zeros}
-use Rattle.triangular_solve.proofs.Behind.{behind_at}
+use Rattle.lead_rows.specs.Leads.{Appends, Inserts, IsSound, KeptRows, behind_zeros, row_behind_zeros}
+use Rattle.lead_rows.proofs.Behind.{behind_at}
 use Rattle.grow_form.specs.Numbering.{AreKeptByNumbers, AreUsed, ComesBehind, HasRoomFor, HaveCome, IsByNumbers, IsNumbering, IsRowAtColumns, IsRowByNumbers, NumberedColumns, arrival, at_columns, column_numbered, no_columns, number_of, numbered, seen_matrix, seen_rows, with_numbers}
 use Rattle.grow_form.proofs.Moved.{combination_back, combination_beyond, combination_there, map_equal}
 use Rattle.grow_form.proofs.OneRow.{renamed_away, renamed_fit, renamed_here}

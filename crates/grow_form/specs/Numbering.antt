@@ -5,7 +5,7 @@ use Rattle.residue_words.specs.Matrix.{Matrix, list_of, row}
 use Rattle.sparse_rows.specs.Rows.{ResidueMatrix}
 use Rattle.sparse_rows.specs.Stored.{spread}
 use Rattle.sparse_rows.specs.declared.rows.TheConstants.{LARGEST_SIZE}
-use Rattle.triangular_solve.specs.Leads.{KeptRows}
+use Rattle.lead_rows.specs.Leads.{KeptRows}
 use Rattle.echelon_form.specs.Settling.{AreSettled, IsOrderOfLeads}
 
 -- for each column 1 and its place among those that have come, or 0; these columns in the order in which they

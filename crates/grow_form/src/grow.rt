@@ -5,7 +5,7 @@ ghost use Rattle.residue_words.specs.Residues.{IsPrime};
 ghost use Rattle.row_space.specs.Echelon.{HasRank};
 ghost use Rattle.sparse_rows.specs.Stored.{IsSparse, spread};
 ghost use Rattle.sparse_rows.specs.declared.rows.TheConstants.{LARGEST_SIZE};
-ghost use Rattle.triangular_solve.specs.Accumulator.{IsClear};
+ghost use Rattle.lead_rows.specs.Accumulator.{IsClear};
 ghost use Rattle.grow_form.specs.Growing.{AppendsRow, AreRowsOfForm, SpansRowsOf, without_rows};
 ghost use Rattle.grow_form.specs.Numbering.{AreKeptByNumbers, HasRoomFor, seen_rows};
 
@@ -44,7 +44,7 @@ pub struct Grow {
 impl Model for Grow {
     ghost use Rattle.std.specs.Prelude.{IfSome};
     ghost use Rattle.sparse_rows.specs.Rows.{ResidueMatrix};
-    ghost use Rattle.triangular_solve.specs.Accumulator.{IsClear};
+    ghost use Rattle.lead_rows.specs.Accumulator.{IsClear};
     ghost use Rattle.grow_form.specs.Numbering.{AreKeptByNumbers, seen_rows};
 
     ghost Value = { ResidueMatrix };

@@ -1,6 +1,6 @@
 // The reduced echelon form of the kept rows.
 ghost use Rattle.std.specs.Prelude.{◌≡◌, length, IfOk};
-ghost use Rattle.triangular_solve.specs.Leads.{IsSound};
+ghost use Rattle.lead_rows.specs.Leads.{IsSound};
 ghost use Rattle.echelon_form.specs.Settling.{AreSettled, IsOrderOfLeads};
 ghost use Rattle.grow_form.specs.Numbering.{AreKeptByNumbers, AreSettledByLeads, seen_matrix};
 

@@ -3,7 +3,7 @@ ghost use Rattle.std.specs.Prelude.{◌≡◌, length, IfOk, OnOk};
 ghost use Rattle.residue_words.specs.Residues.{IsPrime};
 ghost use Rattle.pivot_table.specs.Order.{Triangular};
 ghost use Rattle.sparse_rows.specs.Stored.{IsSparse, spread};
-ghost use Rattle.triangular_solve.specs.PivotRows.{IsAlike};
+ghost use Rattle.lead_rows.specs.Accumulator.{IsAlike};
 ghost use Rattle.triangular_solve.specs.Reduced.{FitsReduced, FitsRest, HasSizesOf, IsReduced, IsSchurRow, reduction_of, workspace_of};
 
 use pivot_table::Pair;

@@ -14,8 +14,8 @@ use Rattle.sparse_rows.specs.Stored.{IsSparse, entry_at}
 use Rattle.sparse_rows.proofs.Loops.{length_zeros}
 use Rattle.sparse_rows.proofs.Spread.{entry_cover, entry_support, entry_tail, support_sparse}
 use Rattle.triangular_solve.specs.PivotRows.{AreInverses, AreColumnSums, ArePlaced, Eliminates, IsEliminated, IsEliminating, PlacedRows}
-use Rattle.triangular_solve.proofs.Draining.{set_vector}
-use Rattle.triangular_solve.proofs.Extent.{extent, extent_falls}
+use Rattle.lead_rows.proofs.Draining.{set_vector}
+use Rattle.lead_rows.proofs.Extent.{extent, extent_falls}
 use Rattle.triangular_solve.proofs.JoinedRows.{support_nonzero, support_place}
 
 -- the inverses of the first k pivots

@@ -14,9 +14,10 @@ use Rattle.sparse_rows.specs.Stored.{IsSparse, entry_at, spread, with_row}
 use Rattle.sparse_rows.proofs.Loops.{length_zeros, row_before, row_last, zero_at}
 use Rattle.sparse_rows.proofs.Spread.{at_spread, entry_here, entry_support, length_spread, spread_none, support_sparse}
 use Rattle.triangular_solve.specs.FlatRows.{AreFlat, IsFlatTail, IsFlattened, TakesIn}
-use Rattle.triangular_solve.specs.PivotRows.{ArePlaced, IsAlike, PlacedRows}
+use Rattle.triangular_solve.specs.PivotRows.{ArePlaced, PlacedRows}
+use Rattle.lead_rows.specs.Accumulator.{IsAlike}
 use Rattle.triangular_solve.specs.declared.flat_rows.FlatRows.{FlatRows}
-use Rattle.triangular_solve.proofs.Draining.{set_vector}
+use Rattle.lead_rows.proofs.Draining.{set_vector}
 use Rattle.triangular_solve.proofs.Eliminating.{back, behind_first, behind_other, behind_same, behind_sparse, first_place}
 use Rattle.triangular_solve.proofs.SplitRows.{first_more, first_zero}
 

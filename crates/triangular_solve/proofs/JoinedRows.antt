@@ -8,7 +8,8 @@ use Rattle.residue_words.proofs.Lists.{contains_at}
 use Rattle.sparse_rows.specs.ColumnSet.{AllZero, TakesFirst}
 use Rattle.sparse_rows.specs.Rows.{AreBelow, AreRising, nonzeros, support}
 use Rattle.sparse_rows.proofs.Spread.{entry_cover, entry_here, entry_support, support_sparse}
-use Rattle.triangular_solve.specs.PivotRows.{AppendsBefore, HaveDistinctColumns, AscendWhereNonzero, IsSplitRow, place_range}
+use Rattle.triangular_solve.specs.PivotRows.{AppendsBefore, AscendWhereNonzero, IsSplitRow, place_range}
+use Rattle.lead_rows.specs.Scattered.{HaveDistinctColumns}
 use Rattle.triangular_solve.proofs.SplitRows.{distinct_same}
 
 -- the entry in the support's place t is not 0

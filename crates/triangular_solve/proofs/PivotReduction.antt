@@ -10,11 +10,12 @@ use Rattle.sparse_rows.specs.Rows.{ResidueMatrix, ResidueRow}
 use Rattle.sparse_rows.specs.Stored.{spread}
 use Rattle.sparse_rows.proofs.Loops.{length_zeros}
 use Rattle.sparse_rows.proofs.Spread.{length_spread}
-use Rattle.triangular_solve.specs.PivotRows.{ArePivotRows, ArePlaced, ArePivotsReduced, AscendWhereNonzero, IsAlike, IsEliminated, IsEliminating, IsRoom, IsSplitRow, PlacedRows}
+use Rattle.triangular_solve.specs.PivotRows.{ArePivotRows, ArePlaced, ArePivotsReduced, AscendWhereNonzero, IsEliminated, IsEliminating, IsRoom, IsSplitRow, PlacedRows}
+use Rattle.lead_rows.specs.Accumulator.{IsAlike}
 use Rattle.triangular_solve.specs.FlatRows.{IsFlatRest}
 use Rattle.triangular_solve.specs.Reduced.{FitsRest, IsReduced, IsSchurRow, Workspace}
 use Rattle.triangular_solve.specs.Triangle.{TriangleState}
-use Rattle.triangular_solve.proofs.Accumulating.{as_row}
+use Rattle.lead_rows.proofs.Accumulating.{as_row}
 use Rattle.triangular_solve.proofs.SplitRows.{placed_or_none}
 
 -- behind the pivots the columns ascend

@@ -12,8 +12,9 @@ use Rattle.sparse_rows.proofs.Expanding.{among_or_not}
 use Rattle.sparse_rows.proofs.Loops.{length_zeros}
 use Rattle.sparse_rows.proofs.Spread.{at_spread, entry_beyond, length_spread, spread_none, spread_push}
 use Rattle.triangular_solve.specs.AscendingColumns.{IsPlaceOf}
-use Rattle.triangular_solve.specs.PivotRows.{HaveDistinctColumns, IsSplitRow}
-use Rattle.triangular_solve.proofs.Draining.{set_vector}
+use Rattle.triangular_solve.specs.PivotRows.{IsSplitRow}
+use Rattle.lead_rows.specs.Scattered.{HaveDistinctColumns}
+use Rattle.lead_rows.proofs.Draining.{set_vector}
 
 pub distinct_same : (xs : List ℕ) → HaveDistinctColumns xs → (k t : ℕ) → k < length xs → t < length xs → slice_index xs k ≡ slice_index xs t → k ≡ t
 distinct_same xs distinct k t lk lt e = elim (cases_eq k t) [

@@ -1,11 +1,8 @@
-pub mod Accumulator
 pub mod AscendingColumns
 pub mod FlatRows
-pub mod Leads
-pub mod Led
 pub mod Listing
 pub mod PivotRows
 pub mod Queue
 pub mod Reduced
-pub mod Scattered
+pub mod ScatteredRows
 pub mod Triangle

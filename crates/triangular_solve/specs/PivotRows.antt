@@ -7,7 +7,7 @@ use Rattle.residue_words.specs.declared.plain.Pair.{Pair}
 use Rattle.row_space.specs.Factors.{row_at, col_at}
 use Rattle.sparse_rows.specs.Rows.{AreBelow, ResidueMatrix, ResidueRow, support}
 use Rattle.sparse_rows.specs.declared.rows.TheConstants.{LARGEST_SIZE}
-use Rattle.triangular_solve.specs.Accumulator.{IsClear}
+use Rattle.lead_rows.specs.Accumulator.{IsClear}
 use Rattle.triangular_solve.specs.AscendingColumns.{IsPlaceOf}
 
 -- `places` has the place in the order of each of the sorted columns, as far as they are in it
@@ -22,11 +22,6 @@ pub record IsOrderOf (sorted places columns : List ℕ) : Type 0 where
   pub few : length sorted ≤ LARGEST_SIZE
   pub so_far : IsOrdering sorted places columns
   pub all : (t : ℕ) → t < length sorted → slice_index places t ≢ 4294967295
-
--- no column stands twice
-abbrev pub HaveDistinctColumns : List ℕ → Type 0
-HaveDistinctColumns columns = (k t : ℕ) → k < t → t < length columns →
-    slice_index columns k ≢ slice_index columns t
 
 -- the columns of the pairs, in order, and then others, ascending
 pub record HasPivotsFirst (qs : List Pair) (columns : List ℕ) : Type 0 where
@@ -101,10 +96,6 @@ pub record IsEliminating (placed : PlacedRows) (v left coefficients : List ℕ) 
 -- 0 stands at the place of each pivot
 abbrev pub IsEliminated : PlacedRows → List ℕ → Type 0
 IsEliminated placed sums = (k : ℕ) → k < placed.rows.matrix.height → slice_index sums k ≡ 0
-
--- the modulus and the length are the same
-abbrev pub IsAlike : ResidueRow → ResidueRow → Type 0
-IsAlike old new = (new.modulus ≡ old.modulus) × (length new.row ≡ length old.row)
 
 -- the entries of v in these columns stand in one row, and the others in the other
 pub record IsSplitRow (columns v inner outer : List ℕ) : Type 0 where

@@ -8,11 +8,12 @@ ghost use Rattle.sparse_rows.specs.Rows.{AreBelow, AreRising, support};
 ghost use Rattle.sparse_rows.specs.Stored.{IsSparse, spread};
 ghost use Rattle.sparse_rows.specs.declared.rows.TheConstants.{LARGEST_SIZE};
 ghost use Rattle.triangular_solve.specs.AscendingColumns.{IsPlaceOf};
-ghost use Rattle.triangular_solve.specs.Accumulator.{IsClear};
-ghost use Rattle.triangular_solve.specs.PivotRows.{AppendsBefore, HaveDistinctColumns, AreDisjointParts, HasPivotsFirst, IsAlike, IsOrdering, IsOrderOf, IsSplitRow, place_range};
+ghost use Rattle.lead_rows.specs.Accumulator.{IsAlike, IsClear};
+ghost use Rattle.triangular_solve.specs.PivotRows.{AppendsBefore, AreDisjointParts, HasPivotsFirst, IsOrdering, IsOrderOf, IsSplitRow, place_range};
+ghost use Rattle.lead_rows.specs.Scattered.{HaveDistinctColumns};
 
-use crate::accumulator::Accumulator;
 use crate::ascending_columns::AscendingColumns;
+use lead_rows::Accumulator;
 use pivot_table::Pair;
 use sparse_rows::Sparse;
 use std::alloc::{AllocError, Global};

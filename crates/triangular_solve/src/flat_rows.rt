@@ -3,16 +3,15 @@ ghost use Rattle.std.specs.Prelude.{◌≡◌, ◌<◌, ◌≤◌, ◌+◌, ◌-
 ghost use Rattle.residue_words.specs.Matrix.{row, zeros};
 ghost use Rattle.sparse_rows.specs.Rows.{AreBelow};
 ghost use Rattle.sparse_rows.specs.Stored.{IsSparse, spread};
-ghost use Rattle.triangular_solve.specs.Accumulator.{IsClear};
+ghost use Rattle.lead_rows.specs.Accumulator.{IsAlike, IsClear};
 ghost use Rattle.triangular_solve.specs.FlatRows.{AreAllFlat, AreFlat, IsFlatTail, IsFlatRest, IsTakenRow, TakesIn};
-ghost use Rattle.triangular_solve.specs.PivotRows.{IsAlike, IsRoomFor};
-ghost use Rattle.triangular_solve.specs.Scattered.{IsScattered};
+ghost use Rattle.triangular_solve.specs.PivotRows.{IsRoomFor};
+ghost use Rattle.lead_rows.specs.Scattered.{IsScattered};
 
-use crate::accumulator::Accumulator;
 use crate::pivot_rows::PivotRows;
 use crate::row_entries::RowEntries;
 use crate::scattered_rows::ScatteredRows;
-use crate::touched_sums::TouchedSums;
+use lead_rows::{Accumulator, TouchedSums};
 use sparse_rows::Sparse;
 use std::alloc::{AllocError, Global};
 

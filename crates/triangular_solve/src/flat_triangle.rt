@@ -2,7 +2,7 @@
 ghost use Rattle.std.specs.Prelude.{◌≡◌, length, IfOk, IfSome, OnOk};
 ghost use Rattle.residue_words.specs.Residues.{IsPrime};
 ghost use Rattle.sparse_rows.specs.Stored.{IsSparse, spread};
-ghost use Rattle.triangular_solve.specs.PivotRows.{IsAlike};
+ghost use Rattle.lead_rows.specs.Accumulator.{IsAlike};
 ghost use Rattle.triangular_solve.specs.Reduced.{FitsRest, IsSchurRow, workspace_of};
 
 use crate::flat_estimate::FlatEstimate;

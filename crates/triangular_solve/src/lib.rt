@@ -5,26 +5,21 @@
 //! inserted spans, with the kept rows, what they span afterwards needs a prime one.
 #![tactic(auto)]
 
-mod accumulator;
 mod ascending_columns;
 mod column_order;
 mod flat_estimate;
 mod flat_rows;
 mod flat_triangle;
-mod leads;
-mod led;
 mod pivot_rows;
 mod queue;
 mod reduced;
 mod row_entries;
 mod scattered_rows;
-mod touched_sums;
 mod triangle;
 mod work;
 
-pub use accumulator::Accumulator;
 pub use flat_triangle::FlatTriangle;
-pub use leads::Leads;
+pub use lead_rows::{Accumulator, Leads};
 pub use reduced::{Reduced, schur_row_is_one};
 pub use triangle::{Triangle, triangular_order_is_one};
 pub use work::Work;

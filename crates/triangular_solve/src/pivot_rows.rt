@@ -8,11 +8,12 @@ ghost use Rattle.sparse_rows.specs.Rows.{AreBelow, AreOccupied, selected};
 ghost use Rattle.sparse_rows.specs.Stored.{IsSparse, spread};
 ghost use Rattle.sparse_rows.specs.declared.rows.TheConstants.{LARGEST_SIZE};
 ghost use Rattle.pivot_table.specs.Order.{Triangular};
-ghost use Rattle.triangular_solve.specs.Accumulator.{IsClear};
-ghost use Rattle.triangular_solve.specs.PivotRows.{HaveDistinctColumns, AreInverses, ArePivotRows, ArePlaced, AreColumnSums, AreUpper, Eliminates, HasPivotsFirst, IsAlike, IsEliminated, IsEliminating, row_on, rows_on};
+ghost use Rattle.lead_rows.specs.Accumulator.{IsAlike, IsClear};
+ghost use Rattle.triangular_solve.specs.PivotRows.{AreInverses, ArePivotRows, ArePlaced, AreColumnSums, AreUpper, Eliminates, HasPivotsFirst, IsEliminated, IsEliminating, row_on, rows_on};
+ghost use Rattle.lead_rows.specs.Scattered.{HaveDistinctColumns};
 
-use crate::accumulator::Accumulator;
 use crate::column_order::ColumnOrder;
+use lead_rows::Accumulator;
 use pivot_table::Pair;
 use sparse_rows::{Rows, Sparse};
 use std::alloc::{AllocError, Global};

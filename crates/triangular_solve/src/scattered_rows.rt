@@ -2,10 +2,10 @@
 ghost use Rattle.std.specs.Prelude.{◌≡◌, ◌<◌, ◌≤◌, [], length, IfOk, OnOk};
 ghost use Rattle.residue_words.specs.Matrix.{IsMatrix, row};
 ghost use Rattle.sparse_rows.specs.Stored.{spread, with_row};
-ghost use Rattle.triangular_solve.specs.Accumulator.{IsClear};
-ghost use Rattle.triangular_solve.specs.Scattered.{IsScattered};
+ghost use Rattle.lead_rows.specs.Accumulator.{IsClear};
+ghost use Rattle.lead_rows.specs.Scattered.{IsScattered};
 
-use crate::touched_sums::TouchedSums;
+use lead_rows::TouchedSums;
 use residue_words::Modulus;
 use std::alloc::{AllocError, Global};
 use std::marker::Model;
@@ -24,7 +24,7 @@ pub(crate) struct ScatteredRows {
 impl Model for ScatteredRows {
     ghost use Rattle.sparse_rows.specs.Rows.{ResidueMatrix};
     ghost use Rattle.sparse_rows.specs.Stored.{stored_matrix};
-    ghost use Rattle.triangular_solve.specs.Scattered.{AreScattered};
+    ghost use Rattle.triangular_solve.specs.ScatteredRows.{AreScattered};
 
     ghost Value = { ResidueMatrix };
 

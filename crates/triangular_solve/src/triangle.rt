@@ -8,7 +8,8 @@ ghost use Rattle.sparse_rows.specs.Stored.{IsSparse, spread};
 ghost use Rattle.sparse_rows.specs.declared.rows.TheConstants.{LARGEST_SIZE};
 ghost use Rattle.pivot_table.specs.Order.{IsTriangularOrder, Triangular};
 ghost use Rattle.triangular_solve.specs.Listing.{AreSortedPivots, AreWaits, EachOtherPlace, EachPlaceOf, HasReady, TakesReady};
-ghost use Rattle.triangular_solve.specs.PivotRows.{ArePivotRows, IsAlike};
+ghost use Rattle.triangular_solve.specs.PivotRows.{ArePivotRows};
+ghost use Rattle.lead_rows.specs.Accumulator.{IsAlike};
 ghost use Rattle.triangular_solve.specs.Reduced.{FitsReduced, FitsRest, HasSizesOf, IsReduced, IsSchurRow, reduction_of, workspace_of};
 ghost use Rattle.triangular_solve.specs.Triangle.{TriangularOrderIsOne};
 
@@ -36,7 +37,8 @@ pub struct Triangle<'a> {
 
 impl<'a> Model for Triangle<'a> {
     ghost use Rattle.pivot_table.specs.Order.{Triangular};
-    ghost use Rattle.triangular_solve.specs.PivotRows.{ArePivotRows, IsAlike};
+    ghost use Rattle.triangular_solve.specs.PivotRows.{ArePivotRows};
+    ghost use Rattle.lead_rows.specs.Accumulator.{IsAlike};
     ghost use Rattle.triangular_solve.specs.Triangle.{TriangleState};
 
     ghost Value = { TriangleState };

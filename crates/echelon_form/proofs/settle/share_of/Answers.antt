@@ -1,6 +1,6 @@
 use Rattle.std.proofs.Common.{ℕ, ◌+◌, ◌∙◌, subst, sym}
 use Rattle.std.proofs.lemmas.List.{get_or_default}
-use Rattle.triangular_solve.specs.Leads.{IsSettled}
+use Rattle.lead_rows.specs.Leads.{IsSettled}
 use Rattle.echelon_form.proofs.Gathering.{IsGathered, gathered_all, gathered_more}
 use Rattle.echelon_form.proofs.settle.share_of.Goals as goal
 

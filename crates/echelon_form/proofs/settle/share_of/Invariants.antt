@@ -1,5 +1,5 @@
 use Rattle.std.proofs.Common.{◌-◌, length}
-use Rattle.triangular_solve.specs.Accumulator.{IsClear}
+use Rattle.lead_rows.specs.Accumulator.{IsClear}
 use Rattle.echelon_form.proofs.Gathering.{IsGathered}
 use Rattle.echelon_form.proofs.settle.share_of.Given as goal
 

@@ -1,6 +1,6 @@
 use Rattle.std.proofs.Common.{◌-◌, ◌+◌, ◌<◌, ◌∙◌, ap₂, arith}
-use Rattle.triangular_solve.specs.Leads.{no_rows}
-use Rattle.triangular_solve.proofs.Draining.{sparse_of}
+use Rattle.lead_rows.specs.Leads.{no_rows}
+use Rattle.lead_rows.proofs.Draining.{sparse_of}
 use Rattle.echelon_form.proofs.Keeping.{keeping_all, keeping_more, keeping_none}
 use Rattle.echelon_form.proofs.sparse_elimination.eliminated.Goals as goal
 

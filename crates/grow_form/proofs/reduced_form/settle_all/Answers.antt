@@ -1,8 +1,8 @@
 use Rattle.std.proofs.Common.{ℕ, ◌+◌, ◌∙◌, [], ap, subst, sym}
 use Rattle.std.proofs.lemmas.List.{get_or_default}
 use Rattle.residue_words.specs.Matrix.{Matrix}
-use Rattle.triangular_solve.specs.Accumulator.{IsClear}
-use Rattle.triangular_solve.specs.Leads.{IsSettled}
+use Rattle.lead_rows.specs.Accumulator.{IsClear}
+use Rattle.lead_rows.specs.Leads.{IsSettled}
 use Rattle.echelon_form.specs.Settling.{AreSettled}
 use Rattle.echelon_form.proofs.Settled.{settled_more, settled_none}
 use Rattle.grow_form.proofs.reduced_form.settle_all.Goals as goal

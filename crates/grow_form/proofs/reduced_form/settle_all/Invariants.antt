@@ -1,5 +1,5 @@
 use Rattle.std.proofs.Common.{◌≡◌}
-use Rattle.triangular_solve.specs.Accumulator.{IsClear}
+use Rattle.lead_rows.specs.Accumulator.{IsClear}
 use Rattle.echelon_form.specs.Settling.{AreSettled}
 use Rattle.grow_form.proofs.reduced_form.settle_all.Given as goal
 

@@ -1,5 +1,5 @@
 use Rattle.std.proofs.Common.{◌-◌, length}
-use Rattle.triangular_solve.specs.PivotRows.{IsAlike}
+use Rattle.lead_rows.specs.Accumulator.{IsAlike}
 use Rattle.triangular_solve.proofs.JoinedRows.{IsAppending}
 use Rattle.triangular_solve.proofs.column_order.append_before.Given as goal
 

@@ -2,7 +2,7 @@ use Rattle.std.proofs.Common.{◌∙◌, length, sym, ap, ap₂, subst}
 use Rattle.residue_words.specs.Matrix.{zeros}
 use Rattle.sparse_rows.specs.Rows.{AreBelow, ResidueRow}
 use Rattle.sparse_rows.proofs.Loops.{length_zeros}
-use Rattle.triangular_solve.proofs.Accumulating.{as_row}
+use Rattle.lead_rows.proofs.Accumulating.{as_row}
 use Rattle.triangular_solve.proofs.PlacingRows.{row_sparse, split_row}
 use Rattle.triangular_solve.proofs.pivot_rows.put_in_order.Goals as goal
 

@@ -3,9 +3,9 @@ use Rattle.std.proofs.lemmas.Bool.{cases_lt}
 use Rattle.std.proofs.lemmas.List.{get_or_default, length-set, get_or_past}
 use Rattle.sparse_rows.specs.Rows.{AreBelow}
 use Rattle.sparse_rows.proofs.Loops.{zero_at}
-use Rattle.triangular_solve.proofs.Draining.{taken_vector}
+use Rattle.lead_rows.proofs.Draining.{taken_vector}
 use Rattle.triangular_solve.proofs.JoinedRows.{joining_behind, joining_ends, joining_none, joining_step}
-use Rattle.triangular_solve.proofs.Touched.{taken_falls}
+use Rattle.lead_rows.proofs.Touched.{taken_falls}
 use Rattle.triangular_solve.proofs.column_order.ColumnOrder.join.Goals as goal
 
 pub loop-place-init : goal.loop-place-init

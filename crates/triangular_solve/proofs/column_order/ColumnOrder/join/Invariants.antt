@@ -1,7 +1,7 @@
 use Rattle.std.proofs.Common.{length}
 use Rattle.residue_words.specs.Matrix.{IsVector}
-use Rattle.triangular_solve.specs.PivotRows.{IsAlike}
-use Rattle.triangular_solve.proofs.Extent.{extent}
+use Rattle.lead_rows.specs.Accumulator.{IsAlike}
+use Rattle.lead_rows.proofs.Extent.{extent}
 use Rattle.triangular_solve.proofs.JoinedRows.{IsJoining}
 use Rattle.triangular_solve.proofs.column_order.ColumnOrder.join.Given as goal
 

@@ -1,5 +1,5 @@
 use Rattle.std.proofs.Common.{◌≡◌, length}
-use Rattle.triangular_solve.specs.Accumulator.{IsClear}
+use Rattle.lead_rows.specs.Accumulator.{IsClear}
 use Rattle.triangular_solve.specs.FlatRows.{AreFlat}
 use Rattle.triangular_solve.proofs.flat_rows.FlatRows.append_all.Given as goal
 

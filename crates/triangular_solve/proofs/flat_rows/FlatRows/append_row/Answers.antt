@@ -2,7 +2,7 @@ use Rattle.std.proofs.Common.{◌∙◌, length, ap, ap₂, sym}
 use Rattle.residue_words.specs.Matrix.{Matrix, zeros}
 use Rattle.sparse_rows.specs.Rows.{ResidueRow}
 use Rattle.sparse_rows.proofs.Loops.{length_zeros}
-use Rattle.triangular_solve.proofs.Accumulating.{as_row}
+use Rattle.lead_rows.proofs.Accumulating.{as_row}
 use Rattle.triangular_solve.proofs.Flattening.{flat_more}
 use Rattle.triangular_solve.proofs.flat_rows.FlatRows.append_row.Goals as goal
 

@@ -1,5 +1,5 @@
 use Rattle.std.proofs.Common.{◌-◌, ◌%◌, ◌∙◌, ap, arith}
-use Rattle.triangular_solve.proofs.Scattered.{adds_times}
+use Rattle.triangular_solve.proofs.StoredScattered.{adds_times}
 use Rattle.triangular_solve.proofs.flat_rows.FlatRows.come_in.Goals as goal
 
 pub returns : goal.returns

@@ -1,4 +1,4 @@
-use Rattle.triangular_solve.specs.PivotRows.{IsAlike}
+use Rattle.lead_rows.specs.Accumulator.{IsAlike}
 use Rattle.triangular_solve.proofs.Flattening.{IsFlattening}
 use Rattle.triangular_solve.proofs.flat_rows.FlatRows.flatten.Given as goal
 

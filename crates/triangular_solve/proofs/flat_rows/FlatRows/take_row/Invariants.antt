@@ -1,5 +1,5 @@
 use Rattle.std.proofs.Common.{length}
-use Rattle.triangular_solve.specs.PivotRows.{IsAlike}
+use Rattle.lead_rows.specs.Accumulator.{IsAlike}
 use Rattle.triangular_solve.proofs.TakenRows.{IsTaking}
 use Rattle.triangular_solve.proofs.flat_rows.FlatRows.take_row.Given as goal
 

@@ -1,5 +1,5 @@
 use Rattle.triangular_solve.specs.PivotRows.{AreColumnSums}
-use Rattle.triangular_solve.proofs.Extent.{extent}
+use Rattle.lead_rows.proofs.Extent.{extent}
 use Rattle.triangular_solve.proofs.pivot_rows.PivotRows.count_walk.Given as goal
 
 abbrev pub invariant-loop-place : goal.invariant-loop-place

@@ -1,5 +1,6 @@
-use Rattle.triangular_solve.specs.PivotRows.{AreColumnSums, IsAlike, IsEliminating}
-use Rattle.triangular_solve.proofs.Extent.{extent}
+use Rattle.triangular_solve.specs.PivotRows.{AreColumnSums, IsEliminating}
+use Rattle.lead_rows.specs.Accumulator.{IsAlike}
+use Rattle.lead_rows.proofs.Extent.{extent}
 use Rattle.triangular_solve.proofs.pivot_rows.PivotRows.eliminate.Given as goal
 
 abbrev pub invariant-loop-place : goal.invariant-loop-place

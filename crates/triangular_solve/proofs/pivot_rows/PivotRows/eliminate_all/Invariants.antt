@@ -1,6 +1,6 @@
 use Rattle.std.proofs.Common.{ℕ, List}
 use Rattle.triangular_solve.specs.PivotRows.{AreColumnSums, IsEliminating}
-use Rattle.triangular_solve.proofs.Extent.{extent}
+use Rattle.lead_rows.proofs.Extent.{extent}
 use Rattle.triangular_solve.proofs.pivot_rows.PivotRows.eliminate_all.Given as goal
 
 abbrev pub invariant-loop : goal.invariant-loop

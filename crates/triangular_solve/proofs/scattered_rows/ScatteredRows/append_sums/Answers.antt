@@ -1,8 +1,8 @@
 use Rattle.std.proofs.Common.{◌≡◌, ◌∙◌, [], ◌∷◌, ◌++◌, ap, ap₂, length, sym}
 use Rattle.sparse_rows.specs.Rows.{ResidueMatrix}
 use Rattle.sparse_rows.specs.Stored.{stored_matrix, with_row}
-use Rattle.triangular_solve.specs.Scattered.{AreScattered}
-use Rattle.triangular_solve.proofs.Scattered.{scattered_appended}
+use Rattle.triangular_solve.specs.ScatteredRows.{AreScattered}
+use Rattle.triangular_solve.proofs.StoredScattered.{scattered_appended}
 use Rattle.triangular_solve.proofs.scattered_rows.ScatteredRows.append_sums.Goals as goal
 use Rattle.triangular_solve.proofs.scattered_rows.ScatteredRows.append_sums.Goals.{After-push_reserved}
 

@@ -1,7 +1,7 @@
 use Rattle.std.proofs.Common.{◌+◌, ◌<◌, ◌∙◌, ap, arith, length, slice_range, subst}
 use Rattle.std.proofs.lemmas.List.{get_or_default}
 use Rattle.sparse_rows.specs.Rows.{ResidueMatrix}
-use Rattle.triangular_solve.proofs.Scattered.{IsRowAt, scattered_at}
+use Rattle.triangular_solve.proofs.StoredScattered.{IsRowAt, scattered_at}
 use Rattle.triangular_solve.proofs.scattered_rows.ScatteredRows.row.Goals as goal
 
 pub returns-clause-scattered : goal.returns-clause-scattered

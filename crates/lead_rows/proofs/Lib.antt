@@ -1,0 +1,13 @@
+pub mod Accumulating
+pub mod Appending
+pub mod Behind
+pub mod Combining
+pub mod Dividing
+pub mod Draining
+pub mod Extent
+pub mod Gathering
+pub mod LedRows
+pub mod Listed
+pub mod Reducing
+pub mod Scattered
+pub mod Touched

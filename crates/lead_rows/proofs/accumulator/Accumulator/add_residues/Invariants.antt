@@ -1,0 +1,5 @@
+use Rattle.sparse_rows.proofs.Adding.{IsAddingTo}
+use Rattle.lead_rows.proofs.accumulator.Accumulator.add_residues.Given as goal
+
+abbrev pub invariant-loop-k : goal.invariant-loop-k
+invariant-loop-k l = IsAddingTo l.by l.cols l.vals l.k l.fn.self l.self

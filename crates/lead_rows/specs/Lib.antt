@@ -1,0 +1,4 @@
+pub mod Accumulator
+pub mod Leads
+pub mod Led
+pub mod Scattered

@@ -1,5 +1,0 @@
-use Rattle.triangular_solve.proofs.Scattered.{sparse_scattered}
-use Rattle.triangular_solve.proofs.accumulator.Accumulator.add_multiple.Goals as goal
-
-pub add_scattered-requires-clause-row : goal.add_scattered-requires-clause-row
-add_scattered-requires-clause-row c = sparse_scattered c.requires.sparse

@@ -1,9 +1,0 @@
-use Rattle.triangular_solve.specs.PivotRows.{IsAlike}
-use Rattle.triangular_solve.proofs.Extent.{extent}
-use Rattle.triangular_solve.proofs.accumulator.Accumulator.count.Given as goal
-
-abbrev pub invariant-loop-count : goal.invariant-loop-count
-invariant-loop-count l = IsAlike l.fn.self l.self
-
-abbrev pub decreases-loop-count : goal.decreases-loop-count
-decreases-loop-count l = extent l.self.row

@@ -1,6 +1,0 @@
-use Rattle.std.proofs.Common.{◌≡◌}
-use Rattle.triangular_solve.proofs.Behind.{first_behind}
-use Rattle.triangular_solve.proofs.leads.Leads.behind_zeros.Given as goal
-
-abbrev pub invariant-loop-k : goal.invariant-loop-k
-invariant-loop-k l = l.kept ≡ first_behind l.self-inside.modulus l.self-inside.width l.count l.self-inside.rows.items l.k

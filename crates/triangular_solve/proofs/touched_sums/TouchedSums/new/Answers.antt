@@ -1,6 +1,0 @@
-use Rattle.std.proofs.Common.{arith}
-use Rattle.triangular_solve.proofs.Accumulating.{new_residues}
-use Rattle.triangular_solve.proofs.touched_sums.TouchedSums.new.Goals as goal
-
-pub returns : goal.returns
-returns c = new_residues c.args.p c.args.n _ (omega (arith, c.p.ensures.value, c.p.ensures.two_or_more)) (c.in_ok-vec.ensures.items_if_clones_equal (λ y e. e))
