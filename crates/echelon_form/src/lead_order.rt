@@ -3,8 +3,8 @@ ghost use Rattle.std.specs.Prelude.{◌≡◌, ◌<◌, ℕ, length, map, slice_
 ghost use Rattle.lead_rows.specs.Leads.{IsSound};
 ghost use Rattle.echelon_form.specs.Settling.{IsOrderOfLeads};
 
+use lead_rows::Leads;
 use std::alloc::{AllocError, Global};
-use triangular_solve::Leads;
 
 // Of each row its lead and its number, by ascending leads.
 pub(crate) fn order_of(alloc: Global, kept: &Leads) -> Result<Vec<(u32, u32)>, AllocError>

@@ -4,11 +4,11 @@ ghost use Rattle.lead_rows.specs.Leads.{IsSound};
 ghost use Rattle.echelon_form.specs.Settling.{AreSettled, AreShares, IsOrderOfLeads, IsShare};
 
 use crew::{Alone, Crew, Threaded, map_indices_alone};
+use lead_rows::{Accumulator, Leads};
 use sparse_rows::{Rows, Sparse};
 use std::alloc::{AllocError, Global};
 use std::thread;
 use std::thread::Threads;
-use triangular_solve::{Accumulator, Leads};
 
 /// What each worker makes, or that memory ran out for it.
 pub type Share = Result<Vec<Sparse>, AllocError>;

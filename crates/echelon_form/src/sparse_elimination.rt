@@ -4,9 +4,9 @@ ghost use Rattle.residue_words.specs.Residues.{IsPrime};
 ghost use Rattle.row_space.specs.Echelon.{HasRank};
 ghost use Rattle.echelon_form.specs.Settling.{HaveSpanOf};
 
+use lead_rows::Leads;
 use sparse_rows::Rows;
 use std::alloc::{AllocError, Global};
-use triangular_solve::Leads;
 
 /// The rank of a matrix modulo a prime; modulo another number, how many rows an elimination leaves.
 ///

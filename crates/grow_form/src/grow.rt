@@ -13,12 +13,12 @@ use crate::numbering::Numbering;
 use crate::reduced_form::{rows_at_columns, settled_rows};
 use crew::Alone;
 use echelon_form::Echelon;
+use lead_rows::{Accumulator, Leads};
 use residue_words::Modulus;
 use sparse_rows::Rows;
 use std::alloc::{AllocError, Global};
 use std::marker::Model;
 use std::mem::replace;
-use triangular_solve::{Accumulator, Leads};
 
 // There is room for so many columns at least.
 const LEAST_ROOM: u64 = 256;

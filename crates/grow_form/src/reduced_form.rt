@@ -5,9 +5,9 @@ ghost use Rattle.echelon_form.specs.Settling.{AreSettled, IsOrderOfLeads};
 ghost use Rattle.grow_form.specs.Numbering.{AreKeptByNumbers, AreSettledByLeads, seen_matrix};
 
 use crate::numbering::Numbering;
+use lead_rows::{Accumulator, Leads};
 use sparse_rows::Rows;
 use std::alloc::{AllocError, Global};
-use triangular_solve::{Accumulator, Leads};
 
 // The rows that are kept by numbers and were settled, moved to the columns.
 pub(crate) fn rows_at_columns(

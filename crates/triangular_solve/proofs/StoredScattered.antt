@@ -1,18 +1,16 @@
 -- Rows whose entries stand in any order, one after another, and a multiple of one that is added.
-use Rattle.std.proofs.Common.{ℕ, zero, suc, ◌≡◌, ◌+◌, ◌-◌, ◌*◌, ◌%◌, ◌<◌, List, [], ◌∷◌, ◌++◌, length, map, slice_index, slice_range, slice_set, inl, inr, sym, refl, ap, ap₂, subst, ◌∙◌, arith, mod-eq_of_lt, mul-zero, add-zero}
+use Rattle.std.proofs.Common.{ℕ, ◌≡◌, ◌+◌, ◌-◌, ◌*◌, ◌%◌, ◌<◌, List, [], ◌∷◌, ◌++◌, length, map, slice_index, slice_range, inl, inr, sym, ap, ap₂, subst, ◌∙◌, arith}
 use Rattle.std.specs.List.{range_with_len}
-use Rattle.std.proofs.lemmas.Bool.{cases_eq, cases_lt}
-use Rattle.std.proofs.lemmas.List.{get_or_append_left, get_or_push, get_or-set_other, get_or-set_same, length-append, length-set, length_push}
+use Rattle.std.proofs.lemmas.Bool.{cases_lt}
+use Rattle.std.proofs.lemmas.List.{get_or_append_left, get_or_push, length-append, length_push}
 use Rattle.std.proofs.lemmas.List.FromFn.{length-map-range_with_len, map-range_with_len_more}
-use Rattle.residue_words.specs.Matrix.{IsMatrix, IsVector, Matrix, row}
-use Rattle.residue_words.proofs.Residues.{add_same}
-use Rattle.sparse_rows.specs.Rows.{AddsAt, AddsMultiple, ResidueRow}
-use Rattle.sparse_rows.specs.Stored.{IsSparse, entry_at, part, spread, stored_matrix, stored_row, with_row}
-use Rattle.sparse_rows.proofs.Adding.{IsAdding, IsAddingTo}
-use Rattle.sparse_rows.proofs.Spread.{at_spread, entry_cover, entry_head, entry_tail, length_spread, map_range_equal}
+use Rattle.residue_words.specs.Matrix.{IsMatrix, Matrix, row}
+use Rattle.sparse_rows.specs.Rows.{AddsMultiple, ResidueRow}
+use Rattle.sparse_rows.specs.Stored.{part, spread, stored_matrix, stored_row, with_row}
+use Rattle.sparse_rows.proofs.Spread.{at_spread, map_range_equal}
 use Rattle.sparse_rows.proofs.Stored.{part_before, part_end, row_stored}
+use Rattle.lead_rows.proofs.Scattered.{scattered_vector}
 use Rattle.triangular_solve.specs.FlatRows.{AddsRowTimes}
-use Rattle.lead_rows.specs.Scattered.{HaveDistinctColumns}
 use Rattle.lead_rows.specs.Scattered.{IsScattered, ListsBehind}
 use Rattle.triangular_solve.specs.ScatteredRows.{AreScattered}
 

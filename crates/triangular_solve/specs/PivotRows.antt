@@ -8,6 +8,7 @@ use Rattle.row_space.specs.Factors.{row_at, col_at}
 use Rattle.sparse_rows.specs.Rows.{AreBelow, ResidueMatrix, ResidueRow, support}
 use Rattle.sparse_rows.specs.declared.rows.TheConstants.{LARGEST_SIZE}
 use Rattle.lead_rows.specs.Accumulator.{IsClear}
+use Rattle.lead_rows.specs.Scattered.{HaveDistinctColumns}
 use Rattle.triangular_solve.specs.AscendingColumns.{IsPlaceOf}
 
 -- `places` has the place in the order of each of the sorted columns, as far as they are in it
