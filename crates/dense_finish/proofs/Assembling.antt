@@ -12,11 +12,13 @@ use Rattle.sparse_rows.specs.Rows.{ResidueMatrix}
 use Rattle.sparse_rows.specs.declared.rows.TheConstants.{LARGEST_SIZE}
 use Rattle.dense_finish.specs.declared.pivots.Pivots.{Pivots}
 use Rattle.dense_finish.specs.declared.right_factor.RightFactor.{RightFactor}
-use Rattle.dense_finish.specs.Block.{DenseBlock, IsBlock, IsBlockOf, IsDense, block_row, with_entries}
+use Rattle.dense_finish.specs.Block.{DenseBlock, IsBlock, IsBlockOf, IsDense, with_entries}
+use Rattle.dense_rows.specs.Rows.{block_row}
 use Rattle.dense_finish.specs.Factors.{IsFactored, IsLeftFactor}
 use Rattle.dense_finish.specs.Pivots.{AreEliminated, AreFound, ArePivotPlaces, EliminatesBlock, IsRightFactorOf, SplitBy, filled_entry}
-use Rattle.dense_finish.specs.Splitting.{IsTaken, parts}
-use Rattle.dense_finish.proofs.Indexing.{AreIndices, IsEmptyColumn, IsEmptyRow, filled_indices, index_or_not, occupied_indices}
+use Rattle.dense_finish.specs.Splitting.{parts}
+use Rattle.dense_rows.specs.Dense.{IsTaken}
+use Rattle.dense_rows.proofs.Indexing.{AreIndices, IsEmptyColumn, IsEmptyRow, filled_indices, index_or_not, occupied_indices}
 use Rattle.dense_finish.proofs.Splitting.{fresh, steps_front}
 
 -- different items have different names

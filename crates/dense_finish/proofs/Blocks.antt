@@ -3,7 +3,8 @@ use Rattle.std.proofs.Common.{ℕ, ◌≡◌, ◌-◌, ◌<◌, ◌≤◌, ◌�
 use Rattle.std.proofs.lemmas.Bool.{cases_lt}
 use Rattle.std.proofs.lemmas.List.{get_or-append_right, get_or_append_left}
 use Rattle.residue_words.specs.Matrix.{Matrix, IsVector, entry}
-use Rattle.dense_finish.specs.Block.{IsBlock, block_row}
+use Rattle.dense_finish.specs.Block.{IsBlock}
+use Rattle.dense_rows.specs.Rows.{block_row}
 
 -- the entries of some rows, and below them those of others
 pub block_joined : {p : ℕ} {A : Matrix} {a b columns : List ℕ} {x y : List (List ℕ)} → IsBlock p A a columns x → IsBlock p A b columns y → IsBlock p A (a ++ b) columns (x ++ y)

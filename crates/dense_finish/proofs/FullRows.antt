@@ -7,9 +7,9 @@ use Rattle.residue_words.specs.Matrix.{IsVector}
 use Rattle.sparse_rows.specs.Rows.{AreBelow, ResidueMatrix}
 use Rattle.sparse_rows.specs.Stored.{IsSparse, spread, with_sparse_row}
 use Rattle.sparse_rows.proofs.Spread.{at_spread, entry_cover, entry_here, length_spread}
-use Rattle.dense_finish.specs.Dense.{AppendsGathered, AppendsScattered, CanAppend, IsPut}
-use Rattle.dense_finish.proofs.Parts.{ending, length_ending}
-use Rattle.dense_finish.proofs.Putting.{put_from, put_same}
+use Rattle.dense_rows.specs.Dense.{AppendsGathered, AppendsScattered, CanAppend, IsPut}
+use Rattle.dense_rows.proofs.Parts.{ending, length_ending}
+use Rattle.dense_rows.proofs.Putting.{put_from, put_same}
 
 -- one number more
 pub counting_more : (n : ℕ) → range_with_len 0 (n + 1) ≡ range_with_len 0 n ++ n ∷ []

@@ -9,8 +9,8 @@ use Rattle.residue_words.specs.Matrix.{Matrix, IsMatrix, IsVector, entry, row, z
 use Rattle.residue_words.proofs.Vectors.{at_zeros, zeros_vector}
 use Rattle.sparse_rows.specs.Rows.{AreRising, ResidueMatrix, with_zeros}
 use Rattle.sparse_rows.specs.Stored.{with_row}
-use Rattle.dense_finish.specs.Block.{entry_of}
-use Rattle.dense_finish.specs.Dense.{Gathers}
+use Rattle.dense_rows.specs.Rows.{entry_of}
+use Rattle.dense_rows.specs.Dense.{Gathers}
 use Rattle.dense_finish.specs.Factors.{IsLeftFactor}
 use Rattle.dense_finish.specs.Pivots.{ArePivotPlaces}
 use Rattle.sparse_rows.proofs.Loops.{matrix_more, row_before, row_last}

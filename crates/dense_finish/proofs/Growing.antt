@@ -9,10 +9,9 @@ use Rattle.residue_words.specs.Residues.{IsPrime}
 use Rattle.sparse_rows.specs.Stored.{with_row}
 use Rattle.sparse_rows.proofs.Loops.{matrix_more, row_before, row_last}
 use Rattle.dense_finish.specs.declared.pivots.Pivots.{Pivots}
-use Rattle.dense_finish.specs.Dense.{IsPivotOf, IsPut, KeepsCoefficients}
+use Rattle.dense_rows.specs.Dense.{IsPivotOf, IsPut, IsTaken, KeepsCoefficients}
 use Rattle.dense_finish.specs.Pivots.{AddsPivot, AreFound, filled_entry, pivot_at}
-use Rattle.dense_finish.specs.Splitting.{IsTaken}
-use Rattle.dense_finish.proofs.Indexing.{index_or_not}
+use Rattle.dense_rows.proofs.Indexing.{index_or_not}
 
 -- residues that are put make a vector
 pub put_vector : {p n m : ℕ} {name value : ℕ → ℕ} {v : List ℕ} → 0 < p → ((k : ℕ) → k < m → value k < p) → IsPut n m name value v → IsVector p n v

@@ -4,7 +4,7 @@ use Rattle.std.proofs.lemmas.Bool.{cases_lt}
 use Rattle.std.proofs.lemmas.List.{get_or-append_right, get_or_append_left}
 use Rattle.residue_words.specs.Matrix.{IsVector}
 use Rattle.row_space.specs.Rows.{HasSteps}
-use Rattle.dense_finish.specs.Block.{block_row}
+use Rattle.dense_rows.specs.Rows.{block_row}
 use Rattle.dense_finish.specs.Panel.{ArePivots, Continues, PanelReduces, PanelRows, joined_panel}
 use Rattle.dense_finish.specs.Pivots.{AreFound, FindsPart, HasReached, IsPanelFrom, KeepsPivots, PanelStage, Stage, count, filled_entry, panel_stage, stage_of}
 use Rattle.dense_finish.specs.Splitting.{IsSplit, PivotSequence}

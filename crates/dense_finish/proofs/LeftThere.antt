@@ -5,11 +5,12 @@ use Rattle.residue_words.proofs.Vectors.{entry_matrix_of, is_matrix_of, matrix_o
 use Rattle.sparse_rows.specs.Rows.{AreBelow, ResidueMatrix}
 use Rattle.dense_finish.specs.declared.pivots.Pivots.{Pivots}
 use Rattle.dense_finish.specs.declared.right_factor.RightFactor.{RightFactor}
-use Rattle.dense_finish.specs.Block.{AreVectors, DenseBlock, IsBlockOf, entry_of}
+use Rattle.dense_finish.specs.Block.{DenseBlock, IsBlockOf}
+use Rattle.dense_rows.specs.Rows.{AreVectors, entry_of}
 use Rattle.dense_finish.specs.Factors.{IsLeftFactor, IsRightFactored}
 use Rattle.dense_finish.specs.Pivots.{EliminatesBlock, IsRightFactorOf}
 use Rattle.dense_finish.proofs.Assembling.{assembled, indices_apart}
-use Rattle.dense_finish.proofs.Indexing.{AreIndices, index_or_not}
+use Rattle.dense_rows.proofs.Indexing.{AreIndices, index_or_not}
 
 -- f of what is there, or 0
 abbrev there : {X Y : Type 0} → X ⊎ Y → (X → ℕ) → ℕ

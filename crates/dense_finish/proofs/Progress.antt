@@ -8,10 +8,11 @@ use Rattle.residue_words.specs.Matrix.{IsVector}
 use Rattle.residue_words.specs.Residues.{IsPrime}
 use Rattle.row_space.specs.Rows.{HasSteps}
 use Rattle.dense_finish.specs.declared.pivots.Pivots.{Pivots}
-use Rattle.dense_finish.specs.Block.{block_row, entry_of}
+use Rattle.dense_rows.specs.Rows.{block_row, entry_of}
 use Rattle.dense_finish.specs.Panel.{Continues, PanelReduces, PanelRows, no_pivots, with_pivot}
 use Rattle.dense_finish.specs.Pivots.{AreEliminated, AreFound, AreSplit, IsPanelFrom, filled_entry, pivot_sequence, stage}
-use Rattle.dense_finish.specs.Splitting.{IsSplit, IsTaken, PivotSequence}
+use Rattle.dense_finish.specs.Splitting.{IsSplit, PivotSequence}
+use Rattle.dense_rows.specs.Dense.{IsTaken}
 use Rattle.dense_finish.proofs.Growing.{AreCoefficients, Grows, IsPivotRow, unmarked}
 use Rattle.dense_finish.proofs.Splitting.{split_more, split_none, split_same}
 

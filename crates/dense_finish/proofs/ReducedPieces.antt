@@ -5,11 +5,11 @@ use Rattle.std.proofs.lemmas.List.{length-take-le}
 use Rattle.std.proofs.lemmas.List.Elements.{All-append, All-contains, All-drop, All-nil, All-take, All-weaker}
 use borrow.Rule.Slice.PartMut.{put_mid}
 use Rattle.residue_words.specs.Matrix.{IsVector}
-use Rattle.dense_finish.specs.Block.{block_row}
+use Rattle.dense_rows.specs.Rows.{block_row}
 use Rattle.dense_finish.specs.Panel.{PanelReduces, PanelReducesEach, PanelRows}
 use Rattle.dense_finish.specs.Pieces.{AreNewShares, ArePut, AreReducedBy, AreReducedByAll, AreReducedPieces, AreReducible, AreSharesOf, HaveReducible, IsInPieces, IsPieceOf, HasReducible, IsReducedPiece, IsShareOf, KeepShares, LiesIn, RowsFrom, ShareOf, SharesOf, new_share}
 use Rattle.dense_finish.specs.Units.{FoundPanel}
-use Rattle.dense_finish.proofs.BlockRows.{put_row_at, put_row_below}
+use Rattle.dense_rows.proofs.BlockRows.{put_row_at, put_row_below}
 
 -- k rows from a on
 pub part_long : (a k : ℕ) (rows : List (List ℕ)) → a + k ≤ length rows → length (take k (drop a rows)) ≡ k

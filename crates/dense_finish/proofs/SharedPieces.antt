@@ -10,7 +10,7 @@ use mathlib.Core.Option.{some, some-injective, some-ne-none}
 use lib.ListN.{get_elem?}
 use Rattle.crossbeam_queue.specs.Fifo.{Forks, Pops, Pushes}
 use Rattle.crossbeam_queue.proofs.Lists.{at_set, at_snoc, set_again}
-use Rattle.dense_finish.specs.Block.{block_row}
+use Rattle.dense_rows.specs.Rows.{block_row}
 use Rattle.dense_finish.specs.Pieces.{IsPieceOf, RowsFrom}
 use Rattle.dense_finish.specs.SharedPieces.{ArePieces, known}
 use Rattle.dense_finish.specs.declared.shared_pieces.Known.{Known}

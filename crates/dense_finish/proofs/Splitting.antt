@@ -8,10 +8,10 @@ use Rattle.residue_words.specs.Residues.{sum_below}
 use Rattle.residue_words.proofs.Residues.{add_same}
 use Rattle.residue_words.proofs.Sums.{sum_equal, sum_more}
 use Rattle.row_space.specs.Rows.{HasSteps}
-use Rattle.dense_finish.specs.Block.{block_row}
-use Rattle.dense_finish.specs.Dense.{TakesOut}
+use Rattle.dense_rows.specs.Rows.{block_row}
+use Rattle.dense_rows.specs.Dense.{IsTaken, TakesOut}
 use Rattle.dense_finish.specs.Panel.{PanelReduces, PanelRows}
-use Rattle.dense_finish.specs.Splitting.{IsSplit, IsTaken, PivotSequence, parts}
+use Rattle.dense_finish.specs.Splitting.{IsSplit, PivotSequence, parts}
 
 -- the panel's first k pivots
 abbrev pub first_pivots : ℕ → PanelRows → PanelRows

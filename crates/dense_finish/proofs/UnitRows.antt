@@ -8,8 +8,8 @@ use Rattle.residue_words.proofs.Residues.{add_same, mul_same}
 use Rattle.residue_words.proofs.Sums.{sum_add, sum_equal, sum_front, sum_pair, sum_same, sum_single, sum_zero}
 use Rattle.residue_words.proofs.Vectors.{at_zeros, length_list_of}
 use Rattle.row_space.specs.Rows.{HasSteps}
-use Rattle.dense_finish.specs.Block.{block_row, entry_of}
-use Rattle.dense_finish.specs.Dense.{IsCleared}
+use Rattle.dense_rows.specs.Rows.{block_row, entry_of}
+use Rattle.dense_rows.specs.Dense.{IsCleared}
 use Rattle.dense_finish.specs.Panel.{ArePivots, Continues, PanelReduces, PanelRows}
 use Rattle.dense_finish.specs.Splitting.{IsSplit, PivotSequence, parts}
 use Rattle.dense_finish.specs.Units.{AreUnits, unit_row}

@@ -1,20 +1,10 @@
 -- The dense block of a matrix: its rows, and what they are.
-use Rattle.std.specs.Prelude.{◌≡◌, ◌<◌, ◌≤◌, ℕ, List, [], length, slice_index, slice_index_or}
-use Rattle.residue_words.specs.Matrix.{Matrix, IsMatrix, IsVector, entry}
+use Rattle.std.specs.Prelude.{◌≡◌, ◌<◌, ◌≤◌, ℕ, List, length, slice_index}
+use Rattle.residue_words.specs.Matrix.{Matrix, IsMatrix, entry}
 use Rattle.sparse_rows.specs.Rows.{AreBelow, AreFilled, AreOccupied, AreRising, ResidueMatrix}
 use Rattle.sparse_rows.specs.declared.rows.TheConstants.{LARGEST_SIZE}
+use Rattle.dense_rows.specs.Rows.{AreVectors, entry_of}
 use Rattle.dense_finish.specs.declared.elimination.RowRange.{RowRange}
-
--- row t of a block's rows, and its entry at j: 0 outside
-abbrev pub block_row : List (List ℕ) → ℕ → List ℕ
-block_row rows t = slice_index_or rows t []
-
-abbrev pub entry_of : List (List ℕ) → ℕ → ℕ → ℕ
-entry_of rows t j = slice_index (block_row rows t) j
-
--- each row is one of n residues
-abbrev pub AreVectors : ℕ → ℕ → List (List ℕ) → Type 0
-AreVectors p n rows = (t : ℕ) → t < length rows → IsVector p n (block_row rows t)
 
 -- the entries of A at these rows and columns
 pub record IsBlock (p : ℕ) (A : Matrix) (rows columns : List ℕ) (block : List (List ℕ)) : Type 0 where

@@ -3,7 +3,7 @@ use Rattle.std.specs.Prelude.{◌≡◌, ◌≢◌, ◌<◌, ℕ, List, length, 
 use Rattle.residue_words.specs.Residues.{IsPrime}
 use Rattle.residue_words.specs.Matrix.{Matrix, entry}
 use Rattle.row_space.specs.Factors.{AreFactors, FitAsFactors}
-use Rattle.dense_finish.specs.Block.{entry_of}
+use Rattle.dense_rows.specs.Rows.{entry_of}
 use Rattle.sparse_rows.specs.Rows.{ResidueMatrix}
 use Rattle.dense_finish.specs.declared.factors.Factors.{Factors}
 use Rattle.dense_finish.specs.declared.right_factor.RightFactor.{RightFactor}

@@ -1,11 +1,8 @@
 pub mod Block
-pub mod Dense
 pub mod Factors
-pub mod Multiples
 pub mod Panel
 pub mod Pieces
 pub mod Pivots
-pub mod Products
 pub mod RowRoom
 pub mod SharedPieces
 pub mod Splitting

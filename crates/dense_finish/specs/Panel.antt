@@ -2,7 +2,7 @@
 use Rattle.std.specs.Prelude.{◌≡◌, ◌<◌, ◌+◌, ℕ, List, [], ◌∷◌, ◌++◌, length, slice_index}
 use Rattle.residue_words.specs.Matrix.{IsVector}
 use Rattle.row_space.specs.Rows.{HasSteps}
-use Rattle.dense_finish.specs.Block.{block_row, entry_of}
+use Rattle.dense_rows.specs.Rows.{block_row, entry_of}
 use Rattle.dense_finish.specs.Splitting.{IsSplit, PivotSequence}
 
 -- how many entries a row has, the pivots' columns and their rows

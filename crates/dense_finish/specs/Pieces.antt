@@ -1,7 +1,7 @@
 -- Pieces of the rows behind a panel, which workers reduce.
 use Rattle.std.specs.Prelude.{◌≡◌, ◌<◌, ◌≤◌, ◌+◌, ℕ, List, [], Vec, All, Contains, length}
 use Rattle.std.specs.declared.alloc.Global.{Global}
-use Rattle.dense_finish.specs.Block.{AreVectors, block_row}
+use Rattle.dense_rows.specs.Rows.{AreVectors, block_row}
 use Rattle.dense_finish.specs.Panel.{ArePivots, PanelReduces, PanelRows}
 use Rattle.dense_finish.specs.Units.{FoundPanel, HasUnits}
 

@@ -8,11 +8,12 @@ use Rattle.row_space.specs.Rows.{HasSteps}
 use Rattle.sparse_rows.specs.Rows.{AreBelow, AreRising}
 use Rattle.sparse_rows.specs.Stored.{with_row}
 use Rattle.sparse_rows.specs.declared.rows.TheConstants.{LARGEST_SIZE}
-use Rattle.dense_finish.specs.Block.{AreVectors, DenseBlock, IsDense, block_row, entry_of, with_entries}
-use Rattle.dense_finish.specs.Dense.{Scatters}
+use Rattle.dense_finish.specs.Block.{DenseBlock, IsDense, with_entries}
+use Rattle.dense_rows.specs.Rows.{AreVectors, block_row, entry_of}
+use Rattle.dense_rows.specs.Dense.{IsTaken, Scatters}
 use Rattle.dense_finish.specs.Factors.{IsLeftFactor}
 use Rattle.dense_finish.specs.Panel.{ArePivots, Continues, PanelRows}
-use Rattle.dense_finish.specs.Splitting.{IsSplit, IsTaken, PivotSequence}
+use Rattle.dense_finish.specs.Splitting.{IsSplit, PivotSequence}
 use Rattle.dense_finish.specs.Units.{FoundPanel, HasUnits}
 use Rattle.dense_finish.specs.declared.factors.Factors.{Factors}
 use Rattle.dense_finish.specs.declared.pivots.Pivots.{Pivots}

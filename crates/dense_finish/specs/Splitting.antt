@@ -1,15 +1,12 @@
 -- Rows split into multiples of pivots' rows and what is left off the pivots' columns.
 use Rattle.std.specs.Prelude.{◌≡◌, ◌<◌, ◌+◌, ◌*◌, ◌%◌, ℕ, List, slice_index}
 use Rattle.residue_words.specs.Residues.{sum_below}
+use Rattle.dense_rows.specs.Dense.{IsTaken}
 
 -- pivots of a block of n columns modulo p: the column of the k-th, and the entries of its row
 pub record PivotSequence (p n : ℕ) : Type 0 where
   pub column : ℕ → ℕ
   pub entry : ℕ → ℕ → ℕ
-
--- one of the first r pivots stands at column j
-abbrev pub IsTaken : ℕ → (ℕ → ℕ) → ℕ → Type 0
-IsTaken r column j = (k : ℕ) × (k < r) × (column k ≡ j)
 
 -- at column j, the sum of the first r pivots' rows with the coefficients that v holds at their columns
 abbrev pub parts : ℕ → (ℕ → ℕ → ℕ) → (ℕ → ℕ) → List ℕ → ℕ → ℕ

@@ -1,7 +1,7 @@
 -- What a panel leaves of unit rows.
 use Rattle.std.specs.Prelude.{◌≡◌, ◌<◌, ℕ, List, [], length, slice_index, slice_set}
 use Rattle.residue_words.specs.Matrix.{zeros}
-use Rattle.dense_finish.specs.Block.{AreVectors, block_row, entry_of}
+use Rattle.dense_rows.specs.Rows.{AreVectors, block_row, entry_of}
 use Rattle.dense_finish.specs.Panel.{PanelReduces, PanelRows, no_pivots}
 
 -- the row of n entries that is 1 at column c, and 0 elsewhere

@@ -1,8 +1,7 @@
 // Memory for the entries of a left factor.
 use crate::block::Block;
-use crate::panel::PANEL;
 use crate::pivots::room_for;
-use crate::residue::Residue;
+use dense_rows::{PANEL, Residue};
 use sparse_rows::EntryRoom;
 use std::alloc::{AllocError, Global};
 

@@ -1,21 +1,16 @@
 // The pivots of one panel, and what they leave of other rows.
 ghost use Rattle.std.specs.Prelude.{◌≡◌, ◌<◌, ◌≤◌, ◌↔◌, ℕ, length, IfOk, OnOk, IsTrue};
 ghost use Rattle.residue_words.specs.Matrix.{IsVector};
-ghost use Rattle.dense_finish.specs.Block.{AreVectors, block_row, entry_of};
+ghost use Rattle.dense_rows.specs.Rows.{AreVectors, block_row, entry_of};
 ghost use Rattle.dense_finish.specs.Panel.{ArePivots, PanelReduces, PanelReducesEach, joined_panel, no_pivots, with_pivot};
 ghost use Rattle.dense_finish.specs.Units.{AreUnits, AreUnitRows};
 ghost use Rattle.residue_words.specs.declared.shoup.TheConstants.{LANE_BOUND};
 
-use crate::dense::Dense;
-use crate::products::{BLOCK_ROWS, Columns, Folding, TILE_COLUMNS, add_products};
 use crate::reducing::Reducing;
-use crate::residue::Residue;
+use dense_rows::{BLOCK_ROWS, Columns, Dense, Folding, PANEL, Residue, TILE_COLUMNS, add_products};
 use residue_words::Modulus;
 use std::alloc::{AllocError, Global};
 use std::marker::Model;
-
-/// How many rows are searched for pivots before these are taken out of all rows behind.
-pub(crate) const PANEL: usize = 64;
 
 /// The columns of some pivots, and their rows, of so many entries: each row is 1 at its column, and 0 before it and at the
 /// columns of the pivots before. Contracts see these as `PanelRows`.

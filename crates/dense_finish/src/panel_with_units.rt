@@ -1,14 +1,13 @@
 // The pivots of a panel with what they leave of unit rows.
 ghost use Rattle.std.specs.Prelude.{◌≡◌, ◌<◌, ◌≤◌, ℕ, length, IfOk, OnOk};
-ghost use Rattle.dense_finish.specs.Block.{block_row};
+ghost use Rattle.dense_rows.specs.Rows.{block_row};
 ghost use Rattle.dense_finish.specs.Panel.{ArePivots, PanelReduces, joined_panel};
 ghost use Rattle.dense_finish.specs.Pieces.{AreReducible};
 ghost use Rattle.dense_finish.specs.Units.{HasUnits, nothing_found};
 
-use crate::dense::Dense;
 use crate::panel::Panel;
 use crate::reducing::Reducing;
-use crate::residue::Residue;
+use dense_rows::{Dense, Residue};
 use residue_words::Modulus;
 use std::alloc::{AllocError, Global};
 use std::marker::Model;

@@ -4,10 +4,10 @@ ghost use Rattle.crossbeam_queue.specs.Passes.{view, IsPassOf};
 ghost use Rattle.dense_finish.specs.Pieces.{IsPieceOf};
 
 use crate::pieces::Piece;
-use crate::residue::Residue;
 use crate::shared_pieces::{Another, Known, PieceQueue, TakenPiece};
 use crossbeam_queue::Pass;
 use crossbeam_queue::protocol::Free;
+use dense_rows::Residue;
 use std::marker::Model;
 
 // A worker at such a queue. Contracts see the rows that were put.

@@ -3,15 +3,13 @@ ghost use Rattle.std.specs.Prelude.{◌≡◌, ◌<◌, ◌≤◌, ◌++◌, All
 ghost use Rattle.dense_finish.specs.Panel.{PanelReducesEach};
 ghost use Rattle.dense_finish.specs.Pieces.{ArePut, AreReducedBy, AreReducible, HasReducible, IsReducedPiece, KeepShares, KeepsShare, LiesIn};
 
-use crate::dense::Dense;
 use crate::elimination::Elimination;
 use crate::left_room::LeftRoom;
 use crate::panel_with_units::PanelWithUnits;
 use crate::piece_taker::PieceTaker;
-use crate::products::TILE_ROWS;
 use crate::reducing::Reducing;
-use crate::residue::Residue;
 use crate::share::{Share, gathered};
+use dense_rows::{Dense, Residue, TILE_ROWS};
 use rayon::prelude::par_for_each_mut;
 use std::alloc::AllocError;
 use std::cmp::Reverse;

@@ -3,11 +3,10 @@ ghost use Rattle.std.specs.Prelude.{◌≡◌, ◌<◌, ◌≤◌, ℕ, length, 
 ghost use Rattle.residue_words.specs.Matrix.{IsVector};
 ghost use Rattle.sparse_rows.specs.Rows.{AreBelow};
 ghost use Rattle.sparse_rows.specs.declared.rows.TheConstants.{LARGEST_SIZE};
-ghost use Rattle.dense_finish.specs.Dense.{AppendsScattered, CanAppend};
+ghost use Rattle.dense_rows.specs.Dense.{AppendsScattered, CanAppend};
 
-use crate::dense::Dense;
 use crate::elimination::Elimination;
-use crate::residue::Residue;
+use dense_rows::{Dense, Residue};
 use residue_words::Modulus;
 use residue_words::plain::Pair;
 use sparse_rows::{List, Rows, Sparse};

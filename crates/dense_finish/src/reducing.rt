@@ -1,11 +1,10 @@
 // How a panel's pivots are taken out of rows.
-ghost use Rattle.dense_finish.specs.Block.{AreVectors};
+ghost use Rattle.dense_rows.specs.Rows.{AreVectors};
 ghost use Rattle.dense_finish.specs.Panel.{ArePivots, PanelReducesEach};
 ghost use Rattle.dense_finish.specs.Units.{AreUnits};
 
-use crate::dense::Dense;
 use crate::panel::Panel;
-use crate::residue::Residue;
+use dense_rows::{Dense, Residue};
 use residue_words::Modulus;
 
 /// A residue of whose rows a panel's pivots are taken out: in 32 bits by products of blocks, in 64 bits row by row.

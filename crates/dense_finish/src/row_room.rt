@@ -4,11 +4,10 @@ ghost use Rattle.std.specs.List.{range_with_len};
 ghost use Rattle.residue_words.specs.Matrix.{IsVector};
 ghost use Rattle.sparse_rows.specs.Rows.{AreBelow};
 ghost use Rattle.sparse_rows.specs.declared.rows.TheConstants.{LARGEST_SIZE};
-ghost use Rattle.dense_finish.specs.Dense.{AppendsGathered};
+ghost use Rattle.dense_rows.specs.Dense.{AppendsGathered};
 ghost use Rattle.dense_finish.specs.RowRoom.{ServesRows};
 
-use crate::dense::Dense;
-use crate::residue::Residue;
+use dense_rows::{Dense, Residue};
 use residue_words::Modulus;
 use sparse_rows::{Rows, Sparse};
 use std::alloc::{AllocError, Global};

@@ -4,7 +4,7 @@ ghost use Rattle.dense_finish.specs.Pieces.{ArePiecesOf, new_share};
 
 use crate::piece_taker::PieceTaker;
 use crate::pieces::Piece;
-use crate::residue::Residue;
+use dense_rows::Residue;
 use std::alloc::{AllocError, Global};
 use std::marker::Model;
 

@@ -2,11 +2,10 @@
 ghost use Rattle.std.specs.Prelude.{◌≡◌, ◌<◌, length, IfOk};
 ghost use Rattle.crossbeam_queue.specs.Passes.{view, IsPassOf};
 
-use crate::dense::Dense;
 use crate::pieces::{Piece, count_of_pieces, rows_of_next};
-use crate::residue::Residue;
 use crossbeam_queue::protocol::{Outcome, Protocol, Split};
 use crossbeam_queue::{Pass, RuledArrayQueue};
+use dense_rows::{Dense, Residue};
 use std::alloc::{AllocError, Global};
 use std::collections::LinkedList;
 use std::mem::replace;

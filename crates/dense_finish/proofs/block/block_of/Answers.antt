@@ -2,8 +2,8 @@ use Rattle.std.proofs.Common.{ℕ, [], ◌∷◌, ◌+◌, ◌<◌, ◌≡◌, �
 use Rattle.residue_words.specs.Matrix.{IsVector, entry, row}
 use Rattle.sparse_rows.specs.Stored.{entry_at}
 use Rattle.sparse_rows.proofs.Spread.{entry_support}
-use Rattle.dense_finish.proofs.Filling.{column_known}
-use Rattle.dense_finish.proofs.BlockRows.{appended}
+use Rattle.dense_rows.proofs.Filling.{column_known}
+use Rattle.dense_rows.proofs.BlockRows.{appended}
 use Rattle.dense_finish.proofs.block.block_of.Goals as goal
 
 pub loop-i-init : goal.loop-i-init

@@ -1,6 +1,6 @@
 use Rattle.std.proofs.Common.{ℕ, ◌≡◌, ◌<◌, length, slice_index}
 use Rattle.residue_words.specs.Matrix.{IsVector, entry}
-use Rattle.dense_finish.specs.Block.{block_row, entry_of}
+use Rattle.dense_rows.specs.Rows.{block_row, entry_of}
 use Rattle.dense_finish.proofs.block.block_of.Given as goal
 
 abbrev pub invariant-loop-i : goal.invariant-loop-i

@@ -3,9 +3,10 @@ use Rattle.std.proofs.lemmas.Bool.{cases_eq}
 use Rattle.std.proofs.lemmas.List.{get_or-take, get_or_default, length-take, length-take-le}
 use Rattle.sparse_rows.specs.Rows.{AreRising}
 use Rattle.residue_words.specs.Matrix.{IsVector}
-use Rattle.dense_finish.specs.Block.{DenseBlock, block_row, entry_of}
+use Rattle.dense_finish.specs.Block.{DenseBlock}
+use Rattle.dense_rows.specs.Rows.{block_row, entry_of}
 use Rattle.dense_finish.proofs.Gathering.{IsLeftSoFar, gathered_all, left_all, left_filled, left_none, left_zeros}
-use Rattle.dense_finish.proofs.BlockRows.{read_row}
+use Rattle.dense_rows.proofs.BlockRows.{read_row}
 use Rattle.dense_finish.proofs.factors.left_factor.Goals as goal
 
 -- indices ascend

@@ -1,6 +1,6 @@
 use Rattle.std.proofs.Common.{ℕ, ◌≡◌, ◌<◌, ◌∙◌, ap, arith, below_more, length, slice_index, sym}
-use Rattle.dense_finish.specs.Block.{entry_of}
-use Rattle.dense_finish.proofs.BlockRows.{read_row}
+use Rattle.dense_rows.specs.Rows.{entry_of}
+use Rattle.dense_rows.proofs.BlockRows.{read_row}
 use Rattle.dense_finish.proofs.panel.zeros_before.Goals as goal
 
 pub loop-k-init : goal.loop-k-init

@@ -1,5 +1,5 @@
 use Rattle.std.proofs.Common.{ℕ, ◌≡◌, ◌<◌, ◌≤◌}
-use Rattle.dense_finish.specs.Block.{entry_of}
+use Rattle.dense_rows.specs.Rows.{entry_of}
 use Rattle.dense_finish.proofs.panel.zeros_before.Given as goal
 
 abbrev pub invariant-loop-k : goal.invariant-loop-k

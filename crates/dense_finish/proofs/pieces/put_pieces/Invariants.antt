@@ -1,5 +1,5 @@
 use Rattle.std.proofs.Common.{ℕ, ◌<◌, ◌≤◌, All, Contains, length}
-use Rattle.dense_finish.specs.Block.{block_row}
+use Rattle.dense_rows.specs.Rows.{block_row}
 use Rattle.dense_finish.specs.Pieces.{IsInPieces}
 use Rattle.dense_finish.proofs.pieces.put_pieces.Given as goal
 

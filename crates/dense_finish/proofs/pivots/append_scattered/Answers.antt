@@ -2,7 +2,7 @@ use Rattle.std.proofs.Common.{◌∙◌, ap, arith, length, subst, sym}
 use Rattle.std.proofs.lemmas.Result.{on_ok_weaker}
 use Rattle.residue_words.specs.Matrix.{zeros}
 use Rattle.sparse_rows.proofs.Loops.{length_zeros}
-use Rattle.dense_finish.specs.Dense.{Scatters}
+use Rattle.dense_rows.specs.Dense.{Scatters}
 use Rattle.dense_finish.proofs.pivots.append_scattered.Goals as goal
 
 pub scatter-requires-clause-zero : goal.scatter-requires-clause-zero

@@ -2,7 +2,7 @@ use Rattle.std.proofs.Common.{◌∙◌, ap, arith, length, subst, sym}
 use Rattle.std.proofs.lemmas.Result.{on_ok_weaker}
 use Rattle.residue_words.specs.Matrix.{zeros}
 use Rattle.sparse_rows.proofs.Loops.{length_zeros}
-use Rattle.dense_finish.specs.Dense.{Gathers}
+use Rattle.dense_rows.specs.Dense.{Gathers}
 use Rattle.dense_finish.proofs.row_room.append_gathered.Goals as goal
 
 pub gather-requires-clause-long : goal.gather-requires-clause-long

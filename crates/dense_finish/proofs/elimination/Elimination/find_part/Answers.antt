@@ -1,6 +1,6 @@
 use Rattle.std.proofs.Common.{arith, subst, sym}
 use Rattle.residue_words.specs.Matrix.{IsVector}
-use Rattle.dense_finish.specs.Block.{block_row}
+use Rattle.dense_rows.specs.Rows.{block_row}
 use Rattle.dense_finish.specs.Pivots.{IsPanelFrom, count}
 use Rattle.dense_finish.proofs.Progress.{eliminated_behind, split_behind}
 use Rattle.dense_finish.proofs.elimination.Elimination.find_part.Goals as goal

@@ -1,13 +1,19 @@
-use Rattle.std.proofs.Common.{◌≡◌, ◌<◌, ◌∙◌, false, ap, arith, length, slice_index, slice_index_or, slice_set, subst, sym}
+use Rattle.std.proofs.Common.{List, ℕ, ◌≡◌, ◌<◌, ◌∙◌, false, ap, arith, length, slice_index, slice_index_or, slice_set, subst, sym}
 use Rattle.std.proofs.lemmas.List.{get_or-set_same}
 use Rattle.residue_words.specs.Matrix.{IsVector}
-use Rattle.dense_finish.specs.Dense.{IsZeroAtFree, IsFirstFree, IsPivotOf, KeepsCoefficients}
-use Rattle.dense_finish.proofs.BlockRows.{read_row, reduced_row}
+use Rattle.dense_rows.specs.Rows.{block_row}
+use Rattle.dense_rows.specs.Dense.{IsZeroAtFree, IsFirstFree, IsPivotOf, KeepsCoefficients}
+use Rattle.dense_rows.proofs.BlockRows.{read_row}
+use Rattle.dense_finish.specs.Panel.{PanelReduces, PanelRows}
 use Rattle.dense_finish.proofs.Growing.{found_own}
 use Rattle.dense_finish.proofs.Progress.{panel_begins}
 use Rattle.dense_finish.proofs.Stages.{kept_same, reduced_vector, stage_more, stage_more_kept, stage_more_split, stage_same, stage_same_split}
 use Rattle.dense_finish.proofs.elimination.Elimination.find_pivots.Goals as goal
 use Rattle.dense_finish.proofs.elimination.Elimination.find_pivots.Goals.{in-Some+in_ok-pivot+in_ok-push, in_default}
+
+-- a row that was read and reduced
+reduced_row : (p : ℕ) (panel : PanelRows) (block : List (List ℕ)) (i : ℕ) (d v : List ℕ) → i < length block → PanelReduces p panel (slice_index_or block i d) v → PanelReduces p panel (block_row block i) v
+reduced_row p panel block i d v l h = subst (λ u. PanelReduces p panel u v) (read_row block i d l) h
 
 pub loop-i-init : goal.loop-i-init
 loop-i-init g c = record {

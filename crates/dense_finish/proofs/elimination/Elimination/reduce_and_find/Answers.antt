@@ -1,6 +1,6 @@
 use Rattle.std.proofs.Common.{◌∙◌, ap, arith, subst, sym}
 use Rattle.residue_words.specs.Matrix.{IsVector}
-use Rattle.dense_finish.specs.Block.{block_row, entry_of}
+use Rattle.dense_rows.specs.Rows.{block_row, entry_of}
 use Rattle.dense_finish.specs.Pivots.{IsPanelFrom, count}
 use Rattle.dense_finish.specs.Units.{FoundPanel, HasUnits}
 use Rattle.dense_finish.proofs.PanelStages.{split_ends}

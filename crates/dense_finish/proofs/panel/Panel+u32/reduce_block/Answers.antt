@@ -4,12 +4,12 @@ use Rattle.std.proofs.lemmas.Bool.{cases_eq, cases_lt}
 use Rattle.std.proofs.lemmas.List.{get_or-set_other, get_or-set_same}
 use Rattle.residue_words.specs.Matrix.{IsVector}
 use Rattle.residue_words.specs.Residues.{sum_below}
-use Rattle.dense_finish.specs.Block.{block_row, entry_of}
-use Rattle.dense_finish.specs.Dense.{IsCleared}
+use Rattle.dense_rows.specs.Rows.{block_row, entry_of}
+use Rattle.dense_rows.specs.Dense.{IsCleared}
 use Rattle.dense_finish.specs.Panel.{PanelRows}
-use Rattle.dense_finish.proofs.AddingEach.{adds_vector}
-use Rattle.dense_finish.proofs.BlockRows.{read_row}
-use Rattle.dense_finish.proofs.ProductSums.{products_units, zeros_at}
+use Rattle.dense_rows.proofs.AddingEach.{adds_vector}
+use Rattle.dense_rows.proofs.BlockRows.{read_row}
+use Rattle.dense_rows.proofs.ProductSums.{products_units, zeros_at}
 use Rattle.dense_finish.proofs.UnitRows.{reduced_by_units}
 use Rattle.dense_finish.proofs.panel.Panel+u32.reduce_block.Goals as goal
 

@@ -1,6 +1,6 @@
 use Rattle.std.proofs.Common.{ℕ, ◌≡◌, ◌<◌, ◌≤◌, length, slice_index}
-use Rattle.dense_finish.specs.Block.{block_row, entry_of}
-use Rattle.dense_finish.specs.Dense.{IsCleared}
+use Rattle.dense_rows.specs.Rows.{block_row, entry_of}
+use Rattle.dense_rows.specs.Dense.{IsCleared}
 use Rattle.dense_finish.proofs.panel.Panel+u32.reduce_block.Given as goal
 
 abbrev pub invariant-loop-t : goal.invariant-loop-t

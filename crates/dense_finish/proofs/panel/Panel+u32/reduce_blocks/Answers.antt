@@ -2,9 +2,9 @@ use Rattle.std.proofs.Common.{ℕ, ◌≡◌, ◌<◌, ◌≤◌, ◌+◌, ◌-�
 use Rattle.std.proofs.lemmas.Bool.{cases_lt}
 use Rattle.std.proofs.lemmas.List.{length-take-le}
 use borrow.Rule.Slice.PartMut.{put_mid}
-use Rattle.dense_finish.specs.Block.{block_row}
+use Rattle.dense_rows.specs.Rows.{block_row}
 use Rattle.dense_finish.specs.Panel.{PanelReduces}
-use Rattle.dense_finish.proofs.BlockRows.{part_row, put_row_at, put_row_behind, put_row_below}
+use Rattle.dense_rows.proofs.BlockRows.{part_row, put_row_at, put_row_behind, put_row_below}
 use Rattle.dense_finish.proofs.panel.Panel+u32.reduce_blocks.Goals as goal
 
 pub loop-at-init : goal.loop-at-init

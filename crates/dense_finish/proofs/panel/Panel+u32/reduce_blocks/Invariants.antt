@@ -1,5 +1,5 @@
 use Rattle.std.proofs.Common.{ℕ, ◌≡◌, ◌<◌, ◌≤◌, ◌-◌, length}
-use Rattle.dense_finish.specs.Block.{block_row}
+use Rattle.dense_rows.specs.Rows.{block_row}
 use Rattle.dense_finish.specs.Panel.{PanelReduces}
 use Rattle.dense_finish.proofs.panel.Panel+u32.reduce_blocks.Given as goal
 

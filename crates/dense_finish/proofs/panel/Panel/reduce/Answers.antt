@@ -1,7 +1,7 @@
 use Rattle.std.proofs.Common.{[], ◌≡◌, ◌<◌, ◌∙◌, ap, arith, length, slice_index, subst}
 use Rattle.std.proofs.lemmas.List.{get_or_default, take_all}
-use Rattle.dense_finish.specs.Block.{block_row}
-use Rattle.dense_finish.specs.Dense.{TakesOut}
+use Rattle.dense_rows.specs.Rows.{block_row}
+use Rattle.dense_rows.specs.Dense.{TakesOut}
 use Rattle.dense_finish.specs.Panel.{PanelReduces, PanelRows}
 use Rattle.dense_finish.proofs.Splitting.{reduces_more, reduces_none}
 use Rattle.dense_finish.proofs.panel.Panel.reduce.Goals as goal

@@ -1,5 +1,5 @@
 use Rattle.dense_finish.specs.Panel.{PanelReduces}
-use Rattle.dense_finish.proofs.BlockRows.{put_each}
+use Rattle.dense_rows.proofs.BlockRows.{put_each}
 use Rattle.dense_finish.proofs.Splitting.{reduces_empty}
 use Rattle.dense_finish.proofs.panel.Panel.reduce_behind.Goals as goal
 

@@ -1,7 +1,7 @@
 use Rattle.std.proofs.Common.{[], ◌<◌, ◌∙◌, arith, length, refl, subst}
 use Rattle.std.proofs.lemmas.List.{get_or-set_other}
 use Rattle.dense_finish.specs.Panel.{PanelReduces}
-use Rattle.dense_finish.proofs.BlockRows.{each_more, read_row}
+use Rattle.dense_rows.proofs.BlockRows.{each_more, read_row}
 use Rattle.dense_finish.proofs.panel.Panel.reduce_each.Goals as goal
 
 pub loop-k-init : goal.loop-k-init

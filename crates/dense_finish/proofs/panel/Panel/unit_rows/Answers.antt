@@ -3,8 +3,8 @@ use Rattle.std.proofs.lemmas.List.{get_or_default}
 use Rattle.residue_words.specs.Matrix.{IsVector, zeros}
 use Rattle.dense_finish.specs.Panel.{PanelRows}
 use Rattle.dense_finish.specs.Units.{unit_row}
-use Rattle.dense_finish.proofs.BlockRows.{appended}
-use Rattle.dense_finish.proofs.TakingOut.{vector_set}
+use Rattle.dense_rows.proofs.BlockRows.{appended}
+use Rattle.dense_rows.proofs.TakingOut.{vector_set}
 use Rattle.dense_finish.proofs.panel.Panel.unit_rows.Goals as goal
 
 pub set-requires-clause-residue : goal.set-requires-clause-residue

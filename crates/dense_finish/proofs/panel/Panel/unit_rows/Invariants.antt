@@ -1,5 +1,5 @@
 use Rattle.std.proofs.Common.{ℕ, ◌≡◌, ◌<◌, length, slice_index}
-use Rattle.dense_finish.specs.Block.{AreVectors, block_row}
+use Rattle.dense_rows.specs.Rows.{AreVectors, block_row}
 use Rattle.dense_finish.specs.Units.{unit_row}
 use Rattle.dense_finish.proofs.panel.Panel.unit_rows.Given as goal
 

@@ -1,7 +1,7 @@
 use Rattle.std.proofs.Common.{◌≡◌, ◌++◌, ◌∙◌, ap, arith, drop, length, subst, sym, take}
-use Rattle.dense_finish.specs.Block.{block_row, entry_of}
+use Rattle.dense_rows.specs.Rows.{block_row, entry_of}
 use Rattle.dense_finish.specs.Panel.{PanelReduces}
-use Rattle.dense_finish.proofs.Parts.{refilled}
+use Rattle.dense_rows.proofs.Parts.{refilled}
 use Rattle.dense_finish.proofs.panel.Panel.units.Goals as goal
 
 pub reduce_each-requires-clause-residues : goal.reduce_each-requires-clause-residues

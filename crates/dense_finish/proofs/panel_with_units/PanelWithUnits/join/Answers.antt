@@ -1,6 +1,6 @@
 use Rattle.std.proofs.Common.{ℕ, ◌≡◌, ◌<◌, ◌++◌, ◌∙◌, ap, arith, drop, length, slice_index, subst, sym, take}
 use Rattle.std.proofs.Math.Seq.{take-append_seam}
-use Rattle.dense_finish.specs.Block.{block_row}
+use Rattle.dense_rows.specs.Rows.{block_row}
 use Rattle.dense_finish.specs.Panel.{ArePivots, PanelReduces, PanelRows, joined_panel}
 use Rattle.dense_finish.specs.Units.{FoundPanel, HasUnits, unit_row}
 use Rattle.dense_finish.proofs.JoinedPanels.{joined_reduces, joined_units}

@@ -2,7 +2,7 @@ use Rattle.std.proofs.Common.{ℕ, ◌≡◌, ◌≤◌, ◌∙◌, List, ◌++�
 use Rattle.std.specs.List.{range_with_len}
 use Rattle.std.proofs.lemmas.Result.{on_ok_weaker}
 use Rattle.dense_finish.proofs.FullRows.{AreFullAt, at_places, gathered_appended, gathered_sparse, length_places}
-use Rattle.dense_finish.proofs.Parts.{refilled}
+use Rattle.dense_rows.proofs.Parts.{refilled}
 use Rattle.dense_finish.proofs.row_room.RowRoom.append_to.Goals as goal
 use Rattle.dense_finish.proofs.row_room.RowRoom.append_to.Goals.{After-deref-3}
 

@@ -1,5 +1,0 @@
-use Rattle.dense_finish.specs.Products.{IsWritten, columns_of}
-use Rattle.dense_finish.proofs.dense.Dense+u32.write_singly.Given as goal
-
-abbrev pub invariant-loop-j : goal.invariant-loop-j
-invariant-loop-j l = IsWritten (columns_of l.columns.start l.j) l.values l.fn.self l.self

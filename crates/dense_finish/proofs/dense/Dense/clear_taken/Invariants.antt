@@ -1,5 +1,0 @@
-use Rattle.dense_finish.proofs.Dividing.{IsClearingTaken}
-use Rattle.dense_finish.proofs.dense.Dense.clear_taken.Given as goal
-
-abbrev pub invariant-loop-j : goal.invariant-loop-j
-invariant-loop-j g l = IsClearingTaken l.p l.from l.taken l.fn.self l.j l.self

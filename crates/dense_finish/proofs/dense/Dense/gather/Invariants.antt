@@ -1,9 +1,0 @@
-use Rattle.std.proofs.Common.{◌≡◌, length, slice_index}
-use Rattle.dense_finish.specs.Dense.{IsPut}
-use Rattle.dense_finish.proofs.dense.Dense.gather.Given as goal
-
-abbrev pub invariant-loop-k : goal.invariant-loop-k
-invariant-loop-k g l = record {
-  modulus : l.to.modulus ≡ l.fn.to.modulus;
-  put : IsPut (length l.fn.to.row) l.k (λ k. k) (λ k. slice_index l.self (slice_index l.columns k)) l.to.row;
-}

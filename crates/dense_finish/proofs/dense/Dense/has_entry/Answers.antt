@@ -1,5 +1,0 @@
-use Rattle.dense_finish.proofs.Zeros.{zero_more}
-use Rattle.dense_finish.proofs.dense.Dense.has_entry.Goals as goal
-
-pub loop-j-preserved : goal.loop-j-preserved
-loop-j-preserved g c = zero_more c.args.self.now c.get.ensures c.loop-j.invariant

@@ -1,5 +1,0 @@
-use Rattle.std.proofs.Common.{ℕ, ◌≡◌, ◌<◌, ◌≤◌, false, slice_index}
-use Rattle.dense_finish.proofs.dense.Dense.has_entry.Given as goal
-
-abbrev pub invariant-loop-j : goal.invariant-loop-j
-invariant-loop-j g l = l.any ≡ false → (x : ℕ) → l.start ≤ x → x < l.j → slice_index l.self x ≡ 0

@@ -1,6 +1,0 @@
-use Rattle.std.proofs.Common.{length, map, slice_index}
-use Rattle.dense_finish.proofs.Writing.{AreWritten}
-use Rattle.dense_finish.proofs.dense.write_named.Given as goal
-
-abbrev pub invariant-loop-k : goal.invariant-loop-k
-invariant-loop-k g l = AreWritten (λ k. slice_index (map g.W.Residue.value l.residues) (slice_index l.places k)) (length l.fn.to) l.any l.k l.to

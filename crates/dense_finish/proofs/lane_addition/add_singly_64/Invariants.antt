@@ -1,5 +1,0 @@
-use Rattle.dense_finish.specs.Multiples.{IsAddedBelow, plus_at}
-use Rattle.dense_finish.proofs.lane_addition.add_singly_64.Given as goal
-
-abbrev pub invariant-loop-k : goal.invariant-loop-k
-invariant-loop-k l = IsAddedBelow (plus_at l.by.p l.by.factor l.initial.out l.y) l.initial.out l.k l.out

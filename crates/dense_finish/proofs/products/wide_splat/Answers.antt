@@ -1,5 +1,0 @@
-use Rattle.dense_finish.proofs.ProductSums.{wide_lanes}
-use Rattle.dense_finish.proofs.products.wide_splat.Goals as goal
-
-pub returns : goal.returns
-returns c = wide_lanes 8 c.args.c c.ranges.c.fits

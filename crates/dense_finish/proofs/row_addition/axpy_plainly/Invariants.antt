@@ -1,5 +1,0 @@
-use Rattle.dense_finish.specs.Multiples.{IsAddedBelow, plus_at}
-use Rattle.dense_finish.proofs.row_addition.axpy_plainly.Given as goal
-
-abbrev pub invariant-loop-k : goal.invariant-loop-k
-invariant-loop-k l = IsAddedBelow (plus_at l.p l.a l.initial.out l.y) l.initial.out l.k l.out

@@ -1,0 +1,13 @@
+pub mod Adding
+pub mod AddingEach
+pub mod BlockRows
+pub mod Dividing
+pub mod Filling
+pub mod Indexing
+pub mod Parts
+pub mod ProductSums
+pub mod Putting
+pub mod TakingOut
+pub mod Vectors
+pub mod Writing
+pub mod Zeros

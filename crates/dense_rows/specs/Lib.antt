@@ -1,0 +1,4 @@
+pub mod Dense
+pub mod Multiples
+pub mod Products
+pub mod Rows
