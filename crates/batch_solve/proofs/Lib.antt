@@ -6,5 +6,4 @@ pub mod BatchShapes
 pub mod BatchWhole
 pub mod BatchWriting
 pub mod OneBatchAnswer
-pub mod Serving
 pub mod Slots

@@ -7,7 +7,7 @@ use Rattle.std.proofs.lemmas.List.Elements.{All-append, All-drop, All-take}
 use Rattle.sparse_rows.specs.Rows.{ResidueMatrix}
 use Rattle.kernel_solve.specs.Prepared.{IsReply, Preparation}
 use Rattle.kernel_solve.specs.declared.prepared.Reply.{Reply}
-use Rattle.batch_solve.specs.Desk.{DeskState}
+use Rattle.question_desk.specs.Desk.{DeskState}
 use Rattle.batch_solve.specs.Replies.{AreReplies, AreSlots, IsAnsweredAt, IsIdleAt, WorksAt, RepliesAt}
 use Rattle.batch_solve.specs.declared.worker.Answered.{Answered}
 use Rattle.batch_solve.specs.declared.worker.Worker.{Worker}

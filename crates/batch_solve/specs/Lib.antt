@@ -4,8 +4,5 @@ pub mod BatchLine
 pub mod BatchRan
 pub mod BatchStatus
 pub mod BatchWords
-pub mod Desk
 pub mod Example
-pub mod Laws
 pub mod Replies
-pub mod Rule

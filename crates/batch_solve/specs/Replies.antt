@@ -3,7 +3,7 @@ use Rattle.std.specs.Prelude.{◌≡◌, ℕ, ◌<◌, List, [], Option, Some, l
 use Rattle.sparse_rows.specs.Rows.{ResidueMatrix}
 use Rattle.kernel_solve.specs.Prepared.{IsReply, Preparation}
 use Rattle.kernel_solve.specs.declared.prepared.Reply.{Reply}
-use Rattle.batch_solve.specs.Desk.{DeskState, IsTakerOf}
+use Rattle.question_desk.specs.Desk.{DeskState, IsTakerOf}
 use Rattle.batch_solve.specs.declared.worker.Answered.{Answered}
 use Rattle.batch_solve.specs.declared.worker.Worker.{Worker}
 

@@ -1,14 +1,13 @@
 // All questions, answered by several workers.
 ghost use Rattle.std.specs.Prelude.{All, ◌≡◌, ◌<◌, ◌^◌, None, IfOk, IfSome, length, replicate};
 ghost use Rattle.kernel_solve.specs.Prepared.{IsReply};
-ghost use Rattle.batch_solve.specs.Desk.{IsTakerOf};
+ghost use Rattle.question_desk.specs.Desk.{IsTakerOf};
 ghost use Rattle.batch_solve.specs.Replies.{AreReplies, AreSlots, IsAnsweredAt, IsIdleAt, IsQuestion, WorksAt};
 
-use crate::desk::Desk;
-use crate::taker::Taker;
 use crate::watch::Watch;
 use crate::worker::{Answered, Worker};
 use kernel_solve::{Prepared, Reply};
+use question_desk::{Desk, Taker};
 use sparse_rows::Rows;
 use std::alloc::{AllocError, Global};
 use std::sync::Wait;

@@ -2,10 +2,9 @@
 ghost use Rattle.std.specs.Prelude.{All, ◌≡◌, ◌<◌, length};
 ghost use Rattle.batch_solve.specs.Replies.{IsAnsweredAt, IsQuestion, WorksAt};
 
-use crate::desk::Desk;
-use crate::taker::Taker;
 use crate::watch::Watch;
 use kernel_solve::{Prepared, Reply};
+use question_desk::{Desk, Taker};
 use sparse_rows::Rows;
 use std::alloc::{AllocError, Global};
 use std::sync::Wait;

@@ -1,7 +1,7 @@
 use Rattle.std.proofs.Common.{ap, ◌∙◌}
-use Rattle.batch_solve.specs.declared.known_numbers.KnownNumbers.{KnownNumbers}
-use Rattle.batch_solve.proofs.Serving.{gives, puts_end}
-use Rattle.batch_solve.proofs.desk.Desk.take.Goals as goal
+use Rattle.question_desk.specs.declared.known_numbers.KnownNumbers.{KnownNumbers}
+use Rattle.question_desk.proofs.Serving.{gives, puts_end}
+use Rattle.question_desk.proofs.desk.Desk.take.Goals as goal
 
 pub try_recv_as-requires-clause-rule : goal.try_recv_as-requires-clause-rule
 try_recv_as-requires-clause-rule g c = (gives _ _, λ items views k at. tt)

@@ -4,9 +4,9 @@ use Rattle.std.specs.List.{Contains, range_with_len}
 use mathlib.Core.Option.{some}
 use lib.ListN.{get_elem?}
 use Rattle.sparse_rows.specs.Rows.{AreRising}
-use Rattle.batch_solve.specs.declared.number_or_end.NumberOrEnd.{NumberOrEnd}
-use Rattle.batch_solve.specs.declared.number_or_end.NumberOrEnd.TheVariants.{Number, End}
-use Rattle.batch_solve.specs.declared.known_numbers.KnownNumbers.{KnownNumbers}
+use Rattle.question_desk.specs.declared.number_or_end.NumberOrEnd.{NumberOrEnd}
+use Rattle.question_desk.specs.declared.number_or_end.NumberOrEnd.TheVariants.{Number, End}
+use Rattle.question_desk.specs.declared.known_numbers.KnownNumbers.{KnownNumbers}
 
 abbrev pub known : ℕ → List ℕ → Bool → Bool → KnownNumbers
 known count taken drained fills = record { count = count; taken = taken; drained = drained; fills = fills }

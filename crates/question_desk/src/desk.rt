@@ -3,8 +3,8 @@ ghost use Rattle.std.specs.Prelude.{◌≡◌, ◌≤◌, [], false, IfOk, OnOk}
 ghost use Rattle.std.specs.Option.{MatchOption};
 ghost use Rattle.crossbeam_channel.specs.Claims.{view, IsSeatAt};
 ghost use Rattle.crossbeam_channel.specs.Ends.{sends_on};
-ghost use Rattle.batch_solve.specs.Desk.{TakesNumber, LeavesDrained, IsTakerOf};
-ghost use Rattle.batch_solve.specs.Rule.{known_first, known_filling};
+ghost use Rattle.question_desk.specs.Desk.{TakesNumber, LeavesDrained, IsTakerOf};
+ghost use Rattle.question_desk.specs.Rule.{known_first, known_filling};
 
 use crate::desk_rule::{DeskLaw, DeskPart, End, Fill, Take};
 use crate::known_numbers::KnownNumbers;
@@ -33,7 +33,7 @@ impl Model for Desk {
     ghost use Rattle.std.specs.Prelude.{◌≡◌};
     ghost use Rattle.crossbeam_channel.specs.Claims.{IsKeyed};
     ghost use Rattle.crossbeam_channel.specs.Ends.{sends_on, receives_on};
-    ghost use Rattle.batch_solve.specs.Desk.{DeskState};
+    ghost use Rattle.question_desk.specs.Desk.{DeskState};
 
     ghost Value = { DeskState };
 

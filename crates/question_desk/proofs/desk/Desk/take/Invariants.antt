@@ -1,7 +1,7 @@
 use Rattle.std.specs.Prelude.{◌≡◌}
 use Rattle.crossbeam_channel.specs.Claims.{view, IsSeatAt}
 use Rattle.crossbeam_channel.specs.Ends.{sends_on}
-use Rattle.batch_solve.proofs.desk.Desk.take.Given as goal
+use Rattle.question_desk.proofs.desk.Desk.take.Given as goal
 
 abbrev pub invariant-loop : goal.invariant-loop
 invariant-loop g l = IsSeatAt (sends_on l.self-inside.sender) l.taker-inside.pass × (view l.taker-inside.pass ≡ view l.initial.taker-inside.pass)

@@ -13,10 +13,10 @@ use Rattle.crossbeam_channel.specs.Fifo.{Pushes, Pops, Forks}
 use Rattle.residue_words.proofs.Lists.{contains_at, in_cases, in_head, not_in_nil}
 use Rattle.sparse_rows.specs.Rows.{AreRising}
 use Rattle.sparse_rows.proofs.Occurring.{rising_push}
-use Rattle.batch_solve.specs.declared.number_or_end.NumberOrEnd.{NumberOrEnd}
-use Rattle.batch_solve.specs.declared.number_or_end.NumberOrEnd.TheVariants.{Number, End}
-use Rattle.batch_solve.specs.declared.known_numbers.KnownNumbers.{KnownNumbers}
-use Rattle.batch_solve.specs.Rule.{known, known_first, filled, known_kept, known_new, Gives, numbers_and_ends, Took, StandsOnce, IsServed, IsFillingDesk, KeepsDesk}
+use Rattle.question_desk.specs.declared.number_or_end.NumberOrEnd.{NumberOrEnd}
+use Rattle.question_desk.specs.declared.number_or_end.NumberOrEnd.TheVariants.{Number, End}
+use Rattle.question_desk.specs.declared.known_numbers.KnownNumbers.{KnownNumbers}
+use Rattle.question_desk.specs.Rule.{known, known_first, filled, known_kept, known_new, Gives, numbers_and_ends, Took, StandsOnce, IsFillingDesk, KeepsDesk}
 
 -- lists of what passes know
 

@@ -1,6 +1,6 @@
 // The rule of a desk's channel, and what its steps tell.
 ghost use Rattle.std.specs.Prelude.{◌≡◌, ⊤};
-ghost use Rattle.batch_solve.specs.Rule.{KeepsDesk, known_first, filled, Gives, known_kept, known_new};
+ghost use Rattle.question_desk.specs.Rule.{KeepsDesk, known_first, filled, Gives, known_kept, known_new};
 
 use crate::known_numbers::KnownNumbers;
 use crate::number_or_end::NumberOrEnd;

@@ -1,7 +1,7 @@
 use Rattle.std.proofs.Common.{ap, sym}
-use Rattle.batch_solve.specs.declared.known_numbers.KnownNumbers.{KnownNumbers}
-use Rattle.batch_solve.proofs.Serving.{puts_number}
-use Rattle.batch_solve.proofs.desk.fill.Goals as goal
+use Rattle.question_desk.specs.declared.known_numbers.KnownNumbers.{KnownNumbers}
+use Rattle.question_desk.proofs.Serving.{puts_number}
+use Rattle.question_desk.proofs.desk.fill.Goals as goal
 
 pub send_as-requires-clause-rule : goal.send_as-requires-clause-rule
 send_as-requires-clause-rule g c = (

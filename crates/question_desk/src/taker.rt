@@ -13,7 +13,7 @@ pub struct Taker {
 
 impl Model for Taker {
     ghost use Rattle.std.specs.Prelude.{◌≡◌, false, []};
-    ghost use Rattle.batch_solve.specs.Desk.{TakerState};
+    ghost use Rattle.question_desk.specs.Desk.{TakerState};
 
     ghost Value = { TakerState };
 

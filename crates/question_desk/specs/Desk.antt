@@ -3,7 +3,7 @@ use Rattle.std.specs.Prelude.{◌≡◌, ℕ, ◌<◌, Bool, true, false, List, 
 use Rattle.atomic_table.specs.Seated.{TableId}
 use Rattle.atomic_table.specs.declared.badge.Badge.{Badge}
 use Rattle.crossbeam_channel.specs.declared.flavors.array.Key.{Key}
-use Rattle.batch_solve.specs.declared.number_or_end.NumberOrEnd.{NumberOrEnd}
+use Rattle.question_desk.specs.declared.number_or_end.NumberOrEnd.{NumberOrEnd}
 
 -- a desk: the names of its channel, and how many numbers it began with
 pub record DeskState : Type 0 where

@@ -1,5 +1,5 @@
-use Rattle.batch_solve.proofs.Serving.{begins, parts}
-use Rattle.batch_solve.proofs.desk.Desk.new.Goals as goal
+use Rattle.question_desk.proofs.Serving.{begins, parts}
+use Rattle.question_desk.proofs.desk.Desk.new.Goals as goal
 
 pub bounded_with-requires-clause-rule : goal.bounded_with-requires-clause-rule
 bounded_with-requires-clause-rule g c = begins

@@ -2,9 +2,9 @@
 use Rattle.std.specs.Prelude.{◌≡◌, ℕ, ◌<◌, true, List}
 use mathlib.Core.Option.{some}
 use lib.ListN.{get_elem?}
-use Rattle.batch_solve.specs.declared.number_or_end.NumberOrEnd.{NumberOrEnd}
-use Rattle.batch_solve.specs.declared.known_numbers.KnownNumbers.{KnownNumbers}
-use Rattle.batch_solve.specs.Rule.{KeepsDesk, StandsOnce, Took}
+use Rattle.question_desk.specs.declared.number_or_end.NumberOrEnd.{NumberOrEnd}
+use Rattle.question_desk.specs.declared.known_numbers.KnownNumbers.{KnownNumbers}
+use Rattle.question_desk.specs.Rule.{KeepsDesk, StandsOnce, Took}
 
 -- a number stands in the lists of two passes only where they are one
 abbrev pub ListsShareNoNumber : Type 0
