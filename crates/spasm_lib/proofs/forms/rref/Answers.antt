@@ -1,5 +1,5 @@
 -- The rows of the form.
-use Rattle.std.proofs.Common.{◌≡◌, ◌∙◌, ℕ, ap, arith, subst, sym}
+use Rattle.std.proofs.Common.{◌∙◌, ap, arith, subst, sym}
 use Rattle.residue_words.specs.Matrix.{Matrix, IsMatrix}
 use Rattle.row_space.specs.Echelon.{IsRref}
 use Rattle.spasm_lib.proofs.forms.rref.Goals as goal
