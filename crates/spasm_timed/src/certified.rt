@@ -5,7 +5,7 @@ ghost use Rattle.pluq_factor.specs.Rounds.{AreFactorsOf};
 
 use crate::texts::{PRIME, matrix};
 use cert_checker::check;
-use certificates::{CertKind, Certificate};
+use certificates::{Certificate, Claim};
 use optimistic_search::Open;
 use pluq_factor::{Factors, Plan, factor};
 use residue_words::Modulus;
@@ -97,13 +97,11 @@ fn of_rank(rows: &Rows, factors: Factors) -> Certificate
     rows.is_sound();
     let Factors { pivots, l, u } = factors;
     Certificate {
-        kind: CertKind::Rank,
         p: rows.modulus().p(),
-        rank: pivots.items().len() as u32,
         pivots,
         l,
         u,
-        extra: None,
+        claim: Claim::Rank,
     }
 }
 
