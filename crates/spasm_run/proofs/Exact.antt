@@ -15,8 +15,8 @@ use Rattle.sms_text.specs.Numbers.{are_digits, is_digit, is_number}
 use Rattle.spasm_run.specs.Words.{Accepted, AreKnown, AreRefused, Given, InRange, IsNumber, IsValue, OneOf, OptionValues, Rule, Setting, cols_rule, kind_rule, modulus_rule, names_of, own_settings, place_among, per_rule, rounds_rule, rows_rule, seed_rule, setting, settings, spelling, spelling_of, task_name, workers_rule}
 use Rattle.spasm_run.specs.Options.{AcceptedIsPlain, AreTaken, RowsSet, IsCommandOf, IsOneCommand, AsksFor}
 use Rattle.spasm_run.specs.Line.{command_line, commands, option_names}
-use Rattle.certificates.specs.declared.certificate.CertKind.{CertKind}
-use Rattle.certificates.specs.declared.certificate.CertKind.TheVariants as kind
+use Rattle.certificates.specs.declared.cert_kind.CertKind.{CertKind}
+use Rattle.certificates.specs.declared.cert_kind.CertKind.TheVariants as kind
 use Rattle.spasm_run.specs.declared.words.Command.{Command}
 use Rattle.spasm_run.specs.declared.words.Task.{Task}
 use Rattle.spasm_run.specs.declared.words.Task.TheVariants.{Rank, Rref, Kernel, Solve, LeftKernel, Inverse, Pivots, Check, Trace, Replay, Grow, Drill, Certify}

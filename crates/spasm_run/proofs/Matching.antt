@@ -1,8 +1,10 @@
 -- What the matches say of the words.
 use Rattle.std.proofs.Common.{◌≡◌, ◌≢◌, ◌<◌, inl, inr, ◌∙◌, ◌&&◌, ℕ, suc, Bool, true, false, All, List, [], ◌∷◌, codes, MatchOption, Option, Some, None, refl, sym, ap, subst, arith}
 use Rattle.std.specs.List.{slice_index_or}
+use Rattle.std.specs.Str.{bytes_eq}
 use Rattle.std.proofs.lemmas.List.Elements.{All-cons, All-nil}
-use Rattle.std.specs.Prelude.{Box, option_map, unwrap_or}
+use Rattle.std.proofs.lemmas.Slice.Eq.{bytes_eq-Decides}
+use Rattle.std.specs.Prelude.{Box, if◌then◌else◌, option_map, unwrap_or}
 use Rattle.std.specs.Box.{box_value}
 use Rattle.clap.specs.Words.{App, HasKind, HasMatchesOf, IsAmong, Kinds, Row, Text, built, fault_of, first_value, found_of, is_simple, is_simple_and_free, kind_of, matches_of, rows_of, subcommand_of, subcommand_rows, subcommand_rows_of}
 use Rattle.clap.specs.Faults.{is_free_app}
@@ -14,9 +16,12 @@ use Rattle.clap.specs.declared.parser.matches.ArgMatches.TheViews.{out-SubComman
 use Rattle.clap.specs.declared.parser.matches.Found.{Found}
 use Rattle.clap.specs.declared.parser.matches.SubCommand.{SubCommand}
 use Rattle.clap.proofs.WalkLemmas.{first_value-rows}
+use Rattle.sms_text.specs.OuterLines.{is_kind_word}
 use Rattle.spasm_run.specs.Options.{AsksFor, IsTaskOf, RowsSet}
 use Rattle.spasm_run.specs.Words.{IsNumber, IsValue, Rule, Setting, cols_rule, modulus_rule, kind_place, kind_rule, own_settings, per_rule, rounds_rule, rows_rule, seed_rule, setting, settings, task_name, workers_rule}
-use Rattle.certificates.specs.declared.certificate.CertKind.{CertKind}
+use Rattle.certificates.specs.declared.cert_kind.CertKind.{CertKind}
+use Rattle.certificates.specs.declared.cert_kind.CertKind.TheVariants as kind
+use Rattle.certificates.specs.CertificateText.{kind_word}
 use Rattle.spasm_run.specs.declared.generator.Generator.{Generator}
 use Rattle.spasm_run.specs.declared.words.Task.{Task}
 use Rattle.spasm_run.specs.declared.words.Task.TheVariants.{Rank, Rref, Kernel, Solve, LeftKernel, Inverse, Pivots, Check, Trace, Replay, Grow, Drill, Certify}
@@ -154,12 +159,33 @@ no_kind f e k all =
     let is : None ≡ Some (kind_place k) = subst (λ (o : Option Text). IsNumber kind_rule o (kind_place k)) (sym e) (number_given kind_rule f (kind_place k) (all 0 (setting kind_rule (kind_place k)) (omega arith))) in
     cc
 
+-- what is a value of it is the word of a kind
+is_kind : (w : Text) (k : CertKind) → IsValue kind_rule.values w (kind_place k) → is_kind_word w ≡ true
+is_kind w k h = go (bytes_eq (kind_word kind.Rank) w) (bytes_eq (kind_word kind.Rref) w) (bytes_eq (kind_word kind.Kernel) w) refl refl refl h
+  where
+    word : (x : Text) → bytes_eq x w ≡ true → is_kind_word x ≡ true → is_kind_word w ≡ true
+    word x e is = subst (λ v. is_kind_word v ≡ true) ((bytes_eq-Decides x w).0 e) is
+
+    go : (a b c : Bool) → bytes_eq (kind_word kind.Rank) w ≡ a → bytes_eq (kind_word kind.Rref) w ≡ b → bytes_eq (kind_word kind.Kernel) w ≡ c
+        → (if a then Some 0 else option_map suc (if b then Some 0 else option_map suc (if c then Some 0 else option_map suc None))) ≡ Some (kind_place k) → is_kind_word w ≡ true
+    go true b c ea eb ec e = word (kind_word kind.Rank) ea refl
+    go false true c ea eb ec e = word (kind_word kind.Rref) eb refl
+    go false false true ea eb ec e = word (kind_word kind.Kernel) ec refl
+    go false false false ea eb ec e = absurd (let f : None ≡ Some (kind_place k) = e in cc)
+
+kind_valued : (k : CertKind) → IsValue kind_rule.values (kind_word k) (kind_place k)
+kind_valued kind.Rank = refl
+kind_valued kind.Rref = refl
+kind_valued kind.Kernel = refl
+
 -- or its word says it, or is none of a kind
-pub kind_told : (f : Found) (w : Text) (result : Option CertKind) → Some w ≡ first_value f (codes "kind")
-    → MatchOption result ((k : CertKind) → ¬ IsValue kind_rule.values w (kind_place k)) (λ k. IsValue kind_rule.values w (kind_place k))
+pub kind_told : (f : Found) (w : Text) (result : Option CertKind) → Some w ≡ first_value f (codes "kind") → MatchOption result (is_kind_word w ≡ false) (λ k. w ≡ kind_word k)
     → MatchOption result ((k : CertKind) → ¬ All (RowsSet (rows_of f)) (own_settings (Certify k))) (λ k. All (RowsSet (rows_of f)) (own_settings (Certify k)))
-kind_told f w None e h = λ k all.
-    h k (subst (λ (o : Option Text). IsNumber kind_rule o (kind_place k)) (sym e) (number_given kind_rule f (kind_place k) (all 0 (setting kind_rule (kind_place k)) (omega arith))))
-kind_told f w (Some k) e h =
+kind_told f w None e none = λ k all.
+    let value : IsValue kind_rule.values w (kind_place k) = subst (λ (o : Option Text). IsNumber kind_rule o (kind_place k)) (sym e) (number_given kind_rule f (kind_place k) (all 0 (setting kind_rule (kind_place k)) (omega arith))) in
+    let both : false ≡ true = sym none ∙ is_kind w k value in
+    cc
+kind_told f w (Some k) e same =
     let P = RowsSet (rows_of f) in
-    All-cons P (setting kind_rule (kind_place k)) [] (gives_number kind_rule f (kind_place k) (subst (λ (o : Option Text). IsNumber kind_rule o (kind_place k)) e h)) (All-nil P)
+    let value : IsValue kind_rule.values w (kind_place k) = subst (λ v. IsValue kind_rule.values v (kind_place k)) (sym same) (kind_valued k) in
+    All-cons P (setting kind_rule (kind_place k)) [] (gives_number kind_rule f (kind_place k) (subst (λ (o : Option Text). IsNumber kind_rule o (kind_place k)) e value)) (All-nil P)

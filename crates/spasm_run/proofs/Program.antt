@@ -11,7 +11,7 @@ use Rattle.clap.specs.Faults.{bundle_fault, defaults_fault, entered_fault, fault
 use Rattle.clap.specs.declared.error.kind.ErrorKind.{ErrorKind}
 use Rattle.clap.specs.declared.error.kind.ErrorKind.TheVariants.{InvalidSubcommand, UnknownArgument}
 use Rattle.clap.proofs.OnLiterals.{clap_on_literals}
-use Rattle.certificates.specs.declared.certificate.CertKind.TheVariants as kind
+use Rattle.certificates.specs.declared.cert_kind.CertKind.TheVariants as kind
 use Rattle.spasm_run.specs.Words.{names_of, own_settings, task_name}
 use Rattle.spasm_run.specs.Line.{command_line, commands, option_names}
 use Rattle.spasm_run.specs.declared.generator.Generator.{Generator}

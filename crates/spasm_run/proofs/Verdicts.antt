@@ -4,7 +4,7 @@ use Rattle.std.specs.Prelude.{◌↔◌}
 use Rattle.row_space.specs.Factors.{IsValid}
 use Rattle.sparse_rows.specs.Rows.{ResidueMatrix}
 use Rattle.certificates.specs.declared.certificate.Certificate.{Certificate}
-use Rattle.certificates.specs.Certificate.{IsFormed, certificate_of}
+use Rattle.certificates.specs.Certificate.{certificate_of}
 use Rattle.certificates.specs.CertificateText.{certificate_said}
 use Rattle.spasm_run.specs.declared.command_answer.CommandAnswer.TheVariants as answer
 use Rattle.spasm_run.specs.declared.words.Command.{Command}
@@ -29,9 +29,9 @@ module _ (p : ℕ) (A : ResidueMatrix) (c : Certificate) (said : Contents) (are 
   false_no : IsTrue false → ⊥
   false_no e = cc
 
-  pub verdict_answers : (d : Command) (valid : Bool) → IsFormed p c → (IsTrue valid ↔ (IsFormed p c × IsValid p A.matrix (certificate_of c))) →
+  pub verdict_answers : (d : Command) (valid : Bool) → (IsTrue valid ↔ IsValid p A.matrix (certificate_of c)) →
       IsAnswerTo (asking task.Check p d) said (answer.Verdict valid)
-  verdict_answers d true formed h = let is = certified (h.0 refl).1 in record { small = tt; fits = refl; shape = tt; answers = λ any. inl (is, refl); ends = inl (is, refl) }
-  verdict_answers d false formed h =
-      let none : ¬ IsCertified p said = λ is. false_no (h.1 (formed, valid_here is)) in
+  verdict_answers d true h = let is = certified (h.0 refl) in record { small = tt; fits = refl; shape = tt; answers = λ any. inl (is, refl); ends = inl (is, refl) }
+  verdict_answers d false h =
+      let none : ¬ IsCertified p said = λ is. false_no (h.1 (valid_here is)) in
       record { small = tt; fits = refl; shape = tt; answers = λ any. inr (none, refl); ends = inr (none, refl) }

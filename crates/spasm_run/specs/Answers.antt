@@ -17,8 +17,9 @@ use Rattle.sms_text.specs.Text.{Due, Header, Outer, Scripted}
 use Rattle.sms_text.specs.Written.{pair_lines, text_of}
 use Rattle.sparse_rows.specs.Rows.{transposed}
 use Rattle.pluq_factor.specs.Staged.{Staged}
-use Rattle.certificates.specs.declared.certificate.CertKind.{CertKind}
-use Rattle.certificates.specs.CertificateText.{certificate_text, claim_word, kind_word}
+use Rattle.certificates.specs.declared.cert_kind.CertKind.{CertKind}
+use Rattle.certificates.specs.Certificate.{claim_kind}
+use Rattle.certificates.specs.CertificateText.{certificate_text}
 use Rattle.grow_form.specs.Scripts.{AnswersLines, rank_line}
 use Rattle.spasm_run.specs.declared.commands.TheConstants.{LARGEST_INVERTED}
 use Rattle.spasm_run.specs.declared.status.Status.{Status}
@@ -75,7 +76,7 @@ pivots_text qs = codes "pivots " ++ decimal (length qs) ++ 10 ∷ pair_lines qs
 
 -- the text of a certificate of this kind that is valid, the pivots of which were chosen in so many rounds by so many workers
 abbrev pub CertifiesAs : CertKind → Command → Matrix → List ℕ → Type 0
-CertifiesAs kind c A text = (s : plain.Certificate) × (claim_word s.claim ≡ kind_word kind)
+CertifiesAs kind c A text = (s : plain.Certificate) × (claim_kind s.claim ≡ kind)
     × IsValid c.modulus A s
     × Staged c.modulus A c.workers c.rounds s.pivots × (text ≡ certificate_text s)
 

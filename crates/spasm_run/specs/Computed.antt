@@ -1,7 +1,7 @@
 -- What is found for matrices and for words: an answer, or the status with which a run ends.
 use Rattle.std.specs.Prelude.{◌≡◌, ◌⊎◌, ◌<◌, if◌then◌else◌, ℕ, List, ◌++◌, Bool, false, Some, None, Result, Ok, Err, All, codes}
 use Rattle.residue_words.specs.Matrix.{Matrix}
-use Rattle.certificates.specs.Certificate.{IsFormed, certificate_of}
+use Rattle.certificates.specs.Certificate.{certificate_of}
 use Rattle.certificates.specs.CertificateText.{HasText, certificate_text}
 use Rattle.run_trace.specs.TraceText as trace
 use Rattle.sparse_rows.specs.declared.rows.TheConstants.{LARGEST_SIZE}
@@ -59,7 +59,7 @@ IsSmall (answer.Inverse B) = HasSmallSizes B.matrix
 IsSmall (answer.Singular v) = HasSmallSizes v.matrix
 IsSmall (answer.Pivots pairs) = All IsSmallPlace pairs.items
 IsSmall (answer.Summary s) = Unit {0}
-IsSmall (answer.Certificate c) = IsFormed c.l.modulus c × HasText (certificate_of c)
+IsSmall (answer.Certificate c) = HasText (certificate_of c)
 IsSmall (answer.Trace t) = trace.HasTraceText t
 IsSmall (answer.Verdict valid) = Unit {0}
 IsSmall (answer.Script answers) = All AnswerFitsText answers.items

@@ -3,7 +3,7 @@ use Rattle.std.specs.Prelude.{◌≡◌, ◌≤◌, ◌⊎◌, ℕ, List, [], �
 use Rattle.residue_words.specs.Matrix.{Matrix, IsMatrix}
 use Rattle.sms_text.specs.Written.{text_of}
 use Rattle.certificates.specs.declared.certificate.Certificate.{Certificate}
-use Rattle.certificates.specs.Certificate.{IsFormed, certificate_of}
+use Rattle.certificates.specs.Certificate.{AreModulo, certificate_of, claim_kind, claim_of}
 use Rattle.certificates.specs.CertificateText.{HasText, certificate_text}
 use Rattle.grow_form.specs.declared.answering.Answer as grow
 use Rattle.grow_form.specs.Scripts.{AnswerFitsText, answers_text, rank_line}
@@ -40,7 +40,7 @@ HasAnswerShape Inverse p (A ∷ []) text =
 HasAnswerShape (Drill g) p [] text =
     (E : Matrix) × IsAtMostSquare p g.cols E × (text ≡ summary_of p E)
 HasAnswerShape (Certify kind) p (A ∷ []) text =
-    (s : Certificate) × (s.kind ≡ kind) × IsFormed p s × HasText (certificate_of s)
+    (s : Certificate) × (claim_kind (claim_of s.claim) ≡ kind) × AreModulo p s × HasText (certificate_of s)
     × (text ≡ certificate_text (certificate_of s))
 HasAnswerShape Grow p (A ∷ []) text =
     (answers : List grow.Answer) × All AnswerFitsText answers × (text ≡ answers_text answers)

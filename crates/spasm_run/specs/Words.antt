@@ -4,8 +4,8 @@ use Rattle.std.specs.List.{Contains, flat_map}
 use Rattle.std.specs.Str.{bytes_eq}
 use Rattle.residue_words.specs.declared.modulus.TheConstants.{MODULUS_BOUND}
 use Rattle.sms_text.specs.Numbers.{is_number, value}
-use Rattle.certificates.specs.declared.certificate.CertKind.{CertKind}
-use Rattle.certificates.specs.declared.certificate.CertKind.TheVariants as kind
+use Rattle.certificates.specs.declared.cert_kind.CertKind.{CertKind}
+use Rattle.certificates.specs.declared.cert_kind.CertKind.TheVariants as kind
 use Rattle.certificates.specs.CertificateText.{kind_word}
 use Rattle.spasm_run.specs.declared.generator.TheConstants.{LARGEST_GENERATED, MOST_PER_ROW}
 use Rattle.spasm_run.specs.declared.words.Command.{Command}

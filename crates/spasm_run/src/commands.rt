@@ -2,7 +2,7 @@
 ghost use Rattle.std.specs.Prelude.{◌≡◌, ◌≤◌, ◌<◌, [], ◌∷◌, IfOk};
 ghost use Rattle.sparse_rows.specs.declared.rows.TheConstants.{LARGEST_SIZE};
 ghost use Rattle.sms_text.specs.Text.{Header};
-ghost use Rattle.certificates.specs.Certificate.{IsFormed};
+ghost use Rattle.certificates.specs.Certificate.{AreModulo};
 ghost use Rattle.spasm_run.specs.Answers.{wanted};
 ghost use Rattle.spasm_run.specs.Computed.{ComesOf, ComesOfContents, IsSmall, asking};
 ghost use Rattle.spasm_run.specs.Contents.{AreToCheck, AreToReplay, Contents};
@@ -274,7 +274,7 @@ pub(crate) fn find_verdict(
     a: &Rows,
     certificate: &Certificate,
 ) -> Result<CommandAnswer, Status>
-    requires { IsFormed a.now.modulus certificate.now }
+    requires { AreModulo a.now.modulus certificate.now }
     ensures comes { (c : Command) (said : Contents) → AreToCheck a.now certificate.now said
         → ComesOfContents (asking task.Check a.now.modulus c) said result }
     ensures small { IfOk result IsSmall }

@@ -3,7 +3,7 @@ ghost use Rattle.std.specs.Prelude.{◌≤◌, [], ◌∷◌, All, IfOk};
 ghost use Rattle.sms_text.specs.OuterLines as form;
 ghost use Rattle.sms_text.specs.Text.{Header, Outer, Scripted};
 ghost use Rattle.sms_text.specs.declared.reader.TheConstants.{LARGEST_INPUT};
-ghost use Rattle.certificates.specs.Certificate.{IsFormed};
+ghost use Rattle.certificates.specs.Certificate.{AreModulo};
 ghost use Rattle.grow_form.specs.Scripts.{AnswerFitsText};
 ghost use Rattle.spasm_run.specs.Input.{IsOfText, WasAnswered, WasRead, WereRead, WereReadToReplay, one_value, two_values};
 
@@ -66,7 +66,7 @@ pub(crate) fn read_to_check<S: Source>(
         (record { modulus = p.now; limit = limit; due = Header ∷ Outer form.Certificate ∷ [] })
         result (S.state source.old) (S.state source.new) }
     ensures matrix { IfOk result (λ both. IsOfText p.now both.0) }
-    ensures formed { IfOk result (λ both. IsFormed p.now both.1) }
+    ensures modulus { IfOk result (λ both. AreModulo p.now both.1) }
 {
     let Ok(mut reader) = Reader::new(alloc, limit) else {
         return Err(TextError::Memory);

@@ -3,7 +3,7 @@ ghost use Rattle.std.specs.Prelude.{◌≡◌, ℕ, All, true, false, codes, IfO
 ghost use Rattle.std.specs.List.{list_any};
 ghost use Rattle.std.specs.Str.{bytes_eq};
 ghost use Rattle.clap.specs.Words.{app_of, first_value, found_of, is_simple_and_free, rows_of, subcommand_rows_of};
-ghost use Rattle.spasm_run.specs.Words.{InRange, IsInRange, IsValue, kind_place, kind_rule, own_settings};
+ghost use Rattle.spasm_run.specs.Words.{InRange, IsInRange, own_settings};
 ghost use Rattle.spasm_run.specs.Options.{AreTaken, AsksFor, IsCommandOf, IsNumberOf, IsTaskOf, RowsSet, bytes_of};
 ghost use Rattle.spasm_run.specs.declared.words.Task.TheVariants as task;
 
@@ -163,23 +163,7 @@ fn kind_of(options: &ArgMatches<'_>) -> Option<CertKind>
         (λ k. All (RowsSet (rows_of (found_of options.now))) (own_settings (task.Certify k))) }
 {
     let word = options.get_str("kind")?;
-    kind_named(word)
-}
-
-// The kind that a word names.
-fn kind_named(word: &str) -> Option<CertKind>
-    ensures { MatchOption result ((k : CertKind) → ¬ IsValue kind_rule.values word.now (kind_place k))
-        (λ k. IsValue kind_rule.values word.now (kind_place k)) }
-{
-    if word == "rank" {
-        Some(CertKind::Rank)
-    } else if word == "rref" {
-        Some(CertKind::Rref)
-    } else if word == "kernel" {
-        Some(CertKind::Kernel)
-    } else {
-        None
-    }
+    CertKind::of_word(word.as_bytes())
 }
 
 /// The number from `low` to `high` that the option of this name gives, or the one that stands where it is absent.

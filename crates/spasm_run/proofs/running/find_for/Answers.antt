@@ -1,6 +1,6 @@
 -- What is found for the matrices of a command is found for its words.
 use Rattle.std.proofs.Common.{[], ◌∷◌, refl, subst, sym}
-use Rattle.certificates.specs.Certificate.{IsFormed}
+use Rattle.certificates.specs.Certificate.{AreModulo}
 use Rattle.spasm_run.specs.declared.words.Task.TheVariants as task
 use Rattle.spasm_run.specs.Contents.{matrices_alone}
 use Rattle.spasm_run.proofs.Scripted.{script_answers}
@@ -23,7 +23,7 @@ returns-in-Drill-clause-found g c = λ words accepted.
 pub find_verdict-requires : goal.find_verdict-requires
 find_verdict-requires g c =
     let both = c.in_ok-a-in-Check in
-    subst (λ q. IsFormed q both.certificate) (sym both.ensures.matrix.modulus) both.ensures.formed
+    subst (λ q. AreModulo q both.certificate) (sym both.ensures.matrix.modulus) both.ensures.modulus
 
 pub returns-in_ok-a-in-Check-clause-found : goal.returns-in_ok-a-in-Check-clause-found
 returns-in_ok-a-in-Check-clause-found g c = λ words accepted.

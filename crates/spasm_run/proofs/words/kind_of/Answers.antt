@@ -9,4 +9,4 @@ returns-in_err-word c =
     rw none (no_kind (found_of c.args.options.now) c.in_err-word.ensures)
 
 pub returns : goal.returns
-returns c = kind_told (found_of c.args.options.now) c.in_ok-word.word.now c.kind_named.result c.in_ok-word.ensures c.kind_named.ensures
+returns c = kind_told (found_of c.args.options.now) c.in_ok-word.word.now c.of_word.result c.in_ok-word.ensures (rw c.as_bytes.ensures.value at c.of_word.ensures)
