@@ -16,7 +16,7 @@ use Rattle.sms_text.specs.Text.{Got, Header, Item, Outer, Request, Words, matric
 use Rattle.sms_text.proofs.Closed.{AreOfTextSize, read_alone, read_behind}
 use Rattle.sms_text.proofs.Following.{Stays, bytes_stay}
 use Rattle.sms_text.proofs.Runs.{with_items_append, with_items_got}
-use Rattle.certificates.specs.declared.certificate.CertKind.{CertKind}
+use Rattle.certificates.specs.declared.cert_kind.CertKind.{CertKind}
 use Rattle.certificates.specs.CertificateText.{ClaimFitsText, HasText, certificate_said, certificate_text}
 use Rattle.certificates.specs.Laws.{ClaimIsModulo, IsModulo, certificate_items}
 use Rattle.certificates.proofs.WrittenCertificates.{reads_back}

@@ -8,7 +8,7 @@ use Rattle.kernel_solve.specs.Column.{column, column_matrix}
 use Rattle.grow_form.proofs.OneScript.{one_script}
 use Rattle.sms_text.specs.Written.{text_of}
 use Rattle.sparse_rows.specs.Rows.{transposed}
-use Rattle.certificates.specs.declared.certificate.CertKind.{CertKind}
+use Rattle.certificates.specs.declared.cert_kind.CertKind.{CertKind}
 use Rattle.spasm_run.specs.declared.words.Task.TheVariants as task
 use Rattle.spasm_run.specs.declared.words.Command.{Command}
 use Rattle.spasm_run.specs.declared.words.Task.{Task}

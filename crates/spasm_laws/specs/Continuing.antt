@@ -3,7 +3,7 @@ use Rattle.std.specs.Prelude.{◌≡◌, ◌≤◌, ◌⊎◌, false, ℕ, List,
 use Rattle.residue_words.specs.Residues.{IsPrime}
 use Rattle.sms_text.specs.Stream.{Gained, Rose}
 use Rattle.sms_text.specs.Text.{Header, Item, Reads, Request}
-use Rattle.certificates.specs.declared.certificate.CertKind.{CertKind}
+use Rattle.certificates.specs.declared.cert_kind.CertKind.{CertKind}
 use Rattle.spasm_run.specs.declared.status.Status.{Status}
 use Rattle.spasm_run.specs.declared.status.Status.TheVariants.{Done, Memory}
 use Rattle.spasm_run.specs.declared.words.Command.{Command}
