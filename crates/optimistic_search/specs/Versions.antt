@@ -7,7 +7,7 @@ use Rattle.pivot_table.specs.Closing.{StartsState, start_at}
 use Rattle.pivot_table.specs.Core.{Carries, Core, Reached, StandsAt}
 use Rattle.pivot_table.specs.History.{StartsWith}
 use Rattle.pivot_table.specs.Last.{IsLast}
-use Rattle.pivot_table.specs.declared.closed_board.ClosedBoard.{ClosedBoard}
+use Rattle.pivot_table.specs.declared.closed_board.Closed.{Closed}
 
 -- from place `from` on and before place `to` each version is the place itself
 abbrev pub AreOwnBetween : ℕ → ℕ → List ℕ → Type 0
@@ -35,7 +35,7 @@ pub record TellsStarts (A : Matrix) (first history : List Pair) (versions : List
 -- the starts that are left of a board that began with the pairs `first`, with whose history this one begins
 pub record AreStartsOf (A : Matrix) (first history : List Pair) (starts : StartsState) : Type 0 where
   pub seat : SeatState
-  pub left : ClosedBoard
+  pub left : Closed
   pub last : IsLast A first seat left
   pub is : starts ≡ left.starts
   pub begins : StartsWith history left.book.pairs

@@ -10,7 +10,7 @@ use crate::gate::Gate;
 use crate::resting_walk::RestingWalk;
 use crate::search_worker::{SearchWorker, first_row};
 use crate::steps::Steps;
-use pivot_table::{Board, Book, ClosedBoard, Marks, Seat, Starts};
+use pivot_table::{Board, Book, Closed, Marks, Seat, Starts};
 use std::alloc::{AllocError, Global};
 use std::marker::Brand;
 use std::sync::ledger::{Blank, Ledger};
@@ -187,7 +187,7 @@ fn search_with<'a, R: Threads + Sync, G: Gate, L: Ledger>(
     } = seated(alloc, &book, workers)?;
     run_all(rt, &board, gate, team.as_mut_slice());
     let taken = join_all(&board, &mut seat, team);
-    let ClosedBoard {
+    let Closed {
         book: closed,
         done,
         starts,

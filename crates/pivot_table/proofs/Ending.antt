@@ -13,7 +13,7 @@ use Rattle.pivot_table.specs.Board.{SeatState}
 use Rattle.pivot_table.specs.Lawful.{Lawful, After, Sound}
 use Rattle.pivot_table.specs.Closing.{StartsState, start_at, IsDone, AreStartsFrom, is_done, start_of, start_in}
 use Rattle.pivot_table.specs.Last.{IsLast}
-use Rattle.pivot_table.specs.declared.closed_board.ClosedBoard.{ClosedBoard}
+use Rattle.pivot_table.specs.declared.closed_board.Closed.{Closed}
 use Rattle.pivot_table.proofs.Listed.{within, at_get, read_at}
 use Rattle.pivot_table.proofs.Runs.{reached_lawful, reached_after, marked_cases, free_at}
 use Rattle.pivot_table.proofs.Untouched.{untouched}
@@ -49,7 +49,7 @@ start_there : (b : StartsState) (k : ℕ) → b.first ≤ k → k - b.first < le
 start_there b k le lt = ap (λ (x : Bool). told x (ltb (k - b.first) (length b.starts)) (get_or b.starts (k - b.first) 0)) (le-ltb k b.first le)
     ∙ ap (λ (y : Bool). told false y (get_or b.starts (k - b.first) 0)) (lt-ltb (k - b.first) (length b.starts) lt)
 
-module _ (A : Matrix) (h0 : List Pair) (s : SeatState) (left : ClosedBoard) (l : IsLast A h0 s left) where
+module _ (A : Matrix) (h0 : List Pair) (s : SeatState) (left : Closed) (l : IsLast A h0 s left) where
   law : Lawful A l.last
   law = reached_lawful A h0 l.last l.reached
 

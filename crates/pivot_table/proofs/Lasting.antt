@@ -14,7 +14,7 @@ use Rattle.pivot_table.specs.Closing.{CellsSay, MarksSay, StartsState, is_done, 
 use Rattle.pivot_table.specs.Last.{IsLast}
 use Rattle.pivot_table.specs.Rule.{SpellsRun, rows_at}
 use Rattle.pivot_table.specs.declared.view.View.{View}
-use Rattle.pivot_table.specs.declared.closed_board.ClosedBoard.{ClosedBoard}
+use Rattle.pivot_table.specs.declared.closed_board.Closed.{Closed}
 use Rattle.pivot_table.proofs.Listed.{cut_here}
 use Rattle.residue_words.proofs.Lists.{cut_at}
 use Rattle.pivot_table.proofs.Short.{grown_short}
@@ -45,7 +45,7 @@ module _ (A : Matrix) (h0 : List Pair) (s : State (Unit {0}) View) (k : SpellsRu
   pub first_short : length h0 ≤ length k.history
   first_short = let b = (reached_after A h0 (core k.history k.rows (seats_of s)) k.reached).begins in let e : length k.history ≡ length (h0 ++ b.0) = ap length b.1 in omega (arith, length-append h0 b.0)
 
-  pub is_last : (table : TableId) (id : ℕ) (v : View) → get_elem? s.views id ≡ some v → v.live ≡ true → (left : ClosedBoard)
+  pub is_last : (table : TableId) (id : ℕ) (v : View) → get_elem? s.views id ≡ some v → v.live ≡ true → (left : Closed)
       → left.book.pairs ≡ k.history → left.done ≡ map is_done k.rows
       → left.starts ≡ record { first = length h0; starts = map (start_in k.rows) (drop (length h0) k.history) }
       → IsLast A h0 (seat_state table id v) left
@@ -60,7 +60,7 @@ module _ (A : Matrix) (h0 : List Pair) (s : State (Unit {0}) View) (k : SpellsRu
     starts = ap (λ (b : StartsState). b.starts) es ∙ ap (λ (h : List Pair). map (start_in k.rows) (drop (length h0) h)) (sym eh);
   }
 
-pub last_same : (A A' : Matrix) (h0 h0' : List Pair) (s s' : SeatState) (left : ClosedBoard) → A ≡ A' → h0 ≡ h0' → s ≡ s' → IsLast A h0 s left → IsLast A' h0' s' left
+pub last_same : (A A' : Matrix) (h0 h0' : List Pair) (s s' : SeatState) (left : Closed) → A ≡ A' → h0 ≡ h0' → s ≡ s' → IsLast A h0 s left → IsLast A' h0' s' left
 last_same A A' h0 h0' s s' left ea e0 es l =
     subst (λ (x : Matrix). IsLast x h0' s' left) ea
     (subst (λ (x : List Pair). IsLast A x s' left) e0

@@ -13,7 +13,7 @@ ghost use Rattle.pivot_table.specs.Rule.{rows_at};
 use crate::board_rule::{BoardLaw, BoardPart, Both, Claim, Finish, Look, Publish};
 use crate::board_words::{pair_at, read_cells, read_marks, read_starts, spell, word_of_pair};
 use crate::book::Book;
-use crate::closed_board::ClosedBoard;
+use crate::closed_board::Closed;
 use crate::marks::Marks;
 use crate::seat::Seat;
 use crate::starts::Starts;
@@ -237,7 +237,7 @@ impl<'a> Board<'a> {
     }
 
     /// Ends the board, and gives the history with what became of the rows.
-    pub fn close(self, seat: Seat) -> ClosedBoard<'a>
+    pub fn close(self, seat: Seat) -> Closed<'a>
         requires { IsSeatOf self seat }
         ensures rows { result.book.rows ≡ self.entry.rows }
         ensures room { HasRoom self.entry.rows.matrix result.book }
@@ -278,7 +278,7 @@ impl<'a> Board<'a> {
             &mut starts,
         );
         words.free();
-        ClosedBoard {
+        Closed {
             book: Book::of(rows, pairs),
             done: Marks::of(done),
             starts: Starts::of(first, starts),

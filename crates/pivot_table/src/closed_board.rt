@@ -5,7 +5,7 @@ use crate::starts::Starts;
 
 /// A board that is closed: its history, and of its rows which are done and when they were claimed.
 #[derive(Debug, Drop)]
-pub struct ClosedBoard<'a> {
+pub struct Closed<'a> {
     pub book: Book<'a>,
     pub done: Marks,
     pub starts: Starts,

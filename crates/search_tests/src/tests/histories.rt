@@ -6,7 +6,7 @@ ghost use Rattle.pivot_table.specs.Core.{claiming, opened, parting, splitting};
 ghost use Rattle.pivot_table.specs.Example.{pivot_example};
 ghost use Rattle.pivot_table.specs.History.{pair};
 
-use pivot_table::{Board, Book, ClosedBoard, Outcome, Pair, Seat, histories_are_worked};
+use pivot_table::{Board, Book, Closed, Outcome, Pair, Seat, histories_are_worked};
 use residue_words::Modulus;
 use sparse_rows::Rows;
 use std::alloc::{AllocError, Global};
@@ -247,7 +247,7 @@ fn first_pair<'a>(alloc: Global, rows: &'a Rows) -> Result<Book<'a>, AllocError>
 }
 
 // Lets both rows go and ends the board.
-fn ended<'a>(board: Board<'a>, first: Seat, second: Seat) -> ClosedBoard<'a>
+fn ended<'a>(board: Board<'a>, first: Seat, second: Seat) -> Closed<'a>
     requires matrix { board.rows.matrix ≡ pivot_example }
     requires first { IsSeatOf board first × MayFinish pivot_example first.chair }
     requires second { IsSeatOf board second × MayFinish pivot_example second.chair }
@@ -262,7 +262,7 @@ fn ended<'a>(board: Board<'a>, first: Seat, second: Seat) -> ClosedBoard<'a>
 }
 
 // Whether all rows are done, and the pair (2, 1) was published behind the first, by a seat that had seen that one.
-fn is_overtaken(closed: &ClosedBoard<'_>) -> bool
+fn is_overtaken(closed: &Closed<'_>) -> bool
     requires { length closed.now.done ≡ 3 }
 {
     let done = [

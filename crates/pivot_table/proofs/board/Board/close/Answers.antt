@@ -8,7 +8,7 @@ use Rattle.pivot_table.specs.Closing.{CellsSay, MarksSay, is_done, start_in}
 use Rattle.pivot_table.specs.Rule.{rows_at}
 use Rattle.pivot_table.specs.Board.{BoardState}
 use Rattle.pivot_table.specs.Book.{BookState}
-use Rattle.pivot_table.specs.declared.closed_board.ClosedBoard.{ClosedBoard}
+use Rattle.pivot_table.specs.declared.closed_board.Closed.{Closed}
 use Rattle.pivot_table.proofs.Lasting.{grown, cells_say, marks_say, row_inside, first_short, seat_state, is_last, last_same, starts_same, cells_are}
 use Rattle.pivot_table.proofs.Ending.{last_begins, last_seen, last_tall, last_settled, last_finished, last_starts, last_places}
 use Rattle.pivot_table.proofs.Fitting.{same_matrix}
@@ -110,7 +110,7 @@ returns-clause-last c =
     let first : c.self.inside.first ≡ length key.pairs = c.self.invariant.9 in
     let starts : c.read_starts.new.starts.items ≡ map (start_in k.rows) (drop (length key.pairs) k.history) =
     c.read_starts.ensures.read A.height k.rows say (omega arith) ∙ ap (λ (l : List Pair). map (start_in k.rows) (drop c.self.inside.first l)) slice ∙ ap (λ (n : ℕ). map (start_in k.rows) (drop n k.history)) first in
-    let left : ClosedBoard = record { book = c.of.result; done = c.of-2.result; starts = c.of-3.result } in
+    let left : Closed = record { book = c.of.result; done = c.of-2.result; starts = c.of-3.result } in
     last_same A c.args.self.rows.matrix key.pairs c.args.self.pairs (seat_state it.table_id it.id it.me.0) c.args.seat left
     (sym same ∙ ap (λ (p : BoardState). p.rows.matrix) c.self.view_is)
     (ap (λ (p : BoardState). p.pairs) c.self.view_is)
