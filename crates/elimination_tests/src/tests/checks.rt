@@ -312,22 +312,41 @@ fn other_kind(kind: CertKind) -> CertKind {
     }
 }
 
-// Whether the certificate of a case is judged as is known, and refused with a claim of another kind, and with a pivot more.
-fn is_judged(alloc: Global, case: &Case) -> Result<bool, Fail> {
+// What is said of a certificate for the matrix of a case.
+fn judged(alloc: Global, case: &Case, certificate: Certificate) -> Result<bool, Fail>
+    requires { AreModulo 7 certificate }
+{
     let a = built(alloc, &case.a)?;
-    let mut given = certificate(alloc, case, case.kind)?;
-    let is_right = check(alloc, &a, &given)? == case.valid;
+    let answer = check(alloc, &a, &certificate)?;
+    Ok(answer)
+}
+
+// Whether the certificate of a case is judged as is known.
+fn is_judged(alloc: Global, case: &Case) -> Result<bool, Fail> {
+    let given = certificate(alloc, case, case.kind)?;
+    let answer = judged(alloc, case, given)?;
+    Ok(answer == case.valid)
+}
+
+// What is said of it with a claim of another kind.
+fn takes_another_kind(alloc: Global, case: &Case) -> Result<bool, Fail> {
     let other = certificate(alloc, case, other_kind(case.kind))?;
-    let has_any_kind = check(alloc, &a, &other)?;
-    given.pivots.push(Pair { row: 0, col: 0 })?;
-    let has_any_rank = check(alloc, &a, &given)?;
-    Ok(is_right && !has_any_kind && !has_any_rank)
+    judged(alloc, case, other)
+}
+
+// What is said of it with a pivot more.
+fn takes_a_pivot_more(alloc: Global, case: &Case) -> Result<bool, Fail> {
+    let mut more = certificate(alloc, case, case.kind)?;
+    more.pivots.push(Pair { row: 0, col: 0 })?;
+    judged(alloc, case, more)
 }
 
 #[test]
 fn valid_and_not(rt: HostRuntime) -> Result<(), Fail> {
     for case in CASES {
         assert!(rt; is_judged(rt.alloc(), case)?);
+        assert!(rt; !takes_another_kind(rt.alloc(), case)?);
+        assert!(rt; !takes_a_pivot_more(rt.alloc(), case)?);
     }
     Ok(())
 }
