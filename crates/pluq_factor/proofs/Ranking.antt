@@ -12,7 +12,7 @@ use Rattle.schur_rows.specs.Round.{FitsComplement}
 use Rattle.schur_rows.proofs.Distinct.{triangular_narrow, triangular_short}
 use Rattle.schur_rows.proofs.Streaming.{basis_rank}
 use Rattle.weight_order.specs.Keeping.{KeepsRank}
-use Rattle.pluq_factor.specs.Counted.{IsCountedRound, IsRankOf}
+use Rattle.pluq_factor.specs.Counted.{IsCountedRound, IsBoundedRank}
 use Rattle.pluq_factor.specs.RoundPivots.{IsRestOf, triangle_on}
 use Rattle.pluq_factor.specs.declared.counted_round.CountedRound.{CountedRound}
 use Rattle.pluq_factor.specs.declared.rest.Rest.TheVariants.{Stored, Basis}
@@ -59,7 +59,7 @@ counted_few h = (omega (arith, h.count, triangular_short h.triangular), omega (a
 
 -- for a prime modulus the sum isn't cut off
 pub ranked_most : {R : ResidueMatrix} {n most total : ℕ} (r : ℕ) → (IsPrime R.modulus → HasRank R.modulus R.matrix (n + r)) → (n ≤ R.matrix.height) × (n ≤ R.matrix.width) → most ≡ min R.matrix.height R.matrix.width → total ≡ n + min r (most - n) →
-    IsRankOf R total
+    IsBoundedRank R total
 ranked_most {R} {n} {most} {total} r whole few small sum = record {
   rank = λ prime.
       let least = rank_least prime (whole prime) in

@@ -18,7 +18,7 @@ pub record IsCountedRound (R : ResidueMatrix) (c : CountedRound) : Type 0 where
   pub rest : IsRestOf (triangle_on R pairs) c.rest
 
 -- the rank for a prime modulus, and for any a number that is no more than height and width
-pub record IsRankOf (R : ResidueMatrix) (r : ℕ) : Type 0 where
+pub record IsBoundedRank (R : ResidueMatrix) (r : ℕ) : Type 0 where
   pub rank : IsPrime R.modulus → HasRank R.modulus R.matrix r
   pub at_most_height : r ≤ R.matrix.height
   pub at_most_width : r ≤ R.matrix.width

@@ -3,7 +3,7 @@ ghost use Rattle.std.specs.Prelude.{◌≡◌, ◌≤◌, ◌+◌, ◌-◌, min,
 ghost use Rattle.residue_words.specs.Residues.{IsPrime};
 ghost use Rattle.row_space.specs.Echelon.{HasRank};
 ghost use Rattle.weight_order.specs.Keeping.{KeepsRank};
-ghost use Rattle.pluq_factor.specs.Counted.{IsRankOf};
+ghost use Rattle.pluq_factor.specs.Counted.{IsBoundedRank};
 
 use crate::counted_round::{CountedRound, count_round};
 use crate::eliminating::Eliminating;
@@ -63,7 +63,7 @@ fn rank_in_order<C: Eliminating>(
 ) -> Result<u32, AllocError>
     requires able { C.can_work }
     requires some { 1 ≤ workers }
-    ensures { IfOk result (IsRankOf rows) }
+    ensures { IfOk result (IsBoundedRank rows) }
 {
     let matrix = Measured::of(alloc, rows)?;
     if is_full(&matrix.occupancy) {
@@ -85,7 +85,7 @@ fn rank_from<C: Eliminating>(
 ) -> Result<u32, AllocError>
     requires able { C.can_work }
     requires some { 1 ≤ workers }
-    ensures { IfOk result (IsRankOf matrix.rows) }
+    ensures { IfOk result (IsBoundedRank matrix.rows) }
 {
     // The law's contract: the rank of the complement gives that of the matrix.
     schur_rows::round_rank();
@@ -139,7 +139,7 @@ fn finished_rank<C: Eliminating>(
 ) -> Result<u32, AllocError>
     requires able { C.can_work }
     requires some { 1 ≤ workers }
-    ensures { IfOk result (IsRankOf matrix.rows) }
+    ensures { IfOk result (IsBoundedRank matrix.rows) }
 {
     let Measured { rows, occupancy } = matrix;
     if is_block(&occupancy) {
@@ -151,7 +151,7 @@ fn finished_rank<C: Eliminating>(
 
 // The rank as the number of rows of the echelon form.
 fn rank_of_form(alloc: Global, rows: &Rows) -> Result<u32, AllocError>
-    ensures { IfOk result (IsRankOf rows.now) }
+    ensures { IfOk result (IsBoundedRank rows.now) }
 {
     let rank = echelon_form::rank(alloc, rows)?;
     Ok(rank)
@@ -166,7 +166,7 @@ fn dense_rank<C: Eliminating>(
 ) -> Result<u32, AllocError>
     requires able { C.can_work }
     requires some { 1 ≤ workers }
-    ensures { IfOk result (IsRankOf rows) }
+    ensures { IfOk result (IsBoundedRank rows) }
 {
     // The law's contract: the rank is the number of the pivots of factors.
     row_space::factors_give_rank();
