@@ -6,7 +6,7 @@ ghost use Rattle.echelon_form.specs.Form.{IsEchelon, IsFormOf, widened_form};
 
 use crate::lead_order::{leads_of, named, order_of};
 use crate::settle::{Settling, merged};
-use crate::sparse_elimination::{eliminated, is_wide};
+use crate::sparse_elimination::eliminated;
 use crew::Threaded;
 use sparse_rows::Rows;
 use std::alloc::{AllocError, Global};
@@ -67,7 +67,7 @@ impl Echelon {
     {
         // The call's contract tells that the entries are residues.
         rows.is_sound();
-        if is_wide(rows) {
+        if rows.is_wide() {
             let columns = rows.occupied(alloc)?;
             let narrow = rows.narrowed(alloc, &columns)?;
             Echelon::settled(crew, alloc, &narrow, workers)?.widened(alloc, rows.width(), &columns)

@@ -18,18 +18,13 @@ pub fn rank(alloc: Global, rows: &Rows) -> Result<u32, AllocError>
 {
     // The call's contract tells that the entries are residues.
     rows.is_sound();
-    if is_wide(rows) {
+    if rows.is_wide() {
         let columns = rows.occupied(alloc)?;
         let narrow = rows.narrowed(alloc, &columns)?;
         height_left(alloc, &narrow)
     } else {
         height_left(alloc, rows)
     }
-}
-
-// Whether there are so many more columns than entries that it pays to number anew those that have an entry.
-pub(crate) fn is_wide(rows: &Rows) -> bool {
-    u64::from(rows.width()) / 4 > rows.entries()
 }
 
 // How many rows are left, which for a prime modulus is the rank.

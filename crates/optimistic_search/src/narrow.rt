@@ -115,14 +115,9 @@ fn search_narrowed(alloc: Global, book: Book) -> Result<Book, AllocError>
     search_columns(alloc, book, &columns, &narrow)
 }
 
-// Whether there are so many more columns than entries that it pays to number anew those that have an entry.
-fn is_wide(rows: &Rows) -> bool {
-    u64::from(rows.width()) / 4 > rows.entries()
-}
-
 // Whether there are so many more columns, or rows, than entries that what several workers take for each of them doesn't pay.
 pub(crate) fn has_few_entries(rows: &Rows) -> bool {
-    is_wide(rows) || u64::from(rows.height()) / 4 > rows.entries()
+    rows.is_wide() || u64::from(rows.height()) / 4 > rows.entries()
 }
 
 // Tries the rows in ascending order, and appends those that have an alive column with the least, in memory by the entries. It
@@ -131,7 +126,7 @@ pub(crate) fn search_by_entries(alloc: Global, book: Book) -> Result<Book, Alloc
     ensures rows { IfOk result (λ b. b.rows ≡ book.entry.rows) }
     ensures greedy { IfOk result (λ b. IsGreedy book.entry.rows.matrix book.entry.pairs b.pairs) }
 {
-    if is_wide(book.rows()) {
+    if book.rows().is_wide() {
         search_narrowed(alloc, book)
     } else {
         search_greedily(alloc, book)

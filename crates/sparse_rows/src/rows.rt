@@ -1,7 +1,7 @@
 // A matrix as compressed rows.
 ghost use Rattle.residue_words.specs.declared.modulus.TheConstants.{MODULUS_BOUND};
 ghost use Rattle.sparse_rows.specs.declared.rows.TheConstants.{LARGEST_SIZE};
-ghost use Rattle.std.specs.Prelude.{◌≡◌, ◌<◌, ◌≤◌, ◌+◌, ◌-◌, ℕ, [], ◌++◌, length, slice_index, IfOk, OnErr, OnOk};
+ghost use Rattle.std.specs.Prelude.{◌≡◌, ◌<◌, ◌≤◌, ◌+◌, ◌-◌, ◌/◌, ◌↔◌, ℕ, [], ◌++◌, length, slice_index, IfOk, IsTrue, OnErr, OnOk};
 ghost use Rattle.std.specs.Option.{MatchOption};
 ghost use Rattle.residue_words.specs.Matrix.{IsMatrix, row};
 ghost use Rattle.sparse_rows.specs.Cells.{place_of};
@@ -246,6 +246,14 @@ impl Rows {
         ensures { result ≡ entry_count self.now.matrix }
     {
         self.stored.entries()
+    }
+
+    /// Whether a fourth of its columns are more than its entries, so that it pays to number anew those that have one. It takes constant
+    /// time.
+    pub fn is_wide(&self) -> bool
+        ensures { IsTrue result ↔ entry_count self.now.matrix < self.now.matrix.width / 4 }
+    {
+        u64::from(self.width()) / 4 > self.entries()
     }
 
     /// The columns of the nonzero entries of row i, ascending.
