@@ -16,7 +16,7 @@ use Rattle.sparse_rows.proofs.Occurring.{rising_push}
 use Rattle.question_desk.specs.declared.number_or_end.NumberOrEnd.{NumberOrEnd}
 use Rattle.question_desk.specs.declared.number_or_end.NumberOrEnd.TheVariants.{Number, End}
 use Rattle.question_desk.specs.declared.known_numbers.KnownNumbers.{KnownNumbers}
-use Rattle.question_desk.specs.Rule.{known, known_first, filled, known_kept, known_new, Gives, numbers_and_ends, Took, StandsOnce, IsFillingDesk, KeepsDesk}
+use Rattle.question_desk.specs.Rule.{numbers_known, known_first, filled, known_kept, known_new, Gives, numbers_and_ends, Took, StandsOnce, IsFillingDesk, KeepsDesk}
 
 -- lists of what passes know
 
@@ -191,7 +191,7 @@ not_true false n = refl
 
 drains : (items : List NumberOrEnd) (views : List KnownNumbers) (i : ℕ) (v : KnownNumbers) (x : NumberOrEnd) (k : KeepsDesk (x ∷ items) views) (rest : ℕ) → get_elem? views i ≡ some v → k.served.left ≡ 0 → items ≡ replicate rest End
     → (w : KnownNumbers) × KeepsDesk items (set views i w) × Gives v End w
-drains items views i v x k rest at none is = let s = k.served in let w : KnownNumbers = known v.count v.taken true false in (
+drains items views i v x k rest at none is = let s = k.served in let w : KnownNumbers = numbers_known v.count v.taken true false in (
   w,
   record {
     count = k.count;
@@ -219,7 +219,7 @@ serves : (items : List NumberOrEnd) (views : List KnownNumbers) (i : ℕ) (v : K
 serves items views i v x k left at more is =
     let s = k.served in
     let n : ℕ = s.from in
-    let w : KnownNumbers = known v.count (v.taken ++ n ∷ []) false false in
+    let w : KnownNumbers = numbers_known v.count (v.taken ++ n ∷ []) false false in
     let before = took_before views i v w (n ∷ []) at refl in
     let one : (m : ℕ) → Contains (n ∷ []) m → n ≡ m = λ m c. ⊎_elim (λ e. e) (λ none. absurd (not_in_nil m none)) (in_cases n [] m c) in
     let above : (t : ℕ) → t < length v.taken → slice_index v.taken t < n = λ t l. s.below i (slice_index v.taken t) (record { known = v; at = at; has = contains_at v.taken t (slice_index v.taken t) l refl }) in

@@ -8,34 +8,34 @@ use Rattle.question_desk.specs.declared.number_or_end.NumberOrEnd.{NumberOrEnd}
 use Rattle.question_desk.specs.declared.number_or_end.NumberOrEnd.TheVariants.{Number, End}
 use Rattle.question_desk.specs.declared.known_numbers.KnownNumbers.{KnownNumbers}
 
-abbrev pub known : ℕ → List ℕ → Bool → Bool → KnownNumbers
-known count taken drained fills = record { count = count; taken = taken; drained = drained; fills = fills }
+abbrev pub numbers_known : ℕ → List ℕ → Bool → Bool → KnownNumbers
+numbers_known count taken drained fills = record { count = count; taken = taken; drained = drained; fills = fills }
 
 -- the first pass, once so many numbers were put
 abbrev pub known_filling : ℕ → KnownNumbers
-known_filling count = known count [] false true
+known_filling count = numbers_known count [] false true
 
 abbrev pub known_first : KnownNumbers
 known_first = known_filling 0
 
 -- a number more was put
 abbrev pub filled : KnownNumbers → KnownNumbers
-filled v = known (v.count + 1) v.taken false true
+filled v = numbers_known (v.count + 1) v.taken false true
 
 -- numbers are no longer put
 abbrev pub known_kept : KnownNumbers → KnownNumbers
-known_kept v = known v.count v.taken v.drained false
+known_kept v = numbers_known v.count v.taken v.drained false
 
 -- a new pass
 abbrev pub known_new : KnownNumbers → KnownNumbers
-known_new v = known v.count [] false false
+known_new v = numbers_known v.count [] false false
 
 -- what is taken joins the list, and is above all in it; an end tells that nothing is left
 abbrev pub Gives : KnownNumbers → NumberOrEnd → KnownNumbers → Type 0
-Gives v (Number n) w = (w ≡ known v.count (v.taken ++ n ∷ []) false false) × (v.drained ≡ false)
+Gives v (Number n) w = (w ≡ numbers_known v.count (v.taken ++ n ∷ []) false false) × (v.drained ≡ false)
     × (n < v.count)
     × ((k : ℕ) → k < length v.taken → slice_index v.taken k < n)
-Gives v End w = w ≡ known v.count v.taken true false
+Gives v End w = w ≡ numbers_known v.count v.taken true false
 
 -- the numbers from `from` on, so many, and behind them ends
 abbrev pub numbers_and_ends : ℕ → ℕ → ℕ → List NumberOrEnd
