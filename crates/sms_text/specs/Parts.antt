@@ -22,14 +22,14 @@ abbrev pub wants : ℕ → List Due → Wanted
 wants p due = record { modulus = p; due = due }
 
 -- what was read of it: the bytes that were taken, what they say, and which lines of it are due behind them
-pub record Part : Type 0 where
+pub record WhatWasRead : Type 0 where
   pub taken : List ℕ
   pub items : List Item
   pub due : List Due
 
 -- A reader read this part of what is wanted and stands between two lines: whatever comes behind the bytes at hand, and whichever lines are
 -- due behind what is wanted, they say these items, and then what this reader says where the rest of it is due.
-pub record IsBetween (w : Wanted) (old new : ReaderState) (part : Part) : Type 0 where
+pub record IsBetween (w : Wanted) (old new : ReaderState) (part : WhatWasRead) : Type 0 where
   pub sound : new.error ≡ None
   pub opened : new.open_text ≡ open_at part.due
   pub reads : (ended : Bool) (more : List ℕ) (dues : List Due) → MayFollow new.ended ended more →
