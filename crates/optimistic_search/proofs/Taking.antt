@@ -7,11 +7,11 @@ use Rattle.residue_words.specs.declared.plain.Pair.{Pair}
 use Rattle.pivot_table.specs.History.{pair, LeastAlive}
 use Rattle.pivot_table.specs.Calls.{Finishes, Publishes}
 use Rattle.pivot_table.specs.Core.{Chair, claiming, finishing, publishing, seeing}
-use Rattle.optimistic_search.specs.Cost.{IsCost, TakesItsCost}
+use Rattle.pivot_walks.specs.Cost.{IsCost, TakesItsCost}
 use Rattle.optimistic_search.specs.Taking.{with_seen, LetsGo, TakesRow, NoneIfBusy, others_seen}
 use Rattle.optimistic_search.specs.declared.taken_row.Taken.{Taken}
 use Rattle.optimistic_search.specs.declared.taken_row.Taken.TheVariants as taken
-use Rattle.optimistic_search.proofs.Costing.{cost_is_one}
+use Rattle.pivot_walks.proofs.Costing.{cost_is_one}
 
 pub taken_up : (A : Matrix) (r : ℕ) (s : Chair) (m : List Pair) (o : Taken) (t : Chair) → LetsGo A r (with_seen (claiming s r) (s.seen ++ m)) o t → TakesRow A r s o t
 taken_up A r s m taken.Busy t e = absurd e

@@ -3,8 +3,8 @@ use Rattle.std.specs.Prelude.{◌≡◌, None}
 use Rattle.pivot_table.specs.Book.{BookState, HasRoom}
 use Rattle.pivot_table.specs.Greedy.{IsGreedy}
 use Rattle.pivot_table.specs.History.{Grown}
-use Rattle.optimistic_search.specs.Levels.{Leveled}
-use Rattle.optimistic_search.specs.Walked.{Walked}
+use Rattle.pivot_walks.specs.Levels.{Leveled}
+use Rattle.pivot_walks.specs.Walked.{Walked}
 
 -- the rows were tried in ascending order, beginning with the pairs of the first book, and the second has what came of it
 abbrev pub IsGreedyFrom : BookState → BookState → Type 0

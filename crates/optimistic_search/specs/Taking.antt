@@ -5,7 +5,7 @@ use Rattle.residue_words.specs.declared.plain.Pair.{Pair}
 use Rattle.pivot_table.specs.History.{pair, Dead, LeastAlive}
 use Rattle.pivot_table.specs.Core.{Chair, claiming, publishing, finishing, meeting}
 use Rattle.pivot_table.specs.Board.{BoardState, SeatState, IsSeatOf}
-use Rattle.optimistic_search.specs.Walked.{Walked}
+use Rattle.pivot_walks.specs.Walked.{Walked}
 use Rattle.optimistic_search.specs.declared.taken_row.Taken.{Taken}
 use Rattle.optimistic_search.specs.declared.taken_row.Taken.TheVariants as taken
 

@@ -8,7 +8,7 @@ use Rattle.pivot_table.specs.Core.{Chair}
 use Rattle.pivot_table.specs.History.{StandsOrIsDead}
 use Rattle.pivot_table.specs.Closing.{IsDone}
 use Rattle.optimistic_search.specs.Taking.{IsIdle}
-use Rattle.optimistic_search.specs.Walked.{Walked}
+use Rattle.pivot_walks.specs.Walked.{Walked}
 use Rattle.optimistic_search.specs.declared.team_search.Team.{Team}
 use Rattle.optimistic_search.specs.declared.search_worker.SearchWorker.{SearchWorker}
 

@@ -2,14 +2,13 @@
 ghost use Rattle.std.specs.Prelude.{◌≡◌, ◌<◌, ◌≤◌, None, length, take, IfOk};
 ghost use Rattle.pivot_table.specs.Greedy.{IsGreedy, IsTried};
 ghost use Rattle.pivot_table.specs.History.{Grown, HasRow, Maximal, StartsWith};
-ghost use Rattle.optimistic_search.specs.Candidate.{IsCovered};
-ghost use Rattle.optimistic_search.specs.Cost.{TakesCostOfRows, TakesItsCost};
+ghost use Rattle.pivot_walks.specs.Candidate.{IsCovered};
+ghost use Rattle.pivot_walks.specs.Cost.{TakesItsCost};
+ghost use Rattle.optimistic_search.specs.CostOfRows.{TakesCostOfRows};
 ghost use Rattle.pivot_table.specs.Book.{HasRoom};
 
-use crate::resting_walk::RestingWalk;
-use crate::steps::Steps;
-use crate::walk::Walk;
 use pivot_table::Book;
+use pivot_walks::{RestingWalk, Steps, Walk};
 use residue_words::plain::Pair;
 use sparse_rows::Rows;
 use std::alloc::{AllocError, Global};
@@ -39,7 +38,7 @@ pub(crate) struct Search<'a, L: Ledger> {
 }
 
 impl<'a, L: Ledger> Model for Search<'a, L> {
-    ghost use Rattle.optimistic_search.specs.Indexed.{Indexed};
+    ghost use Rattle.pivot_walks.specs.Indexed.{Indexed};
     ghost use Rattle.optimistic_search.specs.Search.{IsBetweenRows};
 
     ghost Value = { Indexed };

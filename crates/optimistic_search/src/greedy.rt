@@ -2,11 +2,11 @@
 ghost use Rattle.std.specs.Prelude.{◌≡◌, ◌<◌, [], false, IsTrue, IfOk, IfSome};
 ghost use Rattle.pivot_table.specs.Greedy.{IsGreedy, IsTried};
 ghost use Rattle.pivot_table.specs.History.{Grown, StartsWith};
-ghost use Rattle.optimistic_search.specs.Budget.{IsUnbounded, StaysUnbounded};
+ghost use Rattle.pivot_walks.specs.Budget.{IsUnbounded, StaysUnbounded};
 ghost use Rattle.optimistic_search.specs.Search.{IsGreedyFrom};
 
-use crate::leveled_walk::LeveledWalk;
 use pivot_table::Book;
+use pivot_walks::LeveledWalk;
 use residue_words::plain::Pair;
 use sparse_rows::Rows;
 use std::alloc::{AllocError, Global};
@@ -33,7 +33,7 @@ struct LeveledSearch<'a> {
 }
 
 impl<'a> Model for LeveledSearch<'a> {
-    ghost use Rattle.optimistic_search.specs.Levels.{Leveled};
+    ghost use Rattle.pivot_walks.specs.Levels.{Leveled};
     ghost use Rattle.optimistic_search.specs.Search.{IsLeveled};
 
     ghost Value = { Leveled };

@@ -4,11 +4,9 @@ ghost use Rattle.optimistic_search.specs.Taking.{IsIdle};
 ghost use Rattle.optimistic_search.specs.Workers.{IsWorkerOf};
 
 use crate::gate::Gate;
-use crate::resting_walk::RestingWalk;
-use crate::steps::Steps;
 use crate::taken_row::take_row;
-use crate::walk::Walk;
 use pivot_table::{Board, Seat};
+use pivot_walks::{RestingWalk, Steps, Walk};
 use std::marker::Brand;
 use std::sync::ledger::{Blank, Ledger};
 

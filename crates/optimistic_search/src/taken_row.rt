@@ -2,13 +2,12 @@
 ghost use Rattle.std.specs.Prelude.{◌≡◌, ◌<◌, ◌≤◌, IfSome, IfNone, length, min};
 ghost use Rattle.residue_words.specs.declared.plain.Pair.{Pair};
 ghost use Rattle.pivot_table.specs.Core.{seeing};
-ghost use Rattle.optimistic_search.specs.Cost.{TakesItsCost, TakesTheRise};
+ghost use Rattle.pivot_walks.specs.Cost.{TakesItsCost, TakesTheRise};
 ghost use Rattle.optimistic_search.specs.Taking.{IsIdle, IsTrying, LetsGo, NoneIfBusy, TakesRow, others_seen};
 
 use crate::gate::{Caller, Gate, Point};
-use crate::steps::Steps;
-use crate::walk::Walk;
 use pivot_table::{Board, Outcome, Seat};
+use pivot_walks::{Steps, Walk};
 use residue_words::plain::Pair;
 use std::sync::ledger::Ledger;
 

@@ -7,10 +7,9 @@ ghost use Rattle.optimistic_search.specs.Workers.{DoneAreSettled, IsTeamOf, IsWo
 
 use crate::by_walk::{Search, follow};
 use crate::gate::Gate;
-use crate::resting_walk::RestingWalk;
 use crate::search_worker::{SearchWorker, first_row};
-use crate::steps::Steps;
 use pivot_table::{Board, Book, Closed, Marks, Seat, Starts};
+use pivot_walks::{RestingWalk, Steps};
 use std::alloc::{AllocError, Global};
 use std::marker::Brand;
 use std::sync::ledger::{Blank, Ledger};

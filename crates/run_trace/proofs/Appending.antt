@@ -9,7 +9,7 @@ use Rattle.residue_words.proofs.Lists.{place_in}
 use Rattle.sparse_rows.specs.Rows.{AreEnough, narrowed}
 use Rattle.pivot_table.specs.History.{pair, Alive}
 use Rattle.optimistic_search.specs.Renamed.{AreInside, renamed}
-use Rattle.optimistic_search.specs.Walked.{OfOpenRow, Walked, extended, open_after}
+use Rattle.pivot_walks.specs.Walked.{OfOpenRow, Walked, extended, open_after}
 use Rattle.optimistic_search.proofs.Renaming.{alive_here, alive_there, inside_more, narrow_of}
 use Rattle.run_trace.specs.Replayed.{TriesPair}
 

@@ -2,7 +2,7 @@
 use Rattle.std.specs.Prelude.{◌≡◌, Bool, true, false, [], ◌∷◌, ◌++◌}
 use Rattle.residue_words.specs.declared.plain.Pair.{Pair}
 use Rattle.pivot_table.specs.History.{Alive}
-use Rattle.optimistic_search.specs.Walked.{Walked}
+use Rattle.pivot_walks.specs.Walked.{Walked}
 
 -- the pair is alive in the list, and was appended; or it isn't, and the walk is as it was
 abbrev pub TriesPair : Walked → Pair → Bool → Walked → Type 0

@@ -3,7 +3,7 @@ use Rattle.std.proofs.lemmas.List.{append-nil}
 use Rattle.residue_words.specs.Matrix.{Matrix}
 use Rattle.sparse_rows.specs.Rows.{ResidueMatrix}
 use Rattle.pivot_table.specs.Greedy.{IsTried}
-use Rattle.optimistic_search.specs.Cost.{TakesItsCost}
+use Rattle.pivot_walks.specs.Cost.{TakesItsCost}
 use Rattle.optimistic_search.proofs.Costing.{row_more_costs}
 use Rattle.optimistic_search.proofs.Searching.{greedy_none, greedy_more, tried_starts}
 use Rattle.optimistic_search.proofs.by_walk.try_all.Goals as goal

@@ -1,6 +1,6 @@
 use Rattle.std.proofs.Common.{◌≡◌}
 use Rattle.pivot_table.specs.Greedy.{IsGreedyBelow}
-use Rattle.optimistic_search.specs.Cost.{TakesCostOfRows}
+use Rattle.optimistic_search.specs.CostOfRows.{TakesCostOfRows}
 use Rattle.optimistic_search.proofs.by_walk.try_all.Given as goal
 
 abbrev pub invariant-loop-row : goal.invariant-loop-row

@@ -1,6 +1,6 @@
 use Rattle.std.proofs.Common.{◌≡◌, take, slice_index_or, subst, sym}
 use Rattle.pivot_table.specs.History.{Alive, Grown}
-use Rattle.optimistic_search.specs.Levels.{Leveled}
+use Rattle.pivot_walks.specs.Levels.{Leveled}
 use Rattle.optimistic_search.proofs.Searching.{grown_at, grown_front}
 use Rattle.optimistic_search.proofs.greedy.follow.Goals as goal
 

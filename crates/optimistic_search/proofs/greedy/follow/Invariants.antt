@@ -1,5 +1,5 @@
 use Rattle.std.proofs.Common.{◌≡◌, take}
-use Rattle.optimistic_search.specs.Budget.{StaysUnbounded}
+use Rattle.pivot_walks.specs.Budget.{StaysUnbounded}
 use Rattle.optimistic_search.proofs.greedy.follow.Given as goal
 
 abbrev pub invariant-loop-k : goal.invariant-loop-k

@@ -1,6 +1,6 @@
 use Rattle.std.proofs.Common.{◌≡◌, ◌<◌, ◌≤◌, ◌-◌}
 use Rattle.pivot_table.specs.Greedy.{IsGreedyBelow}
-use Rattle.optimistic_search.specs.Budget.{StaysUnbounded}
+use Rattle.pivot_walks.specs.Budget.{StaysUnbounded}
 use Rattle.optimistic_search.proofs.greedy.try_all.Given as goal
 
 abbrev pub invariant-loop-row : goal.invariant-loop-row

@@ -3,7 +3,7 @@ use Rattle.std.specs.Prelude.{All, Some}
 use Rattle.std.proofs.lemmas.List.Elements.{All-push}
 use Rattle.sparse_rows.specs.Rows.{ResidueMatrix}
 use Rattle.pivot_table.specs.Core.{Chair, parting}
-use Rattle.optimistic_search.specs.Walked.{Walked}
+use Rattle.pivot_walks.specs.Walked.{Walked}
 use Rattle.optimistic_search.specs.Workers.{IsWorkerOf, with_parted}
 use Rattle.optimistic_search.specs.declared.search_worker.SearchWorker.{SearchWorker}
 use Rattle.optimistic_search.proofs.team_search.prepared.Goals as goal

@@ -7,10 +7,10 @@ use Rattle.pivot_table.specs.Greedy.{IsTried}
 use Rattle.pivot_table.specs.Greedy.IsTried.{dead, taken}
 use Rattle.pivot_table.specs.History.{pair, Alive, Dead, Grown, LeastAlive}
 use Rattle.pivot_table.proofs.Growth.{grown_push}
-use Rattle.optimistic_search.specs.Cost.{IsCost}
-use Rattle.optimistic_search.specs.Indexed.{Indexed}
+use Rattle.pivot_walks.specs.Cost.{IsCost}
+use Rattle.pivot_walks.specs.Indexed.{Indexed}
 use Rattle.optimistic_search.specs.Search.{IsBetweenRows, IsOverBook}
-use Rattle.optimistic_search.specs.Walked.{Walked, extended}
+use Rattle.pivot_walks.specs.Walked.{Walked, extended}
 use Rattle.optimistic_search.proofs.Searching.{room_left, closed_own}
 use Rattle.optimistic_search.proofs.by_walk.Search.try_row.Goals as goal
 

@@ -7,7 +7,7 @@ use Rattle.pivot_table.specs.Greedy.{IsTried}
 use Rattle.pivot_table.specs.Greedy.IsTried.{dead, taken}
 use Rattle.pivot_table.specs.History.{pair, Alive, Dead, Grown, LeastAlive}
 use Rattle.pivot_table.proofs.Growth.{grown_push}
-use Rattle.optimistic_search.specs.Levels.{Leveled}
+use Rattle.pivot_walks.specs.Levels.{Leveled}
 use Rattle.optimistic_search.specs.Search.{IsLeveled}
 use Rattle.optimistic_search.proofs.Searching.{room_left}
 use Rattle.optimistic_search.proofs.greedy.LeveledSearch.try_row.Goals as goal

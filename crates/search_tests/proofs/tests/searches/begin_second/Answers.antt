@@ -1,4 +1,4 @@
-use Rattle.optimistic_search.proofs.Example.{begun_steps}
+use Rattle.pivot_walks.proofs.Example.{begun_steps}
 use Rattle.search_tests.proofs.tests.searches.begin_second.Goals as goal
 
 pub returns-clause-steps : goal.returns-clause-steps

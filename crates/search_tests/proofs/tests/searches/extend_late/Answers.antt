@@ -1,8 +1,8 @@
 use Rattle.std.proofs.Common.{ap, ◌∙◌}
 use Rattle.residue_words.specs.declared.plain.Pair.{Pair}
 use Rattle.pivot_table.specs.History.{pair}
-use Rattle.optimistic_search.specs.Walked.{Walked, open_after}
-use Rattle.optimistic_search.proofs.Example.{carried_steps}
+use Rattle.pivot_walks.specs.Walked.{Walked, open_after}
+use Rattle.pivot_walks.proofs.Example.{carried_steps}
 use Rattle.search_tests.proofs.tests.searches.extend_late.Goals as goal
 
 pub returns-clause-open : goal.returns-clause-open

@@ -1,0 +1,11 @@
+pub mod Budget
+pub mod Candidate
+pub mod Cost
+pub mod Example
+pub mod Indexed
+pub mod Levels
+pub mod MarkedColumns
+pub mod Raising
+pub mod Reached
+pub mod Spent
+pub mod Walked
