@@ -112,7 +112,7 @@ impl Rows {
         ensures err { OnErr result (self.new.matrix ≡ self.old.matrix) }
     {
         // The call tells that the stored rows are a matrix of residues.
-        self.stored.is_sound();
+        self.stored.modulus();
         if self.every_row {
             self.stored.append_slices(cols, vals)?;
             self.height += 1;
@@ -188,7 +188,7 @@ impl Rows {
         ensures err { OnErr result (self.new.matrix ≡ self.old.matrix) }
     {
         // The call tells that the stored rows are a matrix of residues.
-        self.stored.is_sound();
+        self.stored.modulus();
         if self.every_row {
             self.stored.append_zeros(count)?;
             self.height += count;
@@ -219,7 +219,7 @@ impl Rows {
         ensures sound { IsMatrix self.now.modulus self.now.matrix }
     {
         // The proof wants what the modulus says of the stored rows.
-        self.stored.is_sound();
+        self.stored.modulus();
         self.height
     }
 

@@ -177,20 +177,6 @@ impl StoredRows {
         })
     }
 
-    // The law of its sizes, its modulus and its entries, for proofs: it does nothing.
-    #[inline(always)]
-    pub(crate) fn is_sound(&self)
-        ensures height { self.now.matrix.height ≤ LARGEST_SIZE }
-        ensures width { self.now.matrix.width ≤ LARGEST_SIZE }
-        ensures two_or_more { 2 ≤ self.now.modulus }
-        ensures in_range { self.now.modulus < MODULUS_BOUND }
-        ensures entries { IsMatrix self.now.modulus self.now.matrix }
-    {
-        self.height();
-        self.width();
-        self.modulus();
-    }
-
     // The rows that begin at these places, with these columns and values.
     pub(crate) fn of_parts(modulus: Modulus, width: u32, parts: RowParts) -> StoredRows
         requires { IsStored modulus width parts.starts.items parts.cols.items parts.vals.items }

@@ -23,7 +23,7 @@ impl Rows {
         ensures matrix { IfOk result (λ rows. rows.matrix ≡ narrowed self.now.matrix columns.now) }
     {
         // The proof wants that the stored rows are residues.
-        self.stored.is_sound();
+        self.stored.modulus();
         Ok(Rows {
             height: self.height,
             stored: self.stored.narrowed(alloc, columns)?,
@@ -43,7 +43,7 @@ impl Rows {
         ensures matrix { IfOk result (λ rows. rows.matrix ≡ widened self.now.matrix width columns.now) }
     {
         // The proof wants that the stored rows are residues.
-        self.stored.is_sound();
+        self.stored.modulus();
         Ok(Rows {
             height: self.height,
             stored: self.stored.widened(alloc, width, columns)?,
@@ -58,7 +58,7 @@ impl Rows {
         ensures matrix { IfOk result (λ rows. rows.matrix ≡ transposed self.now.matrix) }
     {
         // The proof wants that the stored rows are residues.
-        self.stored.is_sound();
+        self.stored.modulus();
         let width = self.stored.width();
         if stores_every_row(width, self.stored.entries() as usize) {
             let stored = self.stored.transpose(alloc)?;

@@ -12,12 +12,12 @@ append_slices-requires-2-clause-height_small c =
 
 pub invariant_of-self-2 : goal.invariant_of-self-2
 invariant_of-self-2 c =
-    (listed_push c.self.inside.every_row c.self.inside.height _ _ _ _ _ c.args.cols.now c.args.vals.now c.if-self.false c.is_sound.ensures.entries c.self.invariant (ap (λ m. m.matrix) c.self.view_is)
+    (listed_push c.self.inside.every_row c.self.inside.height _ _ _ _ _ c.args.cols.now c.args.vals.now c.if-self.false c.modulus.ensures.sound c.self.invariant (ap (λ m. m.matrix) c.self.view_is)
     (omega (arith, placed_height c.self.inside.every_row _ _ _ c.self.invariant, c.requires.height_small, ap (λ m. m.matrix.height) c.self.view_is)) c.requires.sparse (filled_length _ _ c.is_empty.ensures c.if-is_empty.false)
     (c.in_ok-push.ensures.items ∙ ap (λ xs. xs ++ c.self.inside.height ∷ []) c.reserve.ensures.items) c.in_ok-append_slices-2.ensures.matrix).0
 
 pub returns-clause-matrix : goal.returns-clause-matrix
 returns-clause-matrix c =
-    (listed_push c.self.inside.every_row c.self.inside.height _ _ _ _ _ c.args.cols.now c.args.vals.now c.if-self.false c.is_sound.ensures.entries c.self.invariant (ap (λ m. m.matrix) c.self.view_is)
+    (listed_push c.self.inside.every_row c.self.inside.height _ _ _ _ _ c.args.cols.now c.args.vals.now c.if-self.false c.modulus.ensures.sound c.self.invariant (ap (λ m. m.matrix) c.self.view_is)
     (omega (arith, placed_height c.self.inside.every_row _ _ _ c.self.invariant, c.requires.height_small, ap (λ m. m.matrix.height) c.self.view_is)) c.requires.sparse (filled_length _ _ c.is_empty.ensures c.if-is_empty.false)
     (c.in_ok-push.ensures.items ∙ ap (λ xs. xs ++ c.self.inside.height ∷ []) c.reserve.ensures.items) c.in_ok-append_slices-2.ensures.matrix).1

@@ -25,7 +25,7 @@ both : (c : In_ok-with_columns-2) →
 both c =
     let S : Matrix = c.self.inside.stored.matrix in
     let t = transposed_listed c.self.inside.every_row c.self.inside.height c.self.inside.rows.items S c.in_ok-with_columns-2.field-0.matrix c.in_ok-columns.columns.items
-    (turned_sound c.in_ok-columns.columns.items c.is_sound.ensures.entries c.in_ok-columns.ensures) c.self.invariant c.in_ok-columns.ensures
+    (turned_sound c.in_ok-columns.columns.items c.modulus.ensures.sound c.in_ok-columns.ensures) c.self.invariant c.in_ok-columns.ensures
     (c.in_ok-with_columns-2.ensures.matrix ∙ ap₂ (λ T rs. cond c.self.inside.every_row T (widened T c.self.inside.height rs))
     (c.in_ok-stored-2.ensures.matrix ∙ ap transposed (c.in_ok-narrowed.ensures.matrix ∙ ap (narrowed S) c.deref-2.ensures.value)) c.deref-3.ensures.value) in
     (t.0, t.1 ∙ ap (λ m. transposed m.matrix) c.self.view_is)

@@ -10,12 +10,12 @@ widened-requires-clause-many c = c.requires.many ∙ ap (λ m. m.matrix.width) (
 pub invariant_of-result : goal.invariant_of-result
 invariant_of-result c =
     placed_read c.self.inside.every_row c.self.inside.height _ _ _ _ (c.in_ok-from_slice.ensures.items ∙ c.deref.ensures.value) c.in_ok-widened.ensures.matrix
-    (placed_widened c.self.inside.every_row _ _ _ c.args.width c.args.columns.now c.is_sound.ensures.entries c.self.invariant
+    (placed_widened c.self.inside.every_row _ _ _ c.args.width c.args.columns.now c.modulus.ensures.sound c.self.invariant
     (c.requires.many ∙ ap (λ m. m.matrix.width) (sym c.self.view_is) ∙ placed_width c.self.inside.every_row _ _ _) c.requires.rising c.requires.below).0
 
 pub returns-clause-matrix : goal.returns-clause-matrix
 returns-clause-matrix c =
     ap₂ (placed c.self.inside.every_row c.self.inside.height) (c.in_ok-from_slice.ensures.items ∙ c.deref.ensures.value) c.in_ok-widened.ensures.matrix
-    ∙ (placed_widened c.self.inside.every_row _ _ _ c.args.width c.args.columns.now c.is_sound.ensures.entries c.self.invariant
+    ∙ (placed_widened c.self.inside.every_row _ _ _ c.args.width c.args.columns.now c.modulus.ensures.sound c.self.invariant
     (c.requires.many ∙ ap (λ m. m.matrix.width) (sym c.self.view_is) ∙ placed_width c.self.inside.every_row _ _ _) c.requires.rising c.requires.below).1
     ∙ ap (λ m. widened m.matrix c.args.width c.args.columns.now) c.self.view_is
