@@ -16,10 +16,10 @@ use Rattle.dense_finish.specs.Block.{DenseBlock, IsBlock, IsBlockOf, IsDense, wi
 use Rattle.dense_rows.specs.Rows.{block_row}
 use Rattle.dense_finish.specs.Factors.{IsFactored, IsLeftFactor}
 use Rattle.dense_finish.specs.Pivots.{AreEliminated, AreFound, ArePivotPlaces, EliminatesBlock, IsRightFactorOf, SplitBy, filled_entry}
-use Rattle.dense_finish.specs.Splitting.{parts}
+use Rattle.dense_panels.specs.Splitting.{parts}
 use Rattle.dense_rows.specs.Dense.{IsTaken}
 use Rattle.dense_rows.proofs.Indexing.{AreIndices, IsEmptyColumn, IsEmptyRow, filled_indices, index_or_not, occupied_indices}
-use Rattle.dense_finish.proofs.Splitting.{fresh, steps_front}
+use Rattle.dense_panels.proofs.Splitting.{fresh, steps_front}
 
 -- different items have different names
 pub indices_apart : {n : ℕ} {Absent : ℕ → Type 0} {names : List ℕ} → AreIndices n Absent names → (j k : ℕ) → j < length names → k < length names → slice_index names j ≡ slice_index names k → j ≡ k

@@ -3,12 +3,8 @@ pub mod Blocks
 pub mod FullRows
 pub mod Gathering
 pub mod Growing
-pub mod JoinedPanels
+pub mod JoinedParts
 pub mod LeftThere
 pub mod PanelStages
 pub mod Progress
-pub mod ReducedPieces
-pub mod SharedPieces
-pub mod Splitting
 pub mod Stages
-pub mod UnitRows

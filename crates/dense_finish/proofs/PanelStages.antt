@@ -6,13 +6,13 @@ use Rattle.residue_words.specs.Matrix.{IsVector}
 use Rattle.residue_words.specs.Residues.{IsPrime}
 use Rattle.dense_finish.specs.declared.pivots.Pivots.{Pivots}
 use Rattle.dense_rows.specs.Rows.{block_row}
-use Rattle.dense_finish.specs.Panel.{PanelReducesEach, no_pivots}
+use Rattle.dense_panels.specs.Panel.{PanelReducesEach, no_pivots}
 use Rattle.dense_finish.specs.Pivots.{AreEliminated, AreSplit, CanGoOn, FindsPanel, IsPanelFrom, PanelStage, before_panel, count, pivot_sequence, panel_stage, stage, stage_of}
-use Rattle.dense_finish.specs.Splitting.{IsSplit}
-use Rattle.dense_finish.specs.Units.{FoundPanel, HasUnits, nothing_found}
+use Rattle.dense_panels.specs.Splitting.{IsSplit}
+use Rattle.dense_panels.specs.Units.{FoundPanel, HasUnits, nothing_found}
 use Rattle.dense_finish.proofs.Growing.{found_own}
 use Rattle.dense_finish.proofs.Progress.{panel_begins, reduced_split, split_begins}
-use Rattle.dense_finish.proofs.Splitting.{split_same}
+use Rattle.dense_panels.proofs.Splitting.{split_same}
 
 pub holds_begins : {p : ℕ} (names : List ℕ) (f : Pivots) (block : List (List ℕ)) → IsPanelFrom p names (before_panel (panel_stage f (nothing_found (length names)) block 0)) f (no_pivots (length names))
 holds_begins {p} names f block =

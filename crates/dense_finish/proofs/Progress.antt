@@ -9,12 +9,12 @@ use Rattle.residue_words.specs.Residues.{IsPrime}
 use Rattle.row_space.specs.Rows.{HasSteps}
 use Rattle.dense_finish.specs.declared.pivots.Pivots.{Pivots}
 use Rattle.dense_rows.specs.Rows.{block_row, entry_of}
-use Rattle.dense_finish.specs.Panel.{Continues, PanelReduces, PanelRows, no_pivots, with_pivot}
+use Rattle.dense_panels.specs.Panel.{PanelReduces, PanelRows, no_pivots, with_pivot}
 use Rattle.dense_finish.specs.Pivots.{AreEliminated, AreFound, AreSplit, IsPanelFrom, filled_entry, pivot_sequence, stage}
-use Rattle.dense_finish.specs.Splitting.{IsSplit, PivotSequence}
+use Rattle.dense_panels.specs.Splitting.{IsSplit}
 use Rattle.dense_rows.specs.Dense.{IsTaken}
 use Rattle.dense_finish.proofs.Growing.{AreCoefficients, Grows, IsPivotRow, unmarked}
-use Rattle.dense_finish.proofs.Splitting.{split_more, split_none, split_same}
+use Rattle.dense_panels.proofs.Splitting.{split_more, split_none, split_panel, split_same}
 
 pub cases_bool : (b : Bool) → (b ≡ true) ⊎ (b ≡ false)
 cases_bool true = inl refl
@@ -106,12 +106,6 @@ eliminated_behind {p} {n} {width} {i} {names} {f} {old} {new} found long same ve
   leads = λ k l z. before.leads k l (sym (ap (λ v. slice_index v (slice_index f.columns.items k)) (same (slice_index f.rows.items k) (found.inside k l))) ∙ z);
   after = λ t k l a. ap (λ v. slice_index v (slice_index f.columns.items k)) (same t (omega (arith, found.inside k l))) ∙ before.after t k l a;
 }
-
--- what the panel leaves, where its rows have n entries
-pub split_panel : {p n : ℕ} {panel : PanelRows} {v w : List ℕ} → panel.width ≡ n → PanelReduces p panel v w → (P : PivotSequence p n) (r : ℕ) (b : List ℕ) → Continues P r panel →
-    HasSteps (r + length panel.columns) n P.entry P.column → IsSplit P r b v → IsSplit P (r + length panel.columns) b w
-split_panel {p} {n} {panel} {v} {w} wide h = subst (λ m. (P : PivotSequence p m) (r : ℕ) (b : List ℕ) → Continues P r panel →
-    HasSteps (r + length panel.columns) m P.entry P.column → IsSplit P r b v → IsSplit P (r + length panel.columns) b w) wide h.split
 
 -- what the panel's pivots leave of a row splits by all pivots
 pub reduced_split : {p r : ℕ} {names b v w : List ℕ} {panel : PanelRows} {f : Pivots} → IsPanelFrom p names r f panel →

@@ -6,7 +6,7 @@ use Rattle.residue_words.specs.Residues.{IsPrime}
 use Rattle.dense_finish.specs.declared.pivots.Pivots.{Pivots}
 use Rattle.dense_rows.specs.Rows.{block_row}
 use Rattle.dense_rows.specs.Dense.{IsFirstFree, IsPivotOf, IsTaken, IsZeroAtFree, KeepsCoefficients}
-use Rattle.dense_finish.specs.Panel.{PanelReduces, PanelRows, with_pivot}
+use Rattle.dense_panels.specs.Panel.{PanelReduces, PanelRows, with_pivot}
 use Rattle.dense_finish.specs.Pivots.{AddsPivot, AreEliminated, AreFound, AreSplit, IsPanelFrom, KeepsPivots, pivot_at, stage}
 use Rattle.dense_finish.proofs.Growing.{AreCoefficients, Grows, IsPivotRow, coefficients_are, found_more, grows, pivot_row_is}
 use Rattle.dense_finish.proofs.Progress.{Changes, cases_bool, changes_set, changes_twice, eliminated_more, eliminated_same, panel_more, reduced_split, split_pivot, split_row}

@@ -1,9 +1,4 @@
 pub mod Block
 pub mod Factors
-pub mod Panel
-pub mod Pieces
 pub mod Pivots
 pub mod RowRoom
-pub mod SharedPieces
-pub mod Splitting
-pub mod Units

@@ -12,9 +12,9 @@ use Rattle.dense_finish.specs.Block.{DenseBlock, IsDense, with_entries}
 use Rattle.dense_rows.specs.Rows.{AreVectors, block_row, entry_of}
 use Rattle.dense_rows.specs.Dense.{IsTaken, Scatters}
 use Rattle.dense_finish.specs.Factors.{IsLeftFactor}
-use Rattle.dense_finish.specs.Panel.{ArePivots, Continues, PanelRows}
-use Rattle.dense_finish.specs.Splitting.{IsSplit, PivotSequence}
-use Rattle.dense_finish.specs.Units.{FoundPanel, HasUnits}
+use Rattle.dense_panels.specs.Panel.{ArePivots, Continues, PanelRows}
+use Rattle.dense_panels.specs.Splitting.{IsSplit, PivotSequence}
+use Rattle.dense_panels.specs.Units.{FoundPanel, HasUnits}
 use Rattle.dense_finish.specs.declared.factors.Factors.{Factors}
 use Rattle.dense_finish.specs.declared.pivots.Pivots.{Pivots}
 use Rattle.dense_finish.specs.declared.right_factor.RightFactor.{RightFactor}

@@ -4,8 +4,8 @@ ghost use Rattle.std.specs.Thread.{IsSync, IsSend};
 ghost use Rattle.dense_finish.specs.Block.{IsBlock, IsBlockOf, IsDense};
 ghost use Rattle.sparse_rows.specs.Rows.{AreBelow, AreOccupied};
 
-use crate::reducing::Reducing;
 use crate::split_work::Helping;
+use dense_panels::Reducing;
 use dense_rows::{Dense, Residue};
 use residue_words::Modulus;
 use sparse_rows::Rows;

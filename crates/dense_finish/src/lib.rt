@@ -5,17 +5,11 @@ mod block;
 mod elimination;
 mod factors;
 mod left_room;
-mod panel;
 mod panel_step;
-mod panel_with_units;
-mod piece_taker;
-mod pieces;
 mod pivots;
-mod reducing;
+mod reduced_pieces;
 mod right_factor;
 mod row_room;
-mod share;
-mod shared_pieces;
 mod split_work;
 
 pub use dense_rows::{axpy, axpy_narrow, axpy_plainly};

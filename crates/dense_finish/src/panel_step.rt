@@ -2,20 +2,16 @@
 ghost use Rattle.std.specs.Prelude.{◌<◌, ◌≤◌, All, length, IfOk};
 ghost use Rattle.dense_finish.specs.Block.{AreLastRowsOf, AreRowsOf};
 ghost use Rattle.dense_rows.specs.Rows.{AreVectors};
-ghost use Rattle.dense_finish.specs.Panel.{PanelReducesEach};
-ghost use Rattle.dense_finish.specs.Pieces.{AreReducedBy, AreReducedByAll, HasReducible, HaveReducible};
+ghost use Rattle.dense_panels.specs.Panel.{PanelReducesEach};
+ghost use Rattle.dense_panels.specs.Pieces.{AreReducedBy, AreReducedByAll, HasReducible, HaveReducible};
 ghost use Rattle.dense_finish.specs.Pivots.{CanGoOn, FindsPanel, panel_stage};
 
 use crate::elimination::{Elimination, RowRange};
 use crate::left_room::LeftRoom;
-use crate::panel_with_units::PanelWithUnits;
-use crate::piece_taker::PieceTaker;
-use crate::pieces::{Piece, put_pieces, with_pieces};
 use crate::pivots::Pivots;
-use crate::reducing::Reducing;
-use crate::share::Shares;
-use crate::shared_pieces::queue_of;
+use crate::reduced_pieces::with_pieces;
 use crate::split_work::Helping;
+use dense_panels::{PanelWithUnits, Piece, PieceTaker, Reducing, Shares, put_pieces, queue_of};
 use dense_rows::{Dense, PANEL, Residue};
 use std::alloc::AllocError;
 use std::thread::{Threads, join_mut};

@@ -2,17 +2,16 @@
 ghost use Rattle.std.specs.Prelude.{◌<◌, ◌≤◌, length, IfOk};
 ghost use Rattle.dense_finish.specs.Block.{AreLastRowsOf, IsBlock};
 ghost use Rattle.dense_rows.specs.Rows.{AreVectors};
-ghost use Rattle.dense_finish.specs.Panel.{PanelReducesEach};
+ghost use Rattle.dense_panels.specs.Panel.{PanelReducesEach};
 ghost use Rattle.dense_finish.specs.Pivots.{CanGoOn, FindsPanel, panel_stage};
 ghost use Rattle.sparse_rows.specs.Rows.{AreBelow, AreOccupied};
 
 use crate::block::{block_of, shared_block};
 use crate::left_room::LeftRoom;
 use crate::panel_step::PanelStep;
-use crate::panel_with_units::PanelWithUnits;
 use crate::pivots::Pivots;
-use crate::reducing::Reducing;
 use crew::{Alone, Crew, Threaded};
+use dense_panels::{PanelWithUnits, Reducing};
 use dense_rows::Dense;
 use sparse_rows::Rows;
 use std::alloc::{AllocError, Global};

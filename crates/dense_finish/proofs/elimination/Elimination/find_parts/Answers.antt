@@ -1,5 +1,5 @@
 use Rattle.std.proofs.Common.{◌≡◌, ◌∙◌, arith, sym}
-use Rattle.dense_finish.proofs.JoinedPanels.{part_begins, part_joined, part_ready}
+use Rattle.dense_finish.proofs.JoinedParts.{part_begins, part_joined, part_ready}
 use Rattle.dense_finish.proofs.elimination.Elimination.find_parts.Goals as goal
 
 pub loop-done-init : goal.loop-done-init

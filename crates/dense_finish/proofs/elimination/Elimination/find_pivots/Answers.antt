@@ -4,7 +4,7 @@ use Rattle.residue_words.specs.Matrix.{IsVector}
 use Rattle.dense_rows.specs.Rows.{block_row}
 use Rattle.dense_rows.specs.Dense.{IsZeroAtFree, IsFirstFree, IsPivotOf, KeepsCoefficients}
 use Rattle.dense_rows.proofs.BlockRows.{read_row}
-use Rattle.dense_finish.specs.Panel.{PanelReduces, PanelRows}
+use Rattle.dense_panels.specs.Panel.{PanelReduces, PanelRows}
 use Rattle.dense_finish.proofs.Growing.{found_own}
 use Rattle.dense_finish.proofs.Progress.{panel_begins}
 use Rattle.dense_finish.proofs.Stages.{kept_same, reduced_vector, stage_more, stage_more_kept, stage_more_split, stage_same, stage_same_split}

@@ -1,8 +1,8 @@
 use Rattle.std.proofs.Common.{◌∙◌, List, ℕ, ap, length, subst, sym}
 use Rattle.std.proofs.lemmas.List.{with_items_is}
-use Rattle.dense_finish.specs.Panel.{PanelReducesEach}
-use Rattle.dense_finish.specs.Pieces.{AreReducible, IsReducedPiece, RowsFrom}
-use Rattle.dense_finish.proofs.ReducedPieces.{piece_reduced, piece_reducible}
+use Rattle.dense_panels.specs.Panel.{PanelReducesEach}
+use Rattle.dense_panels.specs.Pieces.{AreReducible, IsReducedPiece, RowsFrom}
+use Rattle.dense_panels.proofs.ReducedPieces.{piece_reduced, piece_reducible}
 use Rattle.dense_finish.proofs.elimination.Elimination.next_piece.Goals as goal
 
 pub take_out-requires-clause-ready : goal.take_out-requires-clause-ready

@@ -1,6 +1,6 @@
 use Rattle.std.proofs.Common.{Vec, Global, ap, rules, subst}
 use Rattle.std.proofs.lemmas.List.Elements.{All-same}
-use Rattle.dense_finish.specs.Pieces.{AreReducedBy, HasReducible, ShareOf}
+use Rattle.dense_panels.specs.Pieces.{AreReducedBy, HasReducible, ShareOf}
 use Rattle.dense_finish.proofs.elimination.Elimination.pieces_and_left.Goals as goal
 
 pub join_mut-pieces-requires-after_bounds : goal.join_mut-pieces-requires-after_bounds

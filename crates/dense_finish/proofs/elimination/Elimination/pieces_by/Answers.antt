@@ -1,7 +1,7 @@
 use Rattle.std.proofs.Common.{Vec, Global, ap}
 use Rattle.std.proofs.lemmas.List.Elements.{All-same}
-use Rattle.dense_finish.specs.Pieces.{HasReducible, ShareOf}
-use Rattle.dense_finish.proofs.ReducedPieces.{kept_back, kept_from}
+use Rattle.dense_panels.specs.Pieces.{HasReducible, ShareOf}
+use Rattle.dense_panels.proofs.ReducedPieces.{kept_back, kept_from}
 use Rattle.dense_finish.proofs.elimination.Elimination.pieces_by.Goals as goal
 
 pub reduce_shares-requires-clause-ready : goal.reduce_shares-requires-clause-ready

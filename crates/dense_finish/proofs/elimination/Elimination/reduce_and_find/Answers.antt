@@ -2,7 +2,7 @@ use Rattle.std.proofs.Common.{◌∙◌, ap, arith, subst, sym}
 use Rattle.residue_words.specs.Matrix.{IsVector}
 use Rattle.dense_rows.specs.Rows.{block_row, entry_of}
 use Rattle.dense_finish.specs.Pivots.{IsPanelFrom, count}
-use Rattle.dense_finish.specs.Units.{FoundPanel, HasUnits}
+use Rattle.dense_panels.specs.Units.{FoundPanel, HasUnits}
 use Rattle.dense_finish.proofs.PanelStages.{split_ends}
 use Rattle.dense_finish.proofs.Progress.{eliminated_behind, split_behind}
 use Rattle.dense_finish.proofs.elimination.Elimination.reduce_and_find.Goals as goal

@@ -1,8 +1,8 @@
 use Rattle.std.proofs.Common.{[], ◌∷◌, ◌∙◌, List, ℕ, subst}
 use Rattle.std.specs.Result.{is_ok}
 use Rattle.std.proofs.lemmas.List.Elements.{All-cons, All-nil}
-use Rattle.dense_finish.specs.Pieces.{IsReducedPiece}
-use Rattle.dense_finish.proofs.ReducedPieces.{appended_or_not}
+use Rattle.dense_panels.specs.Pieces.{IsReducedPiece}
+use Rattle.dense_panels.proofs.ReducedPieces.{appended_or_not}
 use Rattle.dense_finish.proofs.elimination.Elimination.reduce_share.Goals as goal
 
 pub returns-in_default : goal.returns-in_default

@@ -1,5 +1,5 @@
 use Rattle.std.proofs.Common.{◌≡◌}
-use Rattle.dense_finish.specs.Pieces.{KeepsShare}
+use Rattle.dense_panels.specs.Pieces.{KeepsShare}
 use Rattle.dense_finish.proofs.elimination.Elimination.reduce_share.Given as goal
 
 abbrev pub invariant-loop : goal.invariant-loop

@@ -1,5 +1,5 @@
 use Rattle.std.proofs.Common.{◌<◌, arith, length, subst, sym}
-use Rattle.dense_finish.specs.Pieces.{HasReducible, IsShareOf}
+use Rattle.dense_panels.specs.Pieces.{HasReducible, IsShareOf}
 use Rattle.dense_finish.proofs.elimination.Elimination.reduce_shares.Goals as goal
 
 pub par_for_each_mut-requires-after_bounds : goal.par_for_each_mut-requires-after_bounds

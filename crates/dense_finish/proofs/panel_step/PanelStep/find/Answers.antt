@@ -1,9 +1,9 @@
 use Rattle.std.proofs.Common.{◌∙◌, ap, arith, length, subst}
 use Rattle.std.proofs.lemmas.Result.{IfOk-weaker}
 use Rattle.dense_finish.specs.Pivots.{FindsPanel, panel_stage}
-use Rattle.dense_finish.specs.Panel.{PanelReducesEach}
+use Rattle.dense_panels.specs.Panel.{PanelReducesEach}
 use Rattle.dense_finish.proofs.PanelStages.{finds_joined, front_ready}
-use Rattle.dense_finish.proofs.ReducedPieces.{both_clauses}
+use Rattle.dense_panels.proofs.ReducedPieces.{both_clauses}
 use Rattle.dense_finish.proofs.panel_step.PanelStep.find.Goals as goal
 
 pub find_alone-requires-clause-ready : goal.find_alone-requires-clause-ready

@@ -1,7 +1,7 @@
 use Rattle.std.proofs.Common.{rules, subst}
 use Rattle.std.proofs.lemmas.Result.{IfOk-weaker}
-use Rattle.dense_finish.specs.Pieces.{AreReducedBy, AreReducedByAll, HaveReducible, SharesOf}
-use Rattle.dense_finish.proofs.ReducedPieces.{all_made}
+use Rattle.dense_panels.specs.Pieces.{AreReducedBy, AreReducedByAll, HaveReducible, SharesOf}
+use Rattle.dense_panels.proofs.ReducedPieces.{all_made}
 use Rattle.dense_finish.proofs.panel_step.PanelStep.find_and_reduce.Goals as goal
 
 pub join_mut-more-requires-after_bounds : goal.join_mut-more-requires-after_bounds

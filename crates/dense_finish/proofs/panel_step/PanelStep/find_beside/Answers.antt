@@ -1,6 +1,6 @@
 use Rattle.std.proofs.Common.{◌∙◌}
-use Rattle.dense_finish.specs.Pieces.{AreNewShares, AreReducedPieces}
-use Rattle.dense_finish.proofs.ReducedPieces.{new_made, new_reducible, pieces_lie, put_reduced}
+use Rattle.dense_panels.specs.Pieces.{AreNewShares, AreReducedPieces}
+use Rattle.dense_panels.proofs.ReducedPieces.{new_made, new_reducible, pieces_lie, put_reduced}
 use Rattle.dense_finish.proofs.panel_step.PanelStep.find_beside.Goals as goal
 
 pub find_and_reduce-requires-clause-others : goal.find_and_reduce-requires-clause-others

@@ -1,4 +1,0 @@
-use Rattle.dense_finish.proofs.piece_taker.PieceTaker.is_done.Goals as goal
-
-pub is_empty_as-requires-clause-rule : goal.is_empty_as-requires-clause-rule
-is_empty_as-requires-clause-rule g c = λ items views h at. tt

@@ -1,5 +1,0 @@
-use Rattle.dense_finish.proofs.SharedPieces.{takes}
-use Rattle.dense_finish.proofs.piece_taker.PieceTaker.try_take.Goals as goal
-
-pub try_pop_as-requires-clause-rule : goal.try_pop_as-requires-clause-rule
-try_pop_as-requires-clause-rule g c = takes _ _

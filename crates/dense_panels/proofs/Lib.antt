@@ -1,0 +1,5 @@
+pub mod JoinedPanels
+pub mod ReducedPieces
+pub mod SharedPieces
+pub mod Splitting
+pub mod UnitRows

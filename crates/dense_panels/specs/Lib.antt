@@ -1,0 +1,5 @@
+pub mod Panel
+pub mod Pieces
+pub mod SharedPieces
+pub mod Splitting
+pub mod Units
