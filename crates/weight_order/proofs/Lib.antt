@@ -1,3 +1,4 @@
+pub mod Dropping
 pub mod Example
 pub mod Keeping
 pub mod Selecting

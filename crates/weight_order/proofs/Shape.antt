@@ -63,10 +63,10 @@ module _ {p : ℕ} {B : Matrix} {order : List ℕ} (m : IsMatrix p B) (h : AreFi
   picked_matrix = selected_matrix p B order m (each_filled h)
 
   entry_picked : (k j : ℕ) → k < length order → entry (selected B order) k j ≡ entry B (slice_index order k) j
-  entry_picked k j l = ap (λ v. slice_index v j) (row_selected p B order m (each_filled h) k l)
+  entry_picked k j l = ap (λ v. slice_index v j) (row_selected B order k l)
 
   picked_filled : (k : ℕ) → k < length order → IsFilled (selected B order) k
-  picked_filled k l = subst (λ v. 0 < length (support v)) (sym (row_selected p B order m (each_filled h) k l)) (order_filled h k 0 l)
+  picked_filled k l = subst (λ v. 0 < length (support v)) (sym (row_selected B order k l)) (order_filled h k 0 l)
 
   columns_back : (columns : List ℕ) → AreFilled (transposed (selected B order)) columns → AreFilled (transposed B) columns
   columns_back columns f = record {
@@ -88,7 +88,7 @@ few_rising {p} {B} {C} {rows} {columns} m filled occupied less by = subst HasFew
   rising = record {
     filled = picked_filled m by.filled;
     rising = λ i k a b.
-        let at = row_selected p B by.order m (each_filled by.filled) in
+        let at = row_selected B by.order in
         let low : i < length by.order = omega arith in
         subst (λ v. length (support v) ≤ length (support (row (selected B by.order) k))) (sym (at i low))
         (subst (λ v. length (support (row B (slice_index by.order i))) ≤ length (support v)) (sym (at k b)) (by.by_weight i k a b));

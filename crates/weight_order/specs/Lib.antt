@@ -1,5 +1,6 @@
 pub mod Example
 pub mod Keeping
 pub mod Laws
+pub mod Multiples
 pub mod Shape
 pub mod Turned

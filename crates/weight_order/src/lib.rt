@@ -2,17 +2,20 @@
 #![tactic(auto)]
 
 mod filled_rows;
+mod multiples;
 
 ghost use Rattle.std.specs.Prelude.{◌≡◌, IfOk};
 ghost use Rattle.sparse_rows.specs.Rows.{selected};
 ghost use Rattle.weight_order.specs.Example.{IsTurnedExample};
 ghost use Rattle.weight_order.specs.Keeping.{AreFilledInSomeOrder, KeepsRank};
 ghost use Rattle.weight_order.specs.Laws.{SelectingKeepsRank, SelectingKeepsSpan, TransposingKeepsRank};
+ghost use Rattle.weight_order.specs.Multiples.{HasSpanningRows};
 ghost use Rattle.weight_order.specs.Shape.{HasFewRisingRows, HasRarestFirst, HasRowsByWeight};
 ghost use Rattle.weight_order.specs.Turned.{HasFilledRows};
 
 pub use filled_rows::RowOrder;
 use filled_rows::rarest_first;
+use multiples::distinct;
 use sparse_rows::Rows;
 use std::alloc::{AllocError, Global};
 
@@ -41,6 +44,23 @@ pub fn last_first(alloc: Global, rows: &Rows) -> Result<Rows, AllocError>
     let order = RowOrder::LastFirst.of_filled(alloc, rows)?;
     let turned = rows.select(alloc, &order)?;
     Ok(turned)
+}
+
+/// The matrix without rows that are a multiple of one before them, if there are any, and then also without rows of zeros; else the matrix
+/// as it is. It takes time by the entries, and memory of up to 44 bytes for each row that has an entry, beside the matrix that is
+/// made. Of a modulus that isn't prime, rows may go that are no multiple.
+pub fn without_multiples(alloc: Global, rows: Rows) -> Result<Rows, AllocError>
+    ensures { IfOk result (HasSpanningRows rows) }
+{
+    // The contracts of these calls tell that the rows are a matrix of residues, and bound their number.
+    rows.is_sound();
+    let filled = rows.filled(alloc)?;
+    let kept = distinct(alloc, &rows, &filled)?;
+    if kept.len() == filled.len() {
+        return Ok(rows);
+    }
+    let distinct_rows = rows.select(alloc, &kept)?;
+    Ok(distinct_rows)
 }
 
 /// For a prime modulus a matrix and its transpose have the same rank.
