@@ -13,6 +13,9 @@ const SMALLEST_FULL: u64 = 1 << 16;
 // A round is no gain if one place of so many holds an entry. Anything from 2 to 20 is alike.
 const ROUND_SHARE: u64 = 5;
 
+// With so many rows a column, half of the rows at least are combinations of others: then it pays to look for multiples.
+const ROWS_A_COLUMN: u64 = 2;
+
 // Of what pivots leave not more entries than these are stored, 3 GB, if a dense basis takes less.
 const MOST_STORED: u64 = 1 << 28;
 
@@ -41,6 +44,11 @@ pub(crate) fn is_full(matrix: &Occupancy) -> bool {
 // Whether a round would cost more than it saves the finish.
 pub(crate) fn is_dense(matrix: &Occupancy) -> bool {
     matrix.places() / ROUND_SHARE <= matrix.entries
+}
+
+// Whether rows that are multiples of others are worth looking for.
+pub(crate) fn may_repeat(matrix: &Occupancy) -> bool {
+    matrix.columns.saturating_mul(ROWS_A_COLUMN) <= matrix.rows
 }
 
 // Whether samples of what pivots leave of these rows are worth their time. A chunk of a basis stores all of its rows, so those without

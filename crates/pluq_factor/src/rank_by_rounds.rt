@@ -8,13 +8,14 @@ ghost use Rattle.pluq_factor.specs.Counted.{IsBoundedRank};
 use crate::counted_round::{CountedRound, count_round};
 use crate::eliminating::Eliminating;
 use crate::measured::Measured;
+use crate::occupancy::Occupancy;
 use crate::plan::Plan;
-use crate::policy::{is_block, is_dense, is_full};
+use crate::policy::{is_block, is_dense, is_full, may_repeat};
 use crate::rest::Rest;
 use dense_finish::finish_right;
 use sparse_rows::Rows;
 use std::alloc::{AllocError, Global};
-use weight_order::{RowOrder, by_weight};
+use weight_order::{RowOrder, by_weight, without_multiples};
 
 // So many rounds at most, whatever they leave.
 const MOST_ROUNDS: u32 = 64;
@@ -25,7 +26,8 @@ const MOST_ROUNDS: u32 = 64;
 /// If the plan has no round the matrix is eliminated densely. Else there are as many rounds as pay, up to 64: each puts what is left in
 /// order of weight (`weight_order::by_weight`), which also turns it so that it isn't wide, takes the leftmost pivots and those that a
 /// search finds within three steps an entry, counts them, and keeps the complement alone. After a search that found none or was
-/// broken off no later round searches. The rounds end when nothing is left, or when a fifth of what is left isn't 0: that is
+/// broken off no later round searches. Of what is left with two rows a column or more, rows that are multiples of others are dropped
+/// (`weight_order::without_multiples`). The rounds end when nothing is left, or when a fifth of what is left isn't 0: that is
 /// eliminated densely, or taken chunk by chunk into a dense basis if this takes less memory. A matrix of some size that is a tenth
 /// full from the start is eliminated densely at once. The workers share complements and dense eliminations; the search, short as it is,
 /// is one worker's, since several walk without levels and find pivots that leave more.
@@ -121,13 +123,28 @@ fn with_count(count: u32, below: u32, most: u32) -> u32
     count + below.min(most - count)
 }
 
-// The rows in order of weight.
+// The rows in order of weight, without multiples if many may be some.
 fn in_order(alloc: Global, rows: Rows) -> Result<Measured, AllocError>
     ensures { IfOk result (λ m. KeepsRank rows m.rows) }
 {
-    let ordered = by_weight(alloc, &rows, RowOrder::Kept)?;
-    drop(rows);
+    let distinct = distinct_rows(alloc, rows)?;
+    let ordered = by_weight(alloc, &distinct, RowOrder::Kept)?;
+    drop(distinct);
     Measured::of(alloc, ordered)
+}
+
+// The rows without multiples, if there are so many that many may be some.
+fn distinct_rows(alloc: Global, rows: Rows) -> Result<Rows, AllocError>
+    ensures { IfOk result (KeepsRank rows) }
+{
+    // The contract of this call tells that the rows are a matrix of residues.
+    rows.is_sound();
+    let occupancy = Occupancy::of(alloc, &rows)?;
+    if !may_repeat(&occupancy) {
+        return Ok(rows);
+    }
+    let distinct = without_multiples(alloc, rows)?;
+    Ok(distinct)
 }
 
 // The rank without a round, of a matrix that nobody wants any more.
