@@ -8,6 +8,13 @@ from programs import WAYS, X, Y, Ended, ended
 # A command, a modulus, a text, and what is answered.
 Answer = tuple[str, str, str, str]
 
+# Wide and high matrices with multiples of a row, a row that is the sum of two, and a column that is combined from two.
+WIDE = ("3 10 M\n1 1 2147483646\n1 4 2\n1 9 2147483645\n1 10 1\n2 2 2147483644\n2 4 2147483646\n2 9 5\n"
+        "2 10 1\n3 1 2147483646\n3 2 2147483644\n3 4 1\n3 9 3\n3 10 2\n0 0 0\n")
+HIGH = ("6 3 M\n1 1 4294967310\n1 3 4294967309\n2 2 4294967309\n2 3 2\n3 1 4294967296\n3 2 1\n"
+        "3 3 4294967280\n5 1 7\n5 3 14\n6 1 1\n6 2 4294967300\n6 3 13\n0 0 0\n")
+MULTIPLES = "2 9 M\n1 1 4294967310\n1 8 4294967296\n1 9 3\n2 1 2\n2 8 30\n2 9 4294967305\n0 0 0\n"
+
 RANKS: list[Answer] = [
     ("rank", "7", X, "rank 2\n"),
     ("rank", "7", Y, "rank 3\n"),
@@ -18,6 +25,15 @@ RANKS: list[Answer] = [
     ("rank", "7", "1 1 M\n1 1 1\n0 0 0\nanything\n\0", "rank 1\n"),
     ("rank", "7", "1 1 M\n1 1 0/5\n0 0 0\n", "rank 0\n"),
     ("rank", "7", "1 1 M\n0 0 -00\n0 0 0\n", "rank 0\n"),
+    ("rank", "3", "3 3 M\n1 2 1\n1 3 2\n2 2 2\n2 3 1\n3 1 1\n0 0 0\n", "rank 2\n"),
+    ("rank", "5", "2 3 M\n1 3 4\n2 2 3\n2 3 4\n0 0 0\n", "rank 2\n"),
+    ("rank", "7", "0 3 M\n0 0 0\n", "rank 0\n"),
+    ("rank", "7", "3 0 M\n0 0 0\n", "rank 0\n"),
+    ("rank", "2147483647", WIDE, "rank 2\n"),
+    ("rank", "4294967311", WIDE, "rank 3\n"),
+    ("rank", "2147483647", HIGH, "rank 3\n"),
+    ("rank", "4294967311", HIGH, "rank 2\n"),
+    ("rank", "4294967311", MULTIPLES, "rank 1\n"),
 ]
 
 FORMS: list[Answer] = [
@@ -30,6 +46,9 @@ FORMS: list[Answer] = [
     ("rref", "4294967311", "1 2 M\n1 1 2\n1 2 1\n0 0 0\n", "1 2 M\n1 1 1\n1 2 2147483656\n0 0 0\n"),
     ("rref", "7", "1 2 M\n1 1 1/2\n1 2 -3/4\n0 0 0\n", "1 2 M\n1 1 1\n1 2 2\n0 0 0\n"),
     ("rref", "7", "5 0 M\n0 0 0\n", "0 0 M\n0 0 0\n"),
+    ("rref", "2", "2 2 M\n1 1 1\n1 2 1\n2 1 1\n2 2 1\n0 0 0\n", "1 2 M\n1 1 1\n1 2 1\n0 0 0\n"),
+    ("rref", "42013", "1 2 M\n1 1 1\n1 2 -3/4\n0 0 0\n", "1 2 M\n1 1 1\n1 2 31509\n0 0 0\n"),
+    ("rref", "42013", "1 2 M\n1 1 1\n1 2 123456789012345678901234567890\n0 0 0\n", "1 2 M\n1 1 1\n1 2 20866\n0 0 0\n"),
 ]
 
 ANSWERS: list[Answer] = [
@@ -38,14 +57,18 @@ ANSWERS: list[Answer] = [
     ("kernel", "7", "0 5 M\n0 0 0\n", "5 5 M\n1 1 1\n2 2 1\n3 3 1\n4 4 1\n5 5 1\n0 0 0\n"),
     ("kernel", "7", "3 0 M\n0 0 0\n", "0 0 M\n0 0 0\n"),
     ("kernel", "2", "2 2 M\n1 1 1\n1 2 1\n2 1 1\n2 2 1\n0 0 0\n", "1 2 M\n1 1 1\n1 2 1\n0 0 0\n"),
+    ("kernel", "7", "1 3 M\n1 2 2\n1 3 3\n0 0 0\n", "2 3 M\n1 1 1\n2 2 2\n2 3 1\n0 0 0\n"),
     ("leftkernel", "7", X, "1 3 M\n1 1 6\n1 2 6\n1 3 1\n0 0 0\n"),
     ("leftkernel", "7", "2 1 M\n0 0 0\n", "2 2 M\n1 1 1\n2 2 1\n0 0 0\n"),
     ("solve", "7", X + "3 1 M\n1 1 1\n3 1 1\n0 0 0\n", "solution\n3 1 M\n3 1 1\n0 0 0\n"),
     ("solve", "7", X + "3 1 M\n3 1 1\n0 0 0\n", "no solution\n1 3 M\n1 1 6\n1 2 6\n1 3 1\n0 0 0\n"),
+    ("solve", "7", Y + "3 1 M\n1 1 1\n0 0 0\n", "solution\n3 1 M\n1 1 1\n2 1 6\n0 0 0\n"),
     ("solve", "7", "3 0 M\n0 0 0\n3 1 M\n2 1 1\n0 0 0\n", "no solution\n1 3 M\n1 2 1\n0 0 0\n"),
     ("solve", "7", "3 0 M\n0 0 0\n3 1 M\n0 0 0\n", "solution\n0 1 M\n0 0 0\n"),
     ("inverse", "7", Y, "inverse\n3 3 M\n1 1 1\n2 1 6\n2 2 2\n2 3 6\n3 2 6\n3 3 1\n0 0 0\n"),
     ("inverse", "7", X, "singular\n1 3 M\n1 1 5\n1 2 1\n0 0 0\n"),
+    ("inverse", "7", "2 2 M\n1 1 1\n0 0 0\n", "singular\n1 2 M\n1 2 1\n0 0 0\n"),
+    ("inverse", "7", "1 1 M\n1 1 3\n0 0 0\n", "inverse\n1 1 M\n1 1 5\n0 0 0\n"),
     ("inverse", "7", "0 0 M\n0 0 0\n", "inverse\n0 0 M\n0 0 0\n"),
     ("grow", "7", "0 3 M\n0 0 0\nrow 1 2 2 4 3 1\nrank\nrow 1 1 2 2\nrow 1 3 2 6 3 1\nrref\nin 1 1\nin\nend\n",
      "rank 1\n2 3 M\n1 1 1\n1 2 2\n2 3 1\n0 0 0\nno\nyes\n"),
@@ -61,6 +84,7 @@ ANSWERS: list[Answer] = [
 LARGE: list[Answer] = [
     ("rank", "2147483647", "1000000 1000000 M\n1000000 1000000 3\n0 0 0\n", "rank 1\n"),
     ("rref", "7", "1000000 1000000 M\n1 1000000 3\n1000000 1 2\n0 0 0\n", "2 1000000 M\n1 1 1\n2 1000000 1\n0 0 0\n"),
+    ("rref", "7", "1000000 2147483647 M\n1 2147483647 3\n1000000 1 2\n0 0 0\n", "2 2147483647 M\n1 1 1\n2 2147483647 1\n0 0 0\n"),
 ]
 
 # The first lines of a certificate of the rank of X and of its form and its kernel basis, the factors, the form and the basis.
@@ -97,14 +121,6 @@ CERTIFICATES: list[tuple[str, str, str, str, str, int, str]] = [
     ("4294967311", X, "certificate rank 281474976710656 2\n2 1\n1 3\n", FACTORS, "", 3, "error 3 line 11 kind 9\n"),
 ]
 
-# Traces modulo 7 that one worker writes, and traces that are no traces of the matrix.
-TRACES: list[tuple[str, str, int, str]] = [
-    ("trace", Y, 0, "trace 7 2\n1 1 0\n2 2 1\n"),
-    ("replay", Y + "trace 7 3\n1 1 0\n2 2 1\n3 3 1\n", 1, "no\n"),
-    ("replay", Y + "trace 7 1\n1 1 1\n", 1, "no\n"),
-    ("replay", Y + "trace 5 1\n1 1 0\n", 1, "no\n"),
-]
-
 
 class Answers(unittest.TestCase):
     """What the program answers."""
@@ -123,8 +139,3 @@ class Answers(unittest.TestCase):
         for modulus, matrix, head, factors, behind, status, said in CERTIFICATES:
             known = Ended(status, said, "") if status < 2 else Ended(status, "", said)
             self.check_ways(["check", "--modulus", modulus], matrix + head + factors + behind, known)
-
-    def test_traces(self) -> None:
-        for command, text, status, answer in TRACES:
-            with self.subTest(command=command, text=text):
-                self.assertEqual(ended([command, "--modulus", "7"], text), Ended(status, answer, ""))

@@ -189,5 +189,10 @@ class Refusals(unittest.TestCase):
             with self.subTest(length=length):
                 self.assertEqual(ended(["rank", "--modulus=7"], X[:length]), known)
 
+    def test_output_that_takes_nothing(self) -> None:
+        for words in ["rref"], ["certify", "--kind=kernel"], ["trace"]:
+            with self.subTest(words=words):
+                self.assertEqual(ended([*words, "--modulus=7"], X, full="stdout"), Ended(7, "", "error 7 write\n"))
+
     def test_error_stream_that_takes_nothing(self) -> None:
         self.assertEqual(ended(["rank", "--workers", "0"], X, full="stderr"), Ended(2, "", ""))

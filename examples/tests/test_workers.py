@@ -4,7 +4,7 @@ from __future__ import annotations
 import unittest
 from typing import NamedTuple
 
-from programs import X, Y, Ended, ended
+from programs import WAYS, X, Y, Ended, ended
 
 # Words, texts, and all that may be answered: by one worker the greedy selection, whatever rounds are asked for; by several any pivots that
 # are triangular and maximal.
@@ -47,6 +47,9 @@ HEIGHT, WIDTH, FORM_EACH = 40, 12, 8
 # How many rows and columns the matrix has whose traces are changed.
 SIZE = 300
 
+# Heights, widths and entries a row: more rows than the rank, full rank, a dense rest, a rest without one, and sizes where a row costs nothing.
+SCATTERED = ((0, 5, 0), (5, 1, 1), (3, 3, 3), (60, 20, 3), (40, 60, 2), (50, 50, 3), (30, 30, 9), (80, 2000, 2), (20, 2147483647, 2))
+
 
 class Entry(NamedTuple):
     """An entry of a matrix: its row and its column from 1, and its value."""
@@ -55,11 +58,11 @@ class Entry(NamedTuple):
     value: int
 
 
-def scattered(height: int, width: int) -> list[Entry]:
-    """Three entries for each of so many rows of so many columns, from a linear congruential generator."""
+def scattered(height: int, width: int, per: int = 3) -> list[Entry]:
+    """So many entries for each of so many rows of so many columns, from a linear congruential generator."""
     entries, state = [], 1
     for row in range(1, height + 1):
-        for _ in range(3):
+        for _ in range(per):
             place = (state * 1664525 + 1013904223) % 2 ** 32
             state = (place * 1664525 + 1013904223) % 2 ** 32
             entries.append(Entry(row, (place >> 16) % width + 1, (state >> 16) % 7))
@@ -107,6 +110,20 @@ class Workers(unittest.TestCase):
                 certificate = self.answered(words, text)
                 self.assertEqual(certificate[:len(begins)], begins)
                 self.assertEqual(ended(["check", "--modulus=7"], text + certificate), Ended(0, "yes\n", ""))
+
+    def test_plans(self) -> None:
+        """Each plan finds the rank and the form that an elimination without rounds finds."""
+        for height, width, per in SCATTERED:
+            text = matrix_text(height, width, scattered(height, width, per))
+            form = self.answered(["rref", "--modulus=7", "--rounds=0"], text)
+            rank, *_ = form.split()
+            for way in WAYS:
+                with self.subTest(height=height, width=width, way=way):
+                    self.assertEqual(self.answered(["rref", "--modulus=7", *way], text), form)
+                    self.assertEqual(self.answered(["rank", "--modulus=7", *way], text), f"rank {rank}\n")
+                    certificate = self.answered(["certify", "--modulus=7", "--kind=rref", *way], text)
+                    head = f"certificate rref 7 {rank}\n"
+                    self.assertEqual((certificate[:len(head)], certificate[-len(form):]), (head, form))
 
     def test_script(self) -> None:
         """A long script is answered as runs on each matrix that it comes to."""
