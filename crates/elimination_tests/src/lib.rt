@@ -1,5 +1,5 @@
-//! Tests of the public calls that eliminate, and of certificates: rows added and kept by their leads, dense factors,
-//! what pivots leave, forms, solutions, factors by rounds.
+//! Tests of the public calls that eliminate: rows added and kept by their leads, what pivots leave, plain forms of answers that
+//! programs work out by rounds, and a caller alone.
 #![tactic(auto)]
 
 #[cfg(test)]

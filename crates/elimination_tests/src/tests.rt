@@ -1,14 +1,8 @@
-// The calls of each crate against values from outside.
+// The calls of each crate against values from outside and against each other, as far as the programs can't be run on them.
 mod added_rows;
 mod alone;
-mod certificates_read;
-mod checks;
 mod complements;
-mod dense_factors;
-mod factors_by_rounds;
-mod forms;
-mod growth;
 mod leads;
 mod matrices;
-mod solutions;
+mod plain_forms;
 mod triangles;

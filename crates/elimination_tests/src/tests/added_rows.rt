@@ -46,14 +46,22 @@ fn assert_residues(rt: &impl Abort, row: &[u64], p: u64)
     }
 }
 
+// Adds a multiple of y, where both rows are residues and equally long.
+fn add(rt: &impl Abort, out: &mut [u64], a: u64, y: &[u64], p: &Modulus)
+    requires { a < p.now }
+{
+    assert!(rt; out.len() == y.len());
+    assert_residues(rt, out, p.p());
+    assert_residues(rt, y, p.p());
+    axpy(out, a, y, p);
+}
+
 #[test]
 fn sums_agree_with_values_from_outside(rt: HostRuntime) -> Result<(), Fail> {
     for (p, a, first, y, sums) in &SUMS {
         assert!(rt; 2 <= *p && *p < MODULUS_BOUND && *a < *p);
         let mut out = *first;
-        assert_residues(&rt, &out, *p);
-        assert_residues(&rt, y, *p);
-        axpy(&mut out, *a, y, &Modulus::new(*p));
+        add(&rt, &mut out, *a, y, &Modulus::new(*p));
         assert_eq!(rt; out, *sums, "modulo {p}");
     }
     Ok(())
@@ -64,18 +72,15 @@ fn zeros_become_multiples(rt: HostRuntime) -> Result<(), Fail> {
     let modulus = Modulus::new(7);
     let mut out = [0u64; 37];
     let mut y = [0u64; 37];
+    let mut multiples = [0u64; 37];
     for k in 0..37 {
         y[k] = k as u64 % 7;
+        multiples[k] = 3 * k as u64 % 7;
     }
-    assert_residues(&rt, &out, 7);
-    assert_residues(&rt, &y, 7);
-    axpy(&mut out, 3, &y, &modulus);
-    for k in 0..37 {
-        assert_eq!(rt; out[k], 3 * k as u64 % 7, "at {k}");
-    }
+    add(&rt, &mut out, 3, &y, &modulus);
+    assert_eq!(rt; out, multiples);
     let mut none: [u64; 0] = [];
-    axpy(&mut none, 3, &[], &modulus);
-    assert_eq!(rt; none, []);
+    add(&rt, &mut none, 3, &[], &modulus);
     Ok(())
 }
 

@@ -1,66 +1,67 @@
 // What the caller alone answers, beside what threads answer.
-ghost use Rattle.std.specs.Prelude.{◌≤◌};
+ghost use Rattle.std.specs.Prelude.{◌<◌, ◌≤◌};
 
-use crate::tests::matrices::scattered;
+use crate::tests::matrices::{have_same_entries, scattered};
 use sparse_rows::Rows;
 use spasm_lib::{Team, rank, rref};
 use std::alloc::{AllocError, Global};
 use std::test::Fail;
 use std::thread::Threads;
 
-// A rank, and the height and the entries of an echelon form.
-#[derive(Debug, Drop)]
-struct FoundByCrew {
-    rank: u32,
-    height: u32,
-    entries: Vec<(u32, u32, u64)>,
-}
-
-// Whether both are the same.
-fn are_same(a: &FoundByCrew, b: &FoundByCrew) -> bool {
-    a.rank == b.rank && a.height == b.height && a.entries.as_slice() == b.entries.as_slice()
-}
-
-// What two threads find.
-fn by_threads<R: Threads + Sync>(
+// Whether the caller alone, who does the work of so many workers, finds the form that two threads find.
+fn forms_agree<R: Threads + Sync>(
     rt: &R,
     alloc: Global,
     rows: &Rows,
-) -> Result<FoundByCrew, AllocError> {
+    workers: u32,
+) -> Result<bool, AllocError>
+    requires { 1 ≤ workers }
+{
     let team = Team {
         workers: 2,
         ..Team::of(rt, alloc)
     };
-    let form = rref(team, rows)?;
-    Ok(FoundByCrew {
-        rank: rank(team, rows)?,
-        height: form.height(),
-        entries: form.triples(alloc)?,
-    })
-}
-
-// What the caller alone finds, who does the work of so many workers.
-fn alone(alloc: Global, rows: &Rows, workers: u32) -> Result<FoundByCrew, AllocError>
-    requires { 1 ≤ workers }
-{
-    let team = Team {
+    let alone = Team {
         workers,
         ..Team::alone(alloc)
     };
-    let form = rref(team, rows)?;
-    Ok(FoundByCrew {
-        rank: rank(team, rows)?,
-        height: form.height(),
-        entries: form.triples(alloc)?,
-    })
+    have_same_entries(alloc, &rref(team, rows)?, &rref(alone, rows)?)
 }
 
-// Whether the caller alone, with the work of one worker and of three, finds what two threads find.
-fn agrees<R: Threads + Sync>(rt: &R, alloc: Global, rows: &Rows) -> Result<bool, AllocError> {
-    let known = by_threads(rt, alloc, rows)?;
-    let one = alone(alloc, rows, 1)?;
-    let three = alone(alloc, rows, 3)?;
-    Ok(are_same(&one, &known) && are_same(&three, &known))
+// The same of the rank.
+fn ranks_agree<R: Threads + Sync>(
+    rt: &R,
+    alloc: Global,
+    rows: &Rows,
+    workers: u32,
+) -> Result<bool, AllocError>
+    requires { 1 ≤ workers }
+{
+    let team = Team {
+        workers: 2,
+        ..Team::of(rt, alloc)
+    };
+    let alone = Team {
+        workers,
+        ..Team::alone(alloc)
+    };
+    Ok(rank(team, rows)? == rank(alone, rows)?)
+}
+
+// The same of both for a scattered matrix.
+fn agree_on<R: Threads + Sync>(
+    rt: &R,
+    alloc: Global,
+    m: u32,
+    n: u32,
+    per: u32,
+    workers: u32,
+) -> Result<bool, Fail>
+    requires wide { 0 < n }
+    requires some { 1 ≤ workers }
+{
+    let rows = scattered(alloc, m, n, per)?;
+    Ok(forms_agree(rt, alloc, &rows, workers)? && ranks_agree(rt, alloc, &rows, workers)?)
 }
 
 // Heights, widths and values a row: an empty matrix, a dense one, two of less rank than height and width, a tall one of full rank, and
@@ -77,11 +78,14 @@ const SCATTERED: &[(u32, u32, u32)] = &[
 
 #[test]
 fn alone_answers_as_threads_do(rt: HostRuntime) -> Result<(), Fail> {
-    let alloc = rt.alloc();
     for (m, n, per) in SCATTERED {
         assert!(rt; 0 < *n);
-        let rows = scattered(alloc, *m, *n, *per)?;
-        assert!(rt; agrees(&rt, alloc, &rows)?, "at {m} {n} {per}");
+        for workers in [1, 3] {
+            assert!(rt;
+                agree_on(&rt, rt.alloc(), *m, *n, *per, workers)?,
+                "at {m} {n} {per}"
+            );
+        }
     }
     Ok(())
 }

@@ -1,11 +1,10 @@
 // What the leftmost pivots leave of scattered matrices: by flat rows as by walks, and by chunks as at once.
 ghost use Rattle.std.specs.Prelude.{◌<◌, ◌≤◌};
 
-use crate::tests::matrices::{have_same_entries, scattered};
+use crate::tests::matrices::{built, have_same_entries, scattered};
 use crew::Threaded;
 use dense_finish::finish;
 use fl_pivots::leftmost;
-use residue_words::Modulus;
 use schur_rows::{ChunkSize, RowReducer, complement, rest_basis_by};
 use sparse_rows::Rows;
 use std::alloc::{AllocError, Global};
@@ -82,23 +81,62 @@ fn flat_agrees<R: Threads + Sync>(
     agrees(rt, alloc, &flat, known, rank)
 }
 
-// Whether walks and flat rows agree on what these pivots leave.
-fn both_agree<R: Threads + Sync>(
+// Whether walks do.
+fn walks_agree<R: Threads + Sync>(
     rt: &R,
     alloc: Global,
     triangle: &Triangle,
+    known: &Rows,
+    rank: usize,
 ) -> Result<bool, AllocError> {
-    let (known, rank) = known_rest(rt, alloc, triangle)?;
-    let by_walks = agrees(rt, alloc, &RowReducer::by_walks(triangle), &known, rank)?;
-    let by_flat_rows = flat_agrees(rt, alloc, triangle, &known, rank)?;
-    Ok(by_walks && by_flat_rows)
+    agrees(rt, alloc, &RowReducer::by_walks(triangle), known, rank)
 }
 
-// Whether walks and flat rows agree on what the leftmost pivots leave.
-fn ways_agree<R: Threads + Sync>(rt: &R, alloc: Global, rows: &Rows) -> Result<bool, AllocError> {
+// The rank of what these pivots leave, if walks and flat rows agree on that.
+fn agreed_rank<R: Threads + Sync>(
+    rt: &R,
+    alloc: Global,
+    triangle: &Triangle,
+) -> Result<Option<usize>, AllocError> {
+    let (known, rank) = known_rest(rt, alloc, triangle)?;
+    let agree = walks_agree(rt, alloc, triangle, &known, rank)?
+        && flat_agrees(rt, alloc, triangle, &known, rank)?;
+    Ok(if agree { Some(rank) } else { None })
+}
+
+// The same of what the leftmost pivots leave.
+fn rank_left<R: Threads + Sync>(
+    rt: &R,
+    alloc: Global,
+    rows: &Rows,
+) -> Result<Option<usize>, AllocError> {
     let book = leftmost(alloc, rows)?;
     let triangle = Triangle::of(alloc, &book)?;
-    both_agree(rt, alloc, &triangle)
+    agreed_rank(rt, alloc, &triangle)
+}
+
+// The same of a scattered matrix.
+fn rank_left_of_scattered<R: Threads + Sync>(
+    rt: &R,
+    alloc: Global,
+    m: u32,
+    n: u32,
+    per: u32,
+) -> Result<Option<usize>, Fail>
+    requires { 0 < n }
+{
+    let rows = scattered(alloc, m, n, per)?;
+    Ok(rank_left(rt, alloc, &rows)?)
+}
+
+// The same of five rows with these entries.
+fn rank_left_of_five<R: Threads + Sync>(
+    rt: &R,
+    alloc: Global,
+    entries: &[(u32, u32, u64)],
+) -> Result<Option<usize>, Fail> {
+    let rows = built(alloc, 5, 4, entries)?;
+    Ok(rank_left(rt, alloc, &rows)?)
 }
 
 // Heights, widths and values a row: a complement of few rows, tall ones, one of full rank, a dense matrix, and sizes where a row costs
@@ -115,104 +153,99 @@ const SCATTERED: &[(u32, u32, u32)] = &[
 
 // Five rows modulo 7, and the rank of what the leftmost pivots leave of them: one of each column, two that depend on a third one, a
 // column that the pivot's row alone fills, rows of which nothing is left, and no column but the pivots'.
-const LEFT: &[([[u64; 4]; 5], usize)] = &[
+const LEFT: &[(&[(u32, u32, u64)], usize)] = &[
     (
-        [
-            [1, 0, 0, 0],
-            [1, 1, 0, 0],
-            [1, 0, 1, 0],
-            [1, 0, 0, 1],
-            [1, 1, 1, 1],
+        &[
+            (0, 0, 1),
+            (1, 0, 1),
+            (1, 1, 1),
+            (2, 0, 1),
+            (2, 2, 1),
+            (3, 0, 1),
+            (3, 3, 1),
+            (4, 0, 1),
+            (4, 1, 1),
+            (4, 2, 1),
+            (4, 3, 1),
         ],
         3,
     ),
     (
-        [
-            [1, 1, 1, 1],
-            [1, 2, 3, 4],
-            [1, 2, 3, 4],
-            [1, 3, 5, 0],
-            [1, 1, 2, 1],
+        &[
+            (0, 0, 1),
+            (0, 1, 1),
+            (0, 2, 1),
+            (0, 3, 1),
+            (1, 0, 1),
+            (1, 1, 2),
+            (1, 2, 3),
+            (1, 3, 4),
+            (2, 0, 1),
+            (2, 1, 2),
+            (2, 2, 3),
+            (2, 3, 4),
+            (3, 0, 1),
+            (3, 1, 3),
+            (3, 2, 5),
+            (4, 0, 1),
+            (4, 1, 1),
+            (4, 2, 2),
+            (4, 3, 1),
         ],
         2,
     ),
     (
-        [
-            [1, 0, 0, 5],
-            [0, 1, 0, 0],
-            [0, 1, 1, 0],
-            [0, 1, 2, 0],
-            [0, 1, 3, 0],
+        &[
+            (0, 0, 1),
+            (0, 3, 5),
+            (1, 1, 1),
+            (2, 1, 1),
+            (2, 2, 1),
+            (3, 1, 1),
+            (3, 2, 2),
+            (4, 1, 1),
+            (4, 2, 3),
         ],
         1,
     ),
     (
-        [
-            [1, 1, 0, 2],
-            [2, 2, 0, 4],
-            [3, 3, 0, 6],
-            [4, 4, 0, 1],
-            [5, 5, 0, 3],
+        &[
+            (0, 0, 1),
+            (0, 1, 1),
+            (0, 3, 2),
+            (1, 0, 2),
+            (1, 1, 2),
+            (1, 3, 4),
+            (2, 0, 3),
+            (2, 1, 3),
+            (2, 3, 6),
+            (3, 0, 4),
+            (3, 1, 4),
+            (3, 3, 1),
+            (4, 0, 5),
+            (4, 1, 5),
+            (4, 3, 3),
         ],
         0,
     ),
-    (
-        [
-            [1, 0, 0, 0],
-            [0, 2, 0, 0],
-            [0, 0, 3, 0],
-            [0, 0, 0, 4],
-            [0, 0, 0, 5],
-        ],
-        0,
-    ),
+    (&[(0, 0, 1), (1, 1, 2), (2, 2, 3), (3, 3, 4), (4, 3, 5)], 0),
 ];
-
-// The matrix with these rows.
-fn of_lines(alloc: Global, lines: &[[u64; 4]; 5]) -> Result<Rows, Fail> {
-    let mut triples = Vec::new(alloc);
-    for i in 0..5_u32 {
-        for j in 0..4_u32 {
-            triples.push((i, j, lines[i as usize][j as usize]))?;
-        }
-    }
-    match Rows::checked_from_triples(alloc, 5, 4, &Modulus::new(7), &triples)? {
-        Some(rows) => Ok(rows),
-        None => Err(Fail::new("a value is no residue")),
-    }
-}
-
-// Whether the leftmost pivots leave so many independent rows, by chunks as at once.
-fn leaves_rank<R: Threads + Sync>(
-    rt: &R,
-    alloc: Global,
-    rows: &Rows,
-    rank: usize,
-) -> Result<bool, AllocError> {
-    let book = leftmost(alloc, rows)?;
-    let triangle = Triangle::of(alloc, &book)?;
-    let (known, found) = known_rest(rt, alloc, &triangle)?;
-    let agree = agrees(rt, alloc, &RowReducer::by_walks(&triangle), &known, rank)?;
-    Ok(agree && found == rank)
-}
 
 #[test]
 fn bases_end_in_time(rt: HostRuntime) -> Result<(), Fail> {
-    let alloc = rt.alloc();
-    for (lines, rank) in LEFT {
-        let rows = of_lines(alloc, lines)?;
-        assert!(rt; leaves_rank(&rt, alloc, &rows, *rank)?, "at {rank}");
+    for (entries, rank) in LEFT {
+        let found = rank_left_of_five(&rt, rt.alloc(), entries)?;
+        assert_eq!(rt; found, Some(*rank));
     }
     Ok(())
 }
 
 #[test]
 fn ways_and_chunks_agree(rt: HostRuntime) -> Result<(), Fail> {
-    let alloc = rt.alloc();
     for (m, n, per) in SCATTERED {
         assert!(rt; 0 < *n);
-        let rows = scattered(alloc, *m, *n, *per)?;
-        assert!(rt; ways_agree(&rt, alloc, &rows)?, "at {m} {n} {per}");
+        let found = rank_left_of_scattered(&rt, rt.alloc(), *m, *n, *per)?;
+        assert!(rt; found.is_some(), "at {m} {n} {per}");
     }
     Ok(())
 }

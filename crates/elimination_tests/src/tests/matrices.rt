@@ -1,12 +1,28 @@
-// Matrices that are scattered over their columns, and whether two are the same.
-ghost use Rattle.std.specs.Prelude.{◌<◌};
+// Matrices modulo 7: of entries, and such as are scattered over their columns.
+ghost use Rattle.std.specs.Prelude.{◌≡◌, ◌<◌, IfOk};
 
 use residue_words::Modulus;
 use sparse_rows::Rows;
 use std::alloc::{AllocError, Global};
 use std::test::Fail;
 
-// The matrix modulo 7 with so many values for each row, at places that a generator scatters over the columns.
+// The matrix of these places and values.
+pub(crate) fn built(
+    alloc: Global,
+    m: u32,
+    n: u32,
+    triples: &[(u32, u32, u64)],
+) -> Result<Rows, Fail>
+    ensures height { IfOk result (λ rows. rows.matrix.height ≡ m) }
+    ensures width { IfOk result (λ rows. rows.matrix.width ≡ n) }
+{
+    match Rows::checked_from_triples(alloc, m, n, &Modulus::new(7), triples)? {
+        Some(rows) => Ok(rows),
+        None => Err(Fail::new("a place is outside")),
+    }
+}
+
+// The matrix with so many values for each row, at places that a generator scatters over the columns.
 pub(crate) fn scattered(alloc: Global, m: u32, n: u32, per: u32) -> Result<Rows, Fail>
     requires { 0 < n }
 {
@@ -18,10 +34,17 @@ pub(crate) fn scattered(alloc: Global, m: u32, n: u32, per: u32) -> Result<Rows,
             triples.push((i, (state >> 8) % n, u64::from((state >> 4) % 7)))?;
         }
     }
-    match Rows::checked_from_triples(alloc, m, n, &Modulus::new(7), &triples)? {
-        Some(rows) => Ok(rows),
-        None => Err(Fail::new("a place is outside")),
-    }
+    built(alloc, m, n, &triples)
+}
+
+// Whether these are the entries, row by row.
+pub(crate) fn lists(
+    alloc: Global,
+    rows: Rows,
+    entries: &[(u32, u32, u64)],
+) -> Result<bool, AllocError> {
+    let triples = rows.triples(alloc)?;
+    Ok(triples.as_slice() == entries)
 }
 
 // Whether two matrices have the same entries.

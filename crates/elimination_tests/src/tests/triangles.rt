@@ -2,9 +2,10 @@
 ghost use Rattle.std.specs.Prelude.{◌≡◌, ◌≤◌, IfOk};
 ghost use Rattle.pivot_table.specs.Example.{pivot_example};
 
+use crate::tests::matrices::lists;
 use pivot_table::{Book, Pair};
 use residue_words::Modulus;
-use schur_rows::schur;
+use schur_rows::{SchurRows, schur};
 use sparse_rows::{Rows, Sparse};
 use std::alloc::{AllocError, Global};
 use std::test::Fail;
@@ -38,24 +39,9 @@ fn two_pairs<'a>(alloc: Global, rows: &'a Rows) -> Result<Book<'a>, AllocError>
     Ok(book)
 }
 
-// Whether the triangle of these pairs has this order, and a matrix of three rows.
-fn has_order(alloc: Global, book: &Book, order: &[Pair]) -> Result<bool, AllocError> {
-    let triangle = Triangle::of(alloc, book)?;
-    Ok(triangle.pairs() == order && triangle.rows().height() == 3)
-}
-
 // Whether row 1, which has an entry in the column of row 0, comes first.
-fn lists_row_1_first(alloc: Global) -> Result<bool, AllocError> {
-    let rows = rows(alloc)?;
-    let book = two_pairs(alloc, &rows)?;
-    let order = [Pair { row: 1, col: 1 }, Pair { row: 0, col: 0 }];
-    has_order(alloc, &book, &order)
-}
-
-#[test]
-fn the_row_with_the_other_column_is_first(rt: HostRuntime) -> Result<(), Fail> {
-    assert!(rt; lists_row_1_first(rt.alloc())?);
-    Ok(())
+fn lists_row_1_first(triangle: &Triangle) -> bool {
+    triangle.pairs() == [Pair { row: 1, col: 1 }, Pair { row: 0, col: 0 }].as_slice()
 }
 
 // Whether a row has this one entry.
@@ -75,18 +61,9 @@ fn reduced_row_2(alloc: Global, triangle: &Triangle) -> Result<Reduced, AllocErr
 }
 
 // Whether row 2 is the first pivot's row and a 1 in the last column.
-fn row_2_is_row_1_and_a_rest(alloc: Global) -> Result<bool, AllocError> {
-    let rows = rows(alloc)?;
-    let book = two_pairs(alloc, &rows)?;
-    let triangle = Triangle::of(alloc, &book)?;
-    let Reduced { rest, coefficients } = reduced_row_2(alloc, &triangle)?;
+fn row_2_is_row_1_and_a_rest(alloc: Global, triangle: &Triangle) -> Result<bool, AllocError> {
+    let Reduced { rest, coefficients } = reduced_row_2(alloc, triangle)?;
     Ok(is_entry(&rest, 2, 1) && is_entry(&coefficients, 0, 1))
-}
-
-#[test]
-fn row_2_is_reduced(rt: HostRuntime) -> Result<(), Fail> {
-    assert!(rt; row_2_is_row_1_and_a_rest(rt.alloc())?);
-    Ok(())
 }
 
 // Whether so many workers leave a 1 in the last column of row 2, with each row's coefficients.
@@ -98,27 +75,35 @@ fn leaves_a_one<R: Threads + Sync>(
 ) -> Result<bool, AllocError>
     requires { 1 ≤ workers }
 {
-    let left = schur(rt, alloc, triangle, workers)?;
-    let rest = left.rows.triples(alloc)?;
-    let coefficients = left.coefficients.triples(alloc)?;
-    Ok(
-        rest.as_slice() == [(2, 2, 1)].as_slice()
-            && coefficients.as_slice() == [(0, 1, 1), (1, 0, 1), (2, 0, 1)].as_slice(),
-    )
+    let SchurRows { rows, coefficients } = schur(rt, alloc, triangle, workers)?;
+    let is_rest = lists(alloc, rows, &[(2, 2, 1)])?;
+    Ok(is_rest && lists(alloc, coefficients, &[(0, 1, 1), (1, 0, 1), (2, 0, 1)])?)
 }
 
-// The same for one worker and for three.
-fn leave_a_one<R: Threads + Sync>(rt: &R, alloc: Global) -> Result<bool, AllocError> {
+// Whether the order is as known, row 2 is, and what one worker and three leave.
+fn is_as_known<R: Threads + Sync>(
+    rt: &R,
+    alloc: Global,
+    triangle: &Triangle,
+) -> Result<[bool; 4], AllocError> {
+    Ok([
+        lists_row_1_first(triangle),
+        row_2_is_row_1_and_a_rest(alloc, triangle)?,
+        leaves_a_one(rt, alloc, triangle, 1)?,
+        leaves_a_one(rt, alloc, triangle, 3)?,
+    ])
+}
+
+// The same of the triangle of the two pairs.
+fn two_are_as_known<R: Threads + Sync>(rt: &R, alloc: Global) -> Result<[bool; 4], AllocError> {
     let rows = rows(alloc)?;
     let book = two_pairs(alloc, &rows)?;
     let triangle = Triangle::of(alloc, &book)?;
-    let alone = leaves_a_one(rt, alloc, &triangle, 1)?;
-    let together = leaves_a_one(rt, alloc, &triangle, 3)?;
-    Ok(alone && together)
+    is_as_known(rt, alloc, &triangle)
 }
 
 #[test]
-fn a_one_is_left(rt: HostRuntime) -> Result<(), Fail> {
-    assert!(rt; leave_a_one(&rt, rt.alloc())?);
+fn two_pivots_have_an_order_and_leave_a_one(rt: HostRuntime) -> Result<(), Fail> {
+    assert_eq!(rt; two_are_as_known(&rt, rt.alloc())?, [true; 4]);
     Ok(())
 }
