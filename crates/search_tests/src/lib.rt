@@ -1,4 +1,4 @@
-//! Tests of the public calls of the search for pivots: histories, the leftmost pivots, searches and their traces.
+//! Tests of the public calls of the search for pivots: histories, the leftmost pivots, and searches.
 #![tactic(auto)]
 
 #[cfg(test)]

@@ -1,69 +1,17 @@
-// A book and a board of a small matrix.
-ghost use Rattle.std.specs.Prelude.{◌≡◌, ◌≤◌, [], ◌∷◌, length, IfOk, IsTrue};
+// A board of a small matrix.
+ghost use Rattle.std.specs.Prelude.{◌≡◌, [], ◌∷◌, length, IsTrue};
 ghost use Rattle.pivot_table.specs.Board.{IsSeatOf};
 ghost use Rattle.pivot_table.specs.Calls.{MayFinish};
 ghost use Rattle.pivot_table.specs.Core.{claiming, opened, parting, splitting};
 ghost use Rattle.pivot_table.specs.Example.{pivot_example};
 ghost use Rattle.pivot_table.specs.History.{pair};
 
-use pivot_table::{Board, Book, Closed, Outcome, Pair, Seat, histories_are_worked};
-use residue_words::Modulus;
-use sparse_rows::Rows;
+use crate::tests::example::{first_pair, rows};
+use pivot_table::{Board, Closed, Outcome, Pair, Seat, histories_are_worked};
 use std::alloc::{AllocError, Global};
 use std::sync::atomic::{AtomicU64, Ordering};
 use std::test::Fail;
 use std::thread::{Threads, join_mut};
-
-// The rows (1, 0, 0), (1, 1, 1) and (1, 1, 2) modulo 7.
-fn rows(alloc: Global) -> Result<Rows, AllocError>
-    ensures { IfOk result (λ rows. rows.matrix ≡ pivot_example) }
-{
-    let entries = [
-        (0, 0, 1),
-        (1, 0, 1),
-        (1, 1, 1),
-        (1, 2, 1),
-        (2, 0, 1),
-        (2, 1, 1),
-        (2, 2, 2),
-    ];
-    Rows::from_triples(alloc, 3, 3, &Modulus::new(7), &entries)
-}
-
-// Whether a book has these pairs, in this order.
-fn has(book: &Book<'_>, pairs: &[Pair]) -> bool {
-    book.pairs() == pairs
-}
-
-// Whether each of two pairs stands behind those that came before it.
-fn keeps_order(book: &mut Book<'_>) -> bool
-    requires matrix { book.old.rows.matrix ≡ pivot_example }
-    requires none { book.old.pairs ≡ [] }
-    requires room { 2 ≤ book.old.spare }
-{
-    book.push(Pair { row: 0, col: 0 });
-    let first = has(book, &[Pair { row: 0, col: 0 }]);
-    book.push(Pair { row: 1, col: 1 });
-    first && has(book, &[Pair { row: 0, col: 0 }, Pair { row: 1, col: 1 }])
-}
-
-// How many pairs a new book has, how high its matrix is, whether it gets room for two pairs, and whether it keeps their order.
-fn book_of_two(alloc: Global, rows: &Rows) -> Result<(usize, u32, bool, bool), AllocError>
-    requires { rows.now.matrix ≡ pivot_example }
-{
-    let mut book = Book::empty(alloc, rows)?;
-    let (many, height) = (book.pairs().len(), book.rows().height());
-    book.reserve(2)?;
-    let has_room = book.spare() >= 2;
-    Ok((many, height, has_room, keeps_order(&mut book)))
-}
-
-#[test]
-fn a_book_keeps_its_pairs_in_order(rt: HostRuntime) -> Result<(), Fail> {
-    let rows = rows(rt.alloc())?;
-    assert_eq!(rt; book_of_two(rt.alloc(), &rows)?, (0, 3, true, true));
-    Ok(())
-}
 
 // The first seat takes row 1.
 fn claim_first(board: &Board<'_>, first: &mut Seat) -> bool
@@ -235,17 +183,6 @@ fn both_go<R: Threads + Sync>(
     by_turns(board, first, second)
 }
 
-// The first pair alone.
-fn first_pair<'a>(alloc: Global, rows: &'a Rows) -> Result<Book<'a>, AllocError>
-    requires { rows.now.matrix ≡ pivot_example }
-    ensures { IfOk result (λ b. (b.rows.matrix ≡ pivot_example) × (b.pairs ≡ pair 0 0 ∷ [])) }
-{
-    let mut book = Book::empty(alloc, rows)?;
-    book.reserve(1)?;
-    book.push(Pair { row: 0, col: 0 });
-    Ok(book)
-}
-
 // Lets both rows go and ends the board.
 fn ended<'a>(board: Board<'a>, first: Seat, second: Seat) -> Closed<'a>
     requires matrix { board.rows.matrix ≡ pivot_example }
@@ -276,7 +213,7 @@ fn is_overtaken(closed: &Closed<'_>) -> bool
         closed.starts.at(2),
     ];
     let pairs = [Pair { row: 0, col: 0 }, Pair { row: 2, col: 1 }];
-    has(&closed.book, &pairs) && done == [true, true, true] && starts == [None, Some(1), None]
+    closed.book.pairs() == pairs.as_slice() && done == [true; 3] && starts == [None, Some(1), None]
 }
 
 // Whether the calls of these seats, in one thread or in two, leave what they should.

@@ -1,5 +1,4 @@
-// The walk on the example of histories, and both searches on small matrices.
-ghost use Rattle.sparse_rows.specs.declared.rows.TheConstants.{LARGEST_SIZE};
+// The walk on the example of histories, and the searches of small matrices beside each other.
 ghost use Rattle.std.specs.Prelude.{◌≡◌, ◌<◌, ◌≤◌, ◌+◌, [], ◌∷◌, None, Some, IfOk};
 ghost use Rattle.pivot_table.specs.Board.{IsSeatOf};
 ghost use Rattle.pivot_table.specs.Core.{opened};
@@ -7,36 +6,20 @@ ghost use Rattle.pivot_table.specs.Example.{pivot_example};
 ghost use Rattle.pivot_table.specs.History.{pair};
 ghost use Rattle.optimistic_search.specs.Taking.{IsIdle};
 
+use crate::tests::example::{first_pair, rows};
 use fl_pivots::leftmost;
 use optimistic_search::{
-    Gate, Open, Point, Steps, Taken, Traced, Walk, search, search_by_walk, search_traced,
-    search_within, take_row,
+    Open, Steps, Taken, Walk, search, search_by_walk, search_within, take_row,
 };
 use pivot_table::{Board, Book, Seat};
 use residue_words::Modulus;
 use residue_words::plain::Pair;
-use sparse_rows::{Rows, RowsBuilder};
+use sparse_rows::Rows;
 use std::alloc::{AllocError, Global};
 use std::marker::Brand;
-use std::sync::atomic::{AtomicU64, Ordering};
 use std::sync::ledger::{Blank, Ledger};
 use std::test::Fail;
 use std::thread::Threads;
-
-// The rows (1, 0, 0), (1, 1, 1) and (1, 1, 2) modulo 7.
-fn example_rows(alloc: Global) -> Result<Rows, AllocError>
-    ensures { IfOk result (λ rows. rows.matrix ≡ pivot_example) }
-{
-    let mut builder = RowsBuilder::new(alloc, 3, 3, Modulus::new(7))?;
-    builder.push(0, 0, 1)?;
-    builder.push(1, 0, 1)?;
-    builder.push(1, 1, 1)?;
-    builder.push(1, 2, 1)?;
-    builder.push(2, 0, 1)?;
-    builder.push(2, 1, 1)?;
-    builder.push(2, 2, 2)?;
-    builder.finish()
-}
 
 // The pair (0, 0) takes no step. Answers how many it took.
 fn extend_first<L: Ledger>(walk: &mut Walk<'_, L>, steps: &mut Steps<L>) -> u64
@@ -106,7 +89,7 @@ fn answers<L: Ledger>(
     requires parts { blank.parts ≡ L.parts }
     requires some { 0 < blank.parts }
 {
-    let rows = example_rows(alloc)?;
+    let rows = rows(alloc)?;
     let mut walk = Walk::<L>::new(alloc, &rows)?;
     let mut steps = Steps::<L>::new(blank);
     Ok(overtaken(&mut walk, &mut steps))
@@ -115,24 +98,9 @@ fn answers<L: Ledger>(
 #[test]
 fn a_walk_is_carried_on(rt: HostRuntime) -> Result<(), Fail> {
     let (found, [extended, begun, late]) = answers::<Brand>(rt.alloc(), Blank::new(1))?;
-    assert_eq!(rt; found, [Some(1), None]);
-    assert_eq!(rt; extended, 0);
-    assert!(rt; begun <= 4);
-    assert!(rt; late <= 3);
+    let is_cheap = extended == 0 && begun <= 4 && late <= 3;
+    assert_eq!(rt; (found, is_cheap), ([Some(1), None], true));
     Ok(())
-}
-
-// The first pair of the example alone.
-fn first_pair<'a>(alloc: Global, rows: &'a Rows) -> Result<Book<'a>, AllocError>
-    requires { rows.now.matrix ≡ pivot_example }
-    ensures matrix { IfOk result (λ b. b.rows.matrix ≡ pivot_example) }
-    ensures rows { IfOk result (λ b. b.rows ≡ rows.now) }
-    ensures pairs { IfOk result (λ b. b.pairs ≡ pair 0 0 ∷ []) }
-{
-    let mut book = Book::empty(alloc, rows)?;
-    book.reserve(1)?;
-    book.push(Pair { row: 0, col: 0 });
-    Ok(book)
 }
 
 // A walk over the first pair.
@@ -186,7 +154,7 @@ fn taken_in_turn<L: Ledger>(alloc: Global, blank: Blank) -> Result<[Taken; 3], A
     requires parts { blank.parts ≡ L.parts }
     requires some { 0 < blank.parts }
 {
-    let rows = example_rows(alloc)?;
+    let rows = rows(alloc)?;
     let book = first_pair(alloc, &rows)?;
     let (board, mut seat) = Board::new(alloc, &book)?;
     let mut steps = Steps::<L>::new(blank);
@@ -200,107 +168,33 @@ fn rows_are_taken_in_turn(rt: HostRuntime) -> Result<(), Fail> {
     Ok(())
 }
 
-// Holds whoever has row 2 before it publishes, until another has claimed row 1, and that one before it publishes, until row 2 is
-// published. It notes that row 2 was published only if row 1 was in another's hand then, so it does not if one thread does all.
-#[derive(Drop)]
-struct Hold {
-    held: AtomicU64,
-    other: AtomicU64,
-    overtaken: AtomicU64,
-}
-
-// A worker, as a number that isn't 0.
-fn named(worker: u32) -> u64 {
-    u64::from(worker) + 1
-}
-
-// Waits until the flag is set, for a second or so.
-fn wait_for(flag: &AtomicU64) {
-    for _ in 0..500_000_000u64 {
-        if flag.load(Ordering::SeqCst) != 0 {
-            return;
-        }
-    }
-}
-
-impl Gate for Hold {
-    fn at(&self, worker: u32, point: Point) {
-        match point {
-            Point::Claimed(1) => self.held.store(named(worker), Ordering::SeqCst),
-            Point::Claimed(2) => self.other.store(named(worker), Ordering::SeqCst),
-            Point::Before(1, _, _) => wait_for(&self.overtaken),
-            Point::Before(2, _, _) => wait_for(&self.held),
-            Point::Published(_) => {
-                let held = self.held.load(Ordering::SeqCst);
-                let other = self.other.load(Ordering::SeqCst);
-                if other == named(worker) && held != 0 && held != other {
-                    self.overtaken.store(1, Ordering::SeqCst);
-                }
-            }
-            _ => {}
-        }
-    }
-}
-
-// Whether the pair of row 2 stands behind the first, published by a worker that had seen that one.
-fn has_row_2(found: &Traced<'_>) -> bool {
-    let wanted = [Pair { row: 0, col: 0 }, Pair { row: 2, col: 1 }];
-    found.book.pairs() == wanted.as_slice() && found.versions.as_slice() == [0u64, 1].as_slice()
-}
-
-// Whether two workers at this gate find that.
-fn find_row_2<R: Threads + Sync>(
-    rt: &R,
-    alloc: Global,
-    rows: &Rows,
-    gate: &Hold,
-) -> Result<bool, AllocError>
-    requires { rows.now.matrix ≡ pivot_example }
-{
-    let book = first_pair(alloc, rows)?;
-    let found = search_traced(rt, alloc, book, 2, gate)?;
-    Ok(has_row_2(&found))
-}
-
-// Whether row 2 overtakes row 1, which is dead then, while another worker has it: two workers go at once.
-fn is_overtaken<R: Threads + Sync>(rt: &R, alloc: Global) -> Result<bool, AllocError> {
-    let gate = Hold {
-        held: AtomicU64::new(0),
-        other: AtomicU64::new(0),
-        overtaken: AtomicU64::new(0),
-    };
-    let rows = example_rows(alloc)?;
-    Ok(find_row_2(rt, alloc, &rows, &gate)? && gate.overtaken.load(Ordering::SeqCst) == 1)
-}
-
-#[test]
-fn two_workers_go_at_once(rt: HostRuntime) -> Result<(), Fail> {
-    assert!(rt; is_overtaken(&rt, rt.alloc())?);
-    Ok(())
-}
-
 // The matrix of m x n modulo 7 with a 1 at each of these places that lies inside.
-fn ones(alloc: Global, m: u32, n: u32, places: &[(u32, u32)]) -> Result<Rows, AllocError>
-    requires height { m ≤ LARGEST_SIZE }
-    requires width { n ≤ LARGEST_SIZE }
-{
-    let mut builder = RowsBuilder::new(alloc, m, n, Modulus::new(7))?;
+fn ones(alloc: Global, m: u32, n: u32, places: &[(u32, u32)]) -> Result<Rows, Fail> {
+    let mut triples = Vec::new(alloc);
     for (i, j) in places {
         if *i < m && *j < n {
-            builder.push(*i, *j, 1)?;
+            triples.push((*i, *j, 1))?;
         }
     }
-    builder.finish()
+    match Rows::checked_from_triples(alloc, m, n, &Modulus::new(7), &triples)? {
+        Some(rows) => Ok(rows),
+        None => Err(Fail::new("a place is outside")),
+    }
 }
 
-// Places in no order, from a linear congruential generator.
-fn scattered(alloc: Global, count: u32, seed: u32) -> Result<Vec<(u32, u32)>, AllocError> {
+// Places in no order, from a linear congruential generator, with their columns so far apart.
+fn scattered(
+    alloc: Global,
+    count: u32,
+    seed: u32,
+    apart: u32,
+) -> Result<Vec<(u32, u32)>, AllocError> {
     let mut places = Vec::new(alloc);
     let mut state = seed;
     for _ in 0..count {
         let row = state.wrapping_mul(1_664_525).wrapping_add(1_013_904_223);
         state = row.wrapping_mul(1_664_525).wrapping_add(1_013_904_223);
-        places.push((row >> 27, state >> 27))?;
+        places.push((row >> 27, (state >> 27).wrapping_mul(apart)))?;
     }
     Ok(places)
 }
@@ -356,20 +250,6 @@ fn found<'a, R: Threads + Sync>(
     search(rt, alloc, Book::empty(alloc, rows)?, workers, &Open)
 }
 
-// Whether so many workers that begin with this book have these pairs in the end.
-fn finds<R: Threads + Sync>(
-    rt: &R,
-    alloc: Global,
-    book: Book<'_>,
-    workers: u32,
-    pairs: &[Pair],
-) -> Result<bool, AllocError>
-    requires some { 1 ≤ workers }
-{
-    let again = search(rt, alloc, book, workers, &Open)?;
-    Ok(again.pairs() == pairs)
-}
-
 // Whether one worker finds nothing after several.
 fn leaves_nothing<R: Threads + Sync>(
     rt: &R,
@@ -385,144 +265,11 @@ fn leaves_nothing<R: Threads + Sync>(
     Ok(again.pairs().len() == many)
 }
 
-// Whether the search by walks finds the same as one worker, and many find no more behind that.
+// Whether the search by walks finds the same as one worker.
 fn walks_agree<R: Threads + Sync>(rt: &R, alloc: Global, rows: &Rows) -> Result<bool, AllocError> {
     let walked = walked::<Brand>(alloc, rows, Blank::new(1))?;
     let alone = found(rt, alloc, rows, 1)?;
-    if alone.pairs() != walked.pairs() {
-        return Ok(false);
-    }
-    finds(rt, alloc, alone, 64, walked.pairs())
-}
-
-// Whether all searches of a matrix agree, and several workers leave nothing.
-fn all_agree<R: Threads + Sync>(rt: &R, alloc: Global, rows: &Rows) -> Result<bool, AllocError> {
-    let agree = walks_agree(rt, alloc, rows)?;
-    let two = leaves_nothing(rt, alloc, rows, 2)?;
-    let many = leaves_nothing(rt, alloc, rows, 64)?;
-    Ok(agree && two && many)
-}
-
-// The same for the matrix with ones at these places.
-fn agree_on<R: Threads + Sync>(
-    rt: &R,
-    alloc: Global,
-    m: u32,
-    n: u32,
-    places: &[(u32, u32)],
-) -> Result<bool, AllocError>
-    requires height { m ≤ LARGEST_SIZE }
-    requires width { n ≤ LARGEST_SIZE }
-{
-    let rows = ones(alloc, m, n, places)?;
-    all_agree(rt, alloc, &rows)
-}
-
-#[test]
-fn the_example_has_two_pairs(rt: HostRuntime) -> Result<(), Fail> {
-    let rows = example_rows(rt.alloc())?;
-    let empty = Book::empty(rt.alloc(), &rows)?;
-    let wanted = [Pair { row: 0, col: 0 }, Pair { row: 1, col: 1 }];
-    assert!(rt; finds(&rt, rt.alloc(), empty, 1, &wanted)?);
-    Ok(())
-}
-
-#[test]
-fn both_searches_agree_on_a_boundary_map(rt: HostRuntime) -> Result<(), Fail> {
-    let faces = chessboard(rt.alloc())?;
-    assert!(rt; agree_on(&rt, rt.alloc(), 96, 256, &faces)?);
-    Ok(())
-}
-
-#[test]
-fn both_searches_agree(rt: HostRuntime) -> Result<(), Fail> {
-    for (m, n, count) in &[
-        (0u32, 0u32, 0u32),
-        (1, 1, 1),
-        (5, 0, 3),
-        (32, 32, 60),
-        (32, 20, 150),
-        (16, 32, 90),
-    ] {
-        let places = scattered(rt.alloc(), *count, *m)?;
-        assert!(rt; agree_on(&rt, rt.alloc(), *m, *n, &places)?);
-    }
-    Ok(())
-}
-
-// These places with their columns far apart, so that most columns have no entry.
-fn spread(alloc: Global, places: &[(u32, u32)]) -> Result<Vec<(u32, u32)>, AllocError> {
-    let mut apart = Vec::new(alloc);
-    for (row, col) in places {
-        apart.push((*row, col.wrapping_mul(97).wrapping_add(5)))?;
-    }
-    Ok(apart)
-}
-
-// Whether both searches agree on a wide matrix with so many ones.
-fn agree_on_wide<R: Threads + Sync>(rt: &R, alloc: Global, count: u32) -> Result<bool, AllocError> {
-    let near = scattered(alloc, count, count)?;
-    let places = spread(alloc, &near)?;
-    agree_on(rt, alloc, 32, 4096, &places)
-}
-
-#[test]
-fn both_searches_agree_on_wide_matrices(rt: HostRuntime) -> Result<(), Fail> {
-    for count in &[0u32, 3, 60, 150] {
-        assert!(rt; agree_on_wide(&rt, rt.alloc(), *count)?);
-    }
-    Ok(())
-}
-
-// Ten entries, each in a row and a column of its own, by ascending rows.
-const APART: [(u32, u32); 10] = [
-    (0, 2_147_483_646),
-    (3, 70_000),
-    (65_536, 0),
-    (1_000_000, 12),
-    (1_000_001, 1_999_999_999),
-    (77_777_777, 4),
-    (1_073_741_824, 1_073_741_824),
-    (2_000_000_000, 900),
-    (2_147_483_645, 33),
-    (2_147_483_646, 1),
-];
-
-// These places as pairs.
-fn pairs_of(alloc: Global, places: &[(u32, u32)]) -> Result<Vec<Pair>, AllocError> {
-    let mut pairs = Vec::new(alloc);
-    for (row, col) in places {
-        pairs.push(Pair {
-            row: *row,
-            col: *col,
-        })?;
-    }
-    Ok(pairs)
-}
-
-// Whether one worker finds these pairs, and nothing is left behind many.
-fn has_all<R: Threads + Sync>(
-    rt: &R,
-    alloc: Global,
-    rows: &Rows,
-    pairs: &[Pair],
-) -> Result<bool, AllocError> {
-    let finds_all = finds(rt, alloc, Book::empty(alloc, rows)?, 1, pairs)?;
-    let leaves_nothing = leaves_nothing(rt, alloc, rows, 64)?;
-    Ok(finds_all && leaves_nothing)
-}
-
-// The same of the largest matrix with an entry at each of these places.
-fn has_all_apart<R: Threads + Sync>(rt: &R, alloc: Global) -> Result<bool, AllocError> {
-    let rows = ones(alloc, 2_147_483_647, 2_147_483_647, &APART)?;
-    let pairs = pairs_of(alloc, &APART)?;
-    has_all(rt, alloc, &rows, &pairs)
-}
-
-#[test]
-fn the_largest_matrix_costs_by_its_entries(rt: HostRuntime) -> Result<(), Fail> {
-    assert!(rt; has_all_apart(&rt, rt.alloc())?);
-    Ok(())
+    Ok(alone.pairs() == walked.pairs())
 }
 
 // Whether one worker has nothing after so many steps, or else these pairs.
@@ -553,28 +300,57 @@ fn finds_all_or_none<R: Threads + Sync>(
     Ok(true)
 }
 
-// Places in a matrix of m x n: the boundary map, or so many that are scattered.
-fn placed(alloc: Global, m: u32, count: u32) -> Result<Vec<(u32, u32)>, AllocError> {
-    if m == 96 {
-        chessboard(alloc)
-    } else {
-        scattered(alloc, count, m)
-    }
+// Whether all searches of a matrix agree, and several workers leave nothing.
+fn all_agree<R: Threads + Sync>(
+    rt: &R,
+    alloc: Global,
+    rows: &Rows,
+) -> Result<[bool; 4], AllocError> {
+    Ok([
+        walks_agree(rt, alloc, rows)?,
+        leaves_nothing(rt, alloc, rows, 2)?,
+        leaves_nothing(rt, alloc, rows, 64)?,
+        finds_all_or_none(rt, alloc, rows)?,
+    ])
 }
 
+// The same for the matrix of m x n with so many ones, scattered over columns that are so far apart, or else with the boundary map.
+fn agree_on<R: Threads + Sync>(
+    rt: &R,
+    alloc: Global,
+    sizes: (u32, u32),
+    count: u32,
+    apart: u32,
+) -> Result<[bool; 4], Fail> {
+    let (m, n) = sizes;
+    let places = if apart > 0 {
+        scattered(alloc, count, m, apart)?
+    } else {
+        chessboard(alloc)?
+    };
+    let rows = ones(alloc, m, n, &places)?;
+    Ok(all_agree(rt, alloc, &rows)?)
+}
+
+// Heights, widths, how many ones, and how far apart their columns are, in wide matrices so that most have none.
+const MATRICES: &[((u32, u32), u32, u32)] = &[
+    ((0, 0), 0, 1),
+    ((1, 1), 1, 1),
+    ((5, 0), 3, 1),
+    ((32, 32), 60, 1),
+    ((32, 20), 150, 1),
+    ((16, 32), 90, 1),
+    ((32, 4096), 3, 97),
+    ((32, 4096), 60, 97),
+    ((32, 4096), 150, 97),
+    ((96, 256), 0, 0),
+];
+
 #[test]
-fn searches_end_within_their_steps(rt: HostRuntime) -> Result<(), Fail> {
-    for (m, n, count) in &[
-        (0u32, 0u32, 0u32),
-        (5, 0, 3),
-        (32, 32, 60),
-        (32, 20, 150),
-        (16, 32, 90),
-        (96, 256, 0),
-    ] {
-        let places = placed(rt.alloc(), *m, *count)?;
-        let rows = ones(rt.alloc(), *m, *n, &places)?;
-        assert!(rt; finds_all_or_none(&rt, rt.alloc(), &rows)?);
+fn searches_agree(rt: HostRuntime) -> Result<(), Fail> {
+    for (sizes, count, apart) in MATRICES {
+        let found = agree_on(&rt, rt.alloc(), *sizes, *count, *apart)?;
+        assert_eq!(rt; found, [true; 4], "{sizes:?} {count}");
     }
     Ok(())
 }
