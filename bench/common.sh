@@ -55,17 +55,16 @@ with open(path, "w") as f:
 P
 }
 
-# own_processor: the flag by which a program is compiled for x86-64-v3 where this processor has it, as ./spasm is; nothing elsewhere, or
-# where CPU=v2 is set.
+# own_processor: the flag by which a program is compiled for x86-64-v2 if CPU=v2 is set; nothing else, as ./spasm is compiled.
 own_processor() {
-    test "${CPU:-}" = v2 || ! /lib64/ld-linux-x86-64.so.2 --help | grep -q 'x86-64-v3 (supported' || echo --cpu=x86-64-v3
+    test "${CPU:-}" != v2 || echo --cpu=x86-64-v2
 }
 
 # timed_program: builds the timed program where it isn't built or is older than its sources, and prints its path.
 timed_program() {
     local program=crates/spasm_timed/out/spasm_timed
     if test ! -x "$program" || test -n "$(find crates.txt crates/*/src crates/*/specs crates/*/proofs -newer "$program" -type f | head -n 1)"; then
-        (cd crates/spasm_timed && rt run $(own_processor) < /dev/null) > bench/out/build.log 2>&1 || { tail -n 30 bench/out/build.log >&2; exit 1; }
+        ./build $(own_processor) spasm_timed > bench/out/build.log 2>&1 || { tail -n 30 bench/out/build.log >&2; exit 1; }
         touch "$program"
     fi
     echo "$program"

@@ -1,7 +1,7 @@
 #!/usr/bin/env bash
 # Makes c/build/libspasm.a, c/build/libspasm.so and c/build/spasm.pc, and says where they are. The library is proved first, which takes as
-# long as ./build from nothing, and half a minute after `rt check` in crates/spasm_c. It is compiled for x86-64-v3 (AVX2) if this processor
-# has it, else for x86-64-v2, as the programs are, or for what --cpu=PROCESSOR says. Other words go to `rt lib`.
+# long as ./build from nothing, and some minutes after it. It is compiled for x86-64-v3 (AVX2) if this processor has it, else for
+# x86-64-v2, as the programs are, or for what --cpu=PROCESSOR says. Other words go to ./build.
 set -euo pipefail
 cd "$(dirname "${BASH_SOURCE[0]}")/.."
 
@@ -19,7 +19,7 @@ for word; do
         *) words+=("$word") ;;
     esac
 done
-(cd crates/spasm_c && rt lib "--cpu=$processor" "${words[@]}")
+./build "--cpu=$processor" "${words[@]}" spasm_c
 
 folder=$PWD/c/build
 proved=crates/spasm_c/out/libspasm_c.a
