@@ -18,7 +18,7 @@ use Rattle.sparse_rows.proofs.Occurring.{rising_push}
 use Rattle.sparse_rows.proofs.Renaming.{rising_short}
 use Rattle.sparse_rows.proofs.Spread.{entry_head, entry_support, entry_tail, support_sparse}
 use Rattle.weight_order.specs.Keeping.{KeepsRank}
-use Rattle.weight_order.specs.Multiples.{AddsRow, AreRepresentatives, AreProportional, HasSpanningRows, IsMultiple, IsRepeated}
+use Rattle.weight_order.specs.Multiples.{AddsUnlessRepeated, AreRepresentatives, AreProportional, HasSpanningRows, IsMultiple, IsRepeated}
 use Rattle.weight_order.proofs.Selecting.{rank_moved, row_selected, selected_combination, selected_inside, zeros_combination}
 
 -- rows at the same columns are in proportion if their values are
@@ -119,7 +119,7 @@ among_more rows i r w = (w.0, omega (arith, w.1, length_push rows i), w.2 ∙ sy
 
 -- a row more, behind the others
 pub kept_more : {R : ResidueMatrix} {rows kept new : List ℕ} {i : ℕ} → IsMatrix R.modulus R.matrix → i < R.matrix.height → ((t : ℕ) → t < length rows → slice_index rows t < i) →
-    AreRepresentatives R rows kept → AddsRow R i kept new → AreRepresentatives R (rows ++ i ∷ []) new
+    AreRepresentatives R rows kept → AddsUnlessRepeated R i kept new → AreRepresentatives R (rows ++ i ∷ []) new
 kept_more {R} {rows} {kept} {new} {i} m l above h (inl e) =
     subst (AreRepresentatives R (rows ++ i ∷ [])) (sym e) record {
       rising = rising_push kept i h.rising (λ k lk. let w = h.among k lk in omega (arith, w.2, above w.0 w.1));
@@ -157,7 +157,7 @@ module _ {A : Matrix} {rows : List ℕ} (f : AreFilled A rows) (n : ℕ) where
 
 -- and one more
 pub kept_next : {R : ResidueMatrix} {rows kept new : List ℕ} {n : ℕ} → IsMatrix R.modulus R.matrix → AreFilled R.matrix rows → n < length rows →
-    AreRepresentatives R (take n rows) kept → AddsRow R (slice_index rows n) kept new → AreRepresentatives R (take (n + 1) rows) new
+    AreRepresentatives R (take n rows) kept → AddsUnlessRepeated R (slice_index rows n) kept new → AreRepresentatives R (take (n + 1) rows) new
 kept_next {R} {rows} {kept} {new} {n} m f l h more =
     subst (λ xs. AreRepresentatives R xs new) (sym (take_more rows n 0 l)) (kept_more m (f.below n l) (taken_above f n l) h more)
 

@@ -20,8 +20,8 @@ AreProportional p us vs = (a : ℕ) × (b : ℕ) × (b % p ≢ 0)
     × ((t : ℕ) → t < length us → (slice_index us t * b) % p ≡ (slice_index vs t * a) % p)
 
 -- row i came to the rows of R that are kept, or is a multiple of one of them
-abbrev pub AddsRow : ResidueMatrix → ℕ → List ℕ → List ℕ → Type 0
-AddsRow R i old new = (new ≡ old ++ i ∷ []) ⊎ ((new ≡ old) × IsRepeated R old i)
+abbrev pub AddsUnlessRepeated : ResidueMatrix → ℕ → List ℕ → List ℕ → Type 0
+AddsUnlessRepeated R i old new = (new ≡ old ++ i ∷ []) ⊎ ((new ≡ old) × IsRepeated R old i)
 
 -- of these rows of R, which ascend, some are kept, in order, and each is a multiple of one that is kept
 pub record AreRepresentatives (R : ResidueMatrix) (rows kept : List ℕ) : Type 0 where

@@ -3,7 +3,7 @@ ghost use Rattle.std.specs.Prelude.{◌≡◌, ◌<◌, ◌*◌, ◌/◌, ◌^�
 ghost use Rattle.residue_words.specs.Matrix.{row};
 ghost use Rattle.residue_words.specs.Residues.{IsPrime};
 ghost use Rattle.sparse_rows.specs.Rows.{AreFilled, IsFilled};
-ghost use Rattle.weight_order.specs.Multiples.{AddsRow, AreRepresentatives, AreProportional, IsMultiple, IsRepeated};
+ghost use Rattle.weight_order.specs.Multiples.{AddsUnlessRepeated, AreRepresentatives, AreProportional, IsMultiple, IsRepeated};
 
 use residue_words::Modulus;
 use sparse_rows::Rows;
@@ -68,7 +68,7 @@ impl KeptRows {
         requires row { i < rows.now.matrix.height }
         requires filled { IsFilled rows.now.matrix i }
         requires inside { All (λ k. k < rows.now.matrix.height) self.old.numbers.items }
-        ensures { OnOk result (AddsRow rows.now i self.old.numbers.items self.new.numbers.items) }
+        ensures { OnOk result (AddsUnlessRepeated rows.now i self.old.numbers.items self.new.numbers.items) }
     {
         let hash = direction_hash(rows, i);
         let Some(at) = self.seat_for(rows, i, hash) else {
