@@ -48,7 +48,8 @@ pub fn last_first(alloc: Global, rows: &Rows) -> Result<Rows, AllocError>
 
 /// The matrix without rows that are a multiple of one before them, if there are any, and then also without rows of zeros; else the matrix
 /// as it is. It takes time by the entries, and memory of up to 48 bytes for each row that has an entry, beside the matrix that is
-/// made. Of a modulus that isn't prime, rows may go that are no multiple.
+/// made. Multiples may stay if more than 64 rows have hashes that are close. Of a modulus that isn't prime, rows may go that are no
+/// multiple.
 pub fn without_multiples(alloc: Global, rows: Rows) -> Result<Rows, AllocError>
     ensures { IfOk result (HasSpanningRows rows) }
 {
