@@ -8,7 +8,10 @@ import unittest
 ROOT = pathlib.Path(__file__).resolve().parents[2]
 BUILT = {"crates/spasm_main/out/spasm_main": "bin/spasm", "crates/spasm_batch/out/spasm_batch": "bin/spasm_batch"}
 PAGES = {"docs/spasm.1": "share/man/man1/spasm.1", "docs/spasm_batch.1": "share/man/man1/spasm_batch.1"}
-LIBRARY = {"c/libspasm.a": "lib/libspasm.a", "c/libspasm.so": "lib/libspasm.so", "c/spasm.h": "include/spasm.h"}
+LIBRARY = {"c/build/libspasm.a": "lib/libspasm.a", "c/build/libspasm.so": "lib/libspasm.so", "c/spasm.h": "include/spasm.h"}
+# What pkg-config reads, as c/build.sh writes it and as it is installed.
+BUILT_NAMES = "Name: spasm\nCflags: -I/a root/c\nLibs: -L/a root/c/build -lspasm\n"
+NAMES = "Name: spasm\nCflags: -I${pcfiledir}/../../include\nLibs: -L${pcfiledir}/.. -lspasm\n"
 
 
 class Installing(unittest.TestCase):
@@ -48,8 +51,10 @@ class Installing(unittest.TestCase):
 
     def test_with_the_library_and_away_again(self) -> None:
         self.put(BUILT | LIBRARY)
+        (self.root / "c/build/spasm.pc").write_text(BUILT_NAMES)
         self.assertEqual(self.run_install(str(self.prefix)).returncode, 0)
-        self.assertEqual(self.installed(), BUILT | PAGES | LIBRARY)
+        self.assertEqual(self.installed(), BUILT | PAGES | LIBRARY | {NAMES: "lib/pkgconfig/spasm.pc"})
+        self.assertEqual((self.root / "c/build/spasm.pc").read_text(), BUILT_NAMES)
         other = self.prefix / "bin/other"
         other.write_text("other")
         self.assertEqual(self.run_install("--uninstall", str(self.prefix)).returncode, 0)
