@@ -12,14 +12,14 @@ use Rattle.clap.specs.Words.{first_value, found_of}
 use Rattle.clap.specs.declared.parser.matches.ArgMatches.{ArgMatches}
 use Rattle.clap.specs.declared.parser.matches.Found.{Found}
 use Rattle.residue_words.specs.declared.modulus.TheConstants.{MODULUS_BOUND}
-use Rattle.spasm_run.specs.Options.{AreTaken, RowsSet}
-use Rattle.spasm_run.specs.Words.{Given, IsNumber, Rule, Setting, modulus_rule, setting, spelling, workers_rule}
-use Rattle.spasm_run.proofs.Accepting.{fits_first, fits_known, known_fits, rows_set, set_rows}
-use Rattle.spasm_run.proofs.Exact.{all_begin, all_plain, bytes, dashes_false, each_name, no_dashes, one_list, options_dashes, plain_value, words_dashes}
-use Rattle.spasm_run.proofs.InRange.{modulus_set, no_default, number_in_range, workers_set}
-use Rattle.spasm_run.proofs.Matching.{gives_number, number_given}
-use Rattle.spasm_run.proofs.Reading.{Fits, IsName, NoDashes, level_passes, passes_level, passes_reads, reads_passes, row_of_given}
-use Rattle.spasm_run.proofs.Walks.{command_of, rules_of}
+use Rattle.spasm_words.specs.Options.{AreTaken, RowsSet}
+use Rattle.spasm_words.specs.Words.{Given, IsNumber, Rule, Setting, modulus_rule, setting, spelling, workers_rule}
+use Rattle.spasm_words.proofs.Accepting.{fits_first, fits_known, known_fits, rows_set, set_rows}
+use Rattle.spasm_words.proofs.Exact.{all_begin, all_plain, bytes, dashes_false, each_name, no_dashes, one_list, options_dashes, plain_value, words_dashes}
+use Rattle.spasm_words.proofs.InRange.{modulus_set, no_default, number_in_range, workers_set}
+use Rattle.spasm_words.proofs.Matching.{gives_number, number_given}
+use Rattle.spasm_words.proofs.Reading.{Fits, IsName, NoDashes, level_passes, passes_level, passes_reads, reads_passes, row_of_given}
+use Rattle.spasm_words.proofs.Walks.{command_of, rules_of}
 use Rattle.batch_solve.specs.declared.batch_words.BatchCommand.{BatchCommand}
 use Rattle.batch_solve.specs.declared.batch_words.TheConstants.{LARGEST_COUNT}
 use Rattle.batch_solve.specs.BatchLine.{SetBatch, batch_line}

@@ -2,8 +2,8 @@
 use Rattle.std.specs.Prelude.{List, [], ◌∷◌, All, true, codes}
 use Rattle.clap.specs.Words.{App, Row, Shape, new_app}
 use Rattle.clap.specs.Simple.{on_top}
-use Rattle.spasm_run.specs.Line.{with_options}
-use Rattle.spasm_run.specs.Options.{RowsSet}
+use Rattle.spasm_words.specs.Line.{with_options}
+use Rattle.spasm_words.specs.Options.{RowsSet}
 use Rattle.batch_solve.specs.declared.batch_words.BatchCommand.{BatchCommand}
 use Rattle.batch_solve.specs.BatchWords.{batch_settings}
 

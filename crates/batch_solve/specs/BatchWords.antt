@@ -1,7 +1,7 @@
 -- The words of the command line by which a batch is asked for.
 use Rattle.std.specs.Prelude.{◌≡◌, ℕ, All, List, [], ◌∷◌, Option, None, MatchOption, codes}
 use Rattle.std.specs.List.{flat_map}
-use Rattle.spasm_run.specs.Words.{AreKnown, Given, InRange, IsSetBy, Rule, Setting, modulus_rule, names_of, setting, spelling, workers_rule}
+use Rattle.spasm_words.specs.Words.{AreKnown, Given, InRange, IsSetBy, Rule, Setting, modulus_rule, names_of, setting, spelling, workers_rule}
 use Rattle.batch_solve.specs.declared.batch_words.TheConstants.{LARGEST_COUNT}
 use Rattle.batch_solve.specs.declared.batch_words.BatchCommand.{BatchCommand}
 

@@ -3,7 +3,7 @@ ghost use Rattle.std.specs.Prelude.{◌≡◌, ◌<◌, ◌≤◌, ◌^◌, All,
 ghost use Rattle.residue_words.specs.declared.modulus.TheConstants.{MODULUS_BOUND};
 ghost use Rattle.sms_text.specs.declared.reader.TheConstants.{LARGEST_INPUT};
 ghost use Rattle.spasm_run.specs.Input.{IsOfText};
-ghost use Rattle.spasm_run.specs.Options.{bytes_of};
+ghost use Rattle.spasm_words.specs.Options.{bytes_of};
 ghost use Rattle.batch_solve.specs.declared.batch_words.TheConstants.{LARGEST_COUNT};
 ghost use Rattle.batch_solve.specs.BatchAnswers.{batch_misfit};
 ghost use Rattle.batch_solve.specs.BatchFound.{AreBatchReplies, ComesOfBatch, IsSmallReply, WereFound, WereWritten, matrices_of};

@@ -1,15 +1,15 @@
 // The words of a batch's command line.
 ghost use Rattle.std.specs.Prelude.{◌≡◌, IfOk, MatchOption};
 ghost use Rattle.clap.specs.Words.{app_of, found_of, rows_of};
-ghost use Rattle.spasm_run.specs.Options.{bytes_of};
+ghost use Rattle.spasm_words.specs.Options.{bytes_of};
 ghost use Rattle.batch_solve.specs.BatchLine as spec;
 ghost use Rattle.batch_solve.specs.BatchLine.{SetBatch};
 ghost use Rattle.batch_solve.specs.BatchWords.{IsBatchOf, IsOneBatch};
 
 use clap::ArgMatches;
 use residue_words::MODULUS_BOUND;
-use spasm_run::words::command_line::with_options;
-use spasm_run::words::{has_dashes, number_of, taken_by};
+use spasm_words::command_line::with_options;
+use spasm_words::{has_dashes, number_of, taken_by};
 use std::alloc::{AllocError, Global};
 
 /// The most right-hand sides of a batch.

@@ -2,7 +2,7 @@
 #![tactic(auto)]
 
 ghost use Rattle.std.specs.Prelude.{◌≡◌, ◌⊎◌, IfErr, IfOk, OnErr};
-ghost use Rattle.spasm_run.specs.Options.{bytes_of};
+ghost use Rattle.spasm_words.specs.Options.{bytes_of};
 ghost use Rattle.batch_solve.specs.BatchWords.{AskForNoBatch};
 ghost use Rattle.std_edge.specs.Edge.{EndsWithout, texts_of, told};
 ghost use Rattle.spasm_batch.specs.Ends.{BatchEndsFor};

@@ -7,13 +7,13 @@ use Rattle.row_space.proofs.FactorLaws.{certificate_true}
 use Rattle.sms_text.specs.Text.{Item, Sizes, Value, Closing, Words, matrices, matrix_of, value_at}
 use Rattle.spasm_run.specs.declared.status.Status.{Status}
 use Rattle.spasm_run.specs.declared.status.Status.TheVariants.{Done, No}
-use Rattle.spasm_run.specs.declared.words.Command.{Command}
-use Rattle.spasm_run.specs.declared.words.Task.TheVariants.{Check}
+use Rattle.spasm_words.specs.declared.command.Command.{Command}
+use Rattle.spasm_words.specs.declared.command.Task.TheVariants.{Check}
 use Rattle.spasm_run.specs.Answers.{EndsBy, EndsWith}
 use Rattle.spasm_run.specs.Contents.{Contents, IsCertified}
 use Rattle.spasm_run.specs.Input.{HasContents, Input}
 use Rattle.spasm_run.specs.Ran.{HasAnswer, Ran, Run, request}
-use Rattle.spasm_run.proofs.Exact.{one_command}
+use Rattle.spasm_words.proofs.Exact.{one_command}
 use Rattle.spasm_laws.specs.Checked.{CheckedIsTrue, SaysTruth}
 
 -- the first matrix of a text is one of residues

@@ -28,18 +28,18 @@ use Rattle.run_trace.proofs.FoundTraces.{lawful_text}
 use Rattle.run_trace.proofs.WrittenTraces as traces
 use Rattle.spasm_run.specs.declared.status.Status.{Status}
 use Rattle.spasm_run.specs.declared.status.Status.TheVariants.{Done}
-use Rattle.spasm_run.specs.declared.words.Command.{Command}
-use Rattle.spasm_run.specs.declared.words.Task.{Task}
-use Rattle.spasm_run.specs.declared.words.Task.TheVariants.{Check, Trace, Replay, Certify}
+use Rattle.spasm_words.specs.declared.command.Command.{Command}
+use Rattle.spasm_words.specs.declared.command.Task.{Task}
+use Rattle.spasm_words.specs.declared.command.Task.TheVariants.{Check, Trace, Replay, Certify}
 use Rattle.spasm_run.specs.Answers.{AnswerTo, CertifiesAs, EndsBy, EndsWith, MatricesAnswer, RestsOn, TracesTo, VerdictOn, misfit, wanted}
 use Rattle.spasm_run.specs.Contents.{Contents, HasLawfulTrace, IsCertified, contents}
 use Rattle.spasm_laws.specs.Continuing.{Answered, AreClosedTexts, CertifiedIsChecked, EndedOn, SaysYes, TracedIsReplayed}
 use Rattle.spasm_run.specs.Input.{HasContents}
 use Rattle.spasm_run.specs.Ran.{AreTooFew, HasAnswer, Ran, Run, request, whole_input}
-use Rattle.spasm_run.specs.Words.{Accepted}
+use Rattle.spasm_words.specs.Words.{Accepted}
 use Rattle.spasm_lib.proofs.Claims.{text_places}
-use Rattle.spasm_run.proofs.Exact.{one_command}
-use Rattle.spasm_run.proofs.InRange.{modulus_in_range}
+use Rattle.spasm_words.proofs.Exact.{one_command}
+use Rattle.spasm_words.proofs.InRange.{modulus_in_range}
 use Rattle.spasm_run.proofs.Stays.{told_of_all}
 use Rattle.spasm_run.proofs.Whole.{asked}
 

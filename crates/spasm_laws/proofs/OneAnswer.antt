@@ -9,11 +9,12 @@ use Rattle.grow_form.proofs.OneScript.{one_script}
 use Rattle.sms_text.specs.Written.{text_of}
 use Rattle.sparse_rows.specs.Rows.{transposed}
 use Rattle.certificates.specs.declared.cert_kind.CertKind.{CertKind}
-use Rattle.spasm_run.specs.declared.words.Task.TheVariants as task
-use Rattle.spasm_run.specs.declared.words.Command.{Command}
-use Rattle.spasm_run.specs.declared.words.Task.{Task}
+use Rattle.spasm_words.specs.declared.command.Task.TheVariants as task
+use Rattle.spasm_words.specs.declared.command.Command.{Command}
+use Rattle.spasm_words.specs.declared.command.Task.{Task}
 use Rattle.spasm_run.specs.Contents.{HasLawfulTrace, IsCertified}
-use Rattle.spasm_run.specs.Generator.{generated, summary_of}
+use Rattle.spasm_words.specs.Generator.{generated}
+use Rattle.spasm_run.specs.Summary.{summary_of}
 use Rattle.grow_form.specs.Scripts.{rank_line}
 use Rattle.spasm_run.specs.Answers.{AnswerTo, AnswersScript, InvertsTo, IsOneAnswer, MatricesAnswer, VerdictOn, as_row, pivots_text}
 use Rattle.spasm_run.proofs.OneSelection.{selection_one}

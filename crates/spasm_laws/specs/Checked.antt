@@ -3,12 +3,12 @@ use Rattle.std.specs.Prelude.{◌≡◌, ℕ}
 use Rattle.residue_words.specs.Residues.{IsPrime}
 use Rattle.row_space.specs.Factors.{TellsOf}
 use Rattle.spasm_run.specs.declared.status.Status.TheVariants.{Done}
-use Rattle.spasm_run.specs.declared.words.Command.{Command}
-use Rattle.spasm_run.specs.declared.words.Task.TheVariants.{Check}
+use Rattle.spasm_words.specs.declared.command.Command.{Command}
+use Rattle.spasm_words.specs.declared.command.Task.TheVariants.{Check}
 use Rattle.spasm_run.specs.Contents.{Contents, IsCertified}
 use Rattle.spasm_run.specs.Input.{HasContents, Input}
 use Rattle.spasm_run.specs.Ran.{Ran, Run, request}
-use Rattle.spasm_run.specs.Words.{Accepted}
+use Rattle.spasm_words.specs.Words.{Accepted}
 
 -- the input is a matrix with a certificate behind it, and what this says of the matrix is so
 pub record SaysTruth (c : Command) (limit : ℕ) (input : Input) : Type 0 where

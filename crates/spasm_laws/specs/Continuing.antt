@@ -6,10 +6,10 @@ use Rattle.sms_text.specs.Text.{Header, Item, Reads, Request}
 use Rattle.certificates.specs.declared.cert_kind.CertKind.{CertKind}
 use Rattle.spasm_run.specs.declared.status.Status.{Status}
 use Rattle.spasm_run.specs.declared.status.Status.TheVariants.{Done, Memory}
-use Rattle.spasm_run.specs.declared.words.Command.{Command}
-use Rattle.spasm_run.specs.declared.words.Task.TheVariants.{Check, Trace, Replay, Certify}
+use Rattle.spasm_words.specs.declared.command.Command.{Command}
+use Rattle.spasm_words.specs.declared.command.Task.TheVariants.{Check, Trace, Replay, Certify}
 use Rattle.spasm_run.specs.Ran.{IsOffered, Ran, Run, request}
-use Rattle.spasm_run.specs.Words.{Accepted}
+use Rattle.spasm_words.specs.Words.{Accepted}
 
 -- The bytes are what is wanted, up to the end of its last line: complete before the input has ended, so that byte 10 closes this line, and
 -- nothing stands behind it.

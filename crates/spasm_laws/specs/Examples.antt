@@ -6,8 +6,8 @@ use Rattle.sms_text.specs.declared.kind.Kind.TheVariants as kind
 use Rattle.sms_text.specs.Text.{FirstFault}
 use Rattle.sms_text.specs.Written.{text_of}
 use Rattle.spasm_run.specs.declared.status.Status.TheVariants.{BadText, Shape, Usage}
-use Rattle.spasm_run.specs.declared.words.Command.{Command}
-use Rattle.spasm_run.specs.declared.words.Task.TheVariants.{Inverse, Rank}
+use Rattle.spasm_words.specs.declared.command.Command.{Command}
+use Rattle.spasm_words.specs.declared.command.Task.TheVariants.{Inverse, Rank}
 use Rattle.spasm_run.specs.Answers.{as_row, misfit, pivots_text}
 use Rattle.spasm_run.specs.Contents.{matrices_alone}
 use Rattle.spasm_run.specs.Input.{HasContents}

@@ -2,7 +2,7 @@
 #![tactic(auto)]
 
 ghost use Rattle.spasm_run.specs.Answers.{IsOneAnswer};
-ghost use Rattle.spasm_run.specs.Options.{AcceptedIsPlain, IsOneCommand};
+ghost use Rattle.spasm_words.specs.Options.{AcceptedIsPlain, IsOneCommand};
 ghost use Rattle.spasm_laws.specs.Checked.{CheckedIsTrue};
 ghost use Rattle.spasm_laws.specs.Continuing.{AreClosedTexts, CertifiedIsChecked, TracedIsReplayed};
 ghost use Rattle.spasm_laws.specs.Examples.{AreWorkedRuns};

@@ -13,7 +13,7 @@ use Rattle.spasm_run.specs.declared.status.Status.TheVariants as status
 use Rattle.spasm_run.specs.Input.{Input}
 use Rattle.spasm_run.specs.Ran.{AreTooFew, Explains, Ran, Run}
 use Rattle.spasm_run.specs.Status.{Tells, code_of}
-use Rattle.spasm_run.specs.Words.{AreRefused}
+use Rattle.spasm_words.specs.Words.{AreRefused}
 use Rattle.std_edge.specs.declared.words.NoWords.TheVariants as none
 use Rattle.std_edge.specs.Edge.{EndsWithout, Holds, Told, fresh_sink, fresh_source}
 use Rattle.std_edge.proofs.Telling.{holds_all}

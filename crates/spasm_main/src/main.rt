@@ -2,8 +2,8 @@
 #![tactic(auto)]
 
 ghost use Rattle.std.specs.Prelude.{◌≡◌, ◌⊎◌, IfErr, IfOk, OnErr};
-ghost use Rattle.spasm_run.specs.Options.{bytes_of};
-ghost use Rattle.spasm_run.specs.Words.{AreRefused};
+ghost use Rattle.spasm_words.specs.Options.{bytes_of};
+ghost use Rattle.spasm_words.specs.Words.{AreRefused};
 ghost use Rattle.std_edge.specs.Edge.{EndsWithout, texts_of, told};
 ghost use Rattle.spasm_main.specs.Ends.{EndsFor};
 

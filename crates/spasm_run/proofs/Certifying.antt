@@ -9,8 +9,8 @@ use Rattle.certificates.specs.declared.cert_kind.CertKind.{CertKind}
 use Rattle.certificates.specs.Certificate.{AreModulo, certificate_of, claim_kind, claim_of}
 use Rattle.certificates.specs.CertificateText.{HasText}
 use Rattle.spasm_run.specs.declared.command_answer.CommandAnswer.TheVariants as answer
-use Rattle.spasm_run.specs.declared.words.Command.{Command}
-use Rattle.spasm_run.specs.declared.words.Task.TheVariants as task
+use Rattle.spasm_words.specs.declared.command.Command.{Command}
+use Rattle.spasm_words.specs.declared.command.Task.TheVariants as task
 use Rattle.spasm_run.specs.Computed.{IsAnswerTo, asking}
 use Rattle.spasm_run.specs.Contents.{matrices_alone}
 

@@ -16,11 +16,11 @@ use Rattle.pivot_table.specs.Order.{IsTriangularOrder, Triangular}
 use Rattle.pivot_table.specs.Selected.{IsGreedySelection, Selected}
 use Rattle.pivot_table.proofs.Selecting.{greedy_one, sparsest_one}
 use Rattle.spasm_run.specs.declared.command_answer.CommandAnswer.TheVariants as answer
-use Rattle.spasm_run.specs.declared.words.Task.TheVariants as task
+use Rattle.spasm_words.specs.declared.command.Task.TheVariants as task
 use Rattle.sms_text.specs.Written.{IsSmallPlace}
 use Rattle.spasm_run.specs.Computed.{IsAnswerTo, asking}
 use Rattle.spasm_run.specs.Contents.{matrices_alone}
-use Rattle.spasm_run.specs.declared.words.Command.{Command}
+use Rattle.spasm_words.specs.declared.command.Command.{Command}
 use Rattle.triangular_solve.proofs.Listing.{col_is, no_pair, place_of, triangular_order_one}
 
 -- the pair at place k of leftmost pairs is the sparsest of its column

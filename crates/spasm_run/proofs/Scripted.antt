@@ -20,8 +20,8 @@ use Rattle.certificates.proofs.CertificateLines.{words_have}
 use Rattle.grow_form.specs.declared.answering.Answer.{Answer}
 use Rattle.grow_form.specs.Scripts.{AnswersLines, AnswerFitsText, SaysScript, answers_text}
 use Rattle.spasm_run.specs.declared.command_answer.CommandAnswer.TheVariants as answer
-use Rattle.spasm_run.specs.declared.words.Command.{Command}
-use Rattle.spasm_run.specs.declared.words.Task.TheVariants as task
+use Rattle.spasm_words.specs.declared.command.Command.{Command}
+use Rattle.spasm_words.specs.declared.command.Task.TheVariants as task
 use Rattle.spasm_run.specs.Answers.{AnswersScript}
 use Rattle.spasm_run.specs.Computed.{IsAnswerTo, asking}
 use Rattle.spasm_run.specs.Contents.{AreAnswered, Contents, contents}

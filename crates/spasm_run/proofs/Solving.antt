@@ -17,8 +17,8 @@ use Rattle.spasm_lib.specs.Inversion.{HasInversionShape, IsInversion}
 use Rattle.spasm_lib.specs.Solved.{HasSolutionShape, IsSolved}
 use Rattle.spasm_run.specs.declared.command_answer.CommandAnswer.TheVariants as answer
 use Rattle.spasm_run.specs.declared.commands.TheConstants.{LARGEST_INVERTED}
-use Rattle.spasm_run.specs.declared.words.Command.{Command}
-use Rattle.spasm_run.specs.declared.words.Task.TheVariants as task
+use Rattle.spasm_words.specs.declared.command.Command.{Command}
+use Rattle.spasm_words.specs.declared.command.Task.TheVariants as task
 use Rattle.spasm_run.specs.Answers.{SolvesTo, as_row, misfit}
 use Rattle.spasm_run.specs.Computed.{IsAnswerTo, asking}
 use Rattle.spasm_run.specs.Contents.{matrices_alone}

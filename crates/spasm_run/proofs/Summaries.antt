@@ -5,13 +5,14 @@ use Rattle.residue_words.specs.Residues.{IsPrime}
 use Rattle.row_space.specs.Echelon.{IsRref}
 use Rattle.sparse_rows.specs.Rows.{ResidueMatrix, entry_count}
 use Rattle.spasm_run.specs.declared.command_answer.CommandAnswer.TheVariants as answer
-use Rattle.spasm_run.specs.declared.generator.Generator.{Generator}
+use Rattle.spasm_words.specs.declared.generator.Generator.{Generator}
 use Rattle.spasm_run.specs.declared.summary.Summary.{Summary}
-use Rattle.spasm_run.specs.declared.words.Command.{Command}
-use Rattle.spasm_run.specs.declared.words.Task.TheVariants.{Drill}
+use Rattle.spasm_words.specs.declared.command.Command.{Command}
+use Rattle.spasm_words.specs.declared.command.Task.TheVariants.{Drill}
 use Rattle.spasm_run.specs.Computed.{IsAnswerTo, asking}
 use Rattle.spasm_run.specs.Contents.{matrices_alone}
-use Rattle.spasm_run.specs.Generator.{generated, place_sum, summary_of, summary_text}
+use Rattle.spasm_words.specs.Generator.{generated}
+use Rattle.spasm_run.specs.Summary.{place_sum, summary_of, summary_text}
 use Rattle.spasm_run.proofs.Shapes.{at_most_square}
 
 pub summary_answers : (c : Command) (g : Generator) (p : ℕ) (a form : ResidueMatrix) (s : Summary) → a.modulus ≡ p → a.matrix ≡ generated p g → form.modulus ≡ a.modulus →

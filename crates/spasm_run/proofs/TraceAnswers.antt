@@ -6,8 +6,8 @@ use Rattle.run_trace.specs.declared.trace.Trace.{Trace}
 use Rattle.run_trace.specs.Lawful.{IsLawfulTrace, IsTraceOf}
 use Rattle.run_trace.specs.TraceText.{HasTraceText}
 use Rattle.spasm_run.specs.declared.command_answer.CommandAnswer.TheVariants as answer
-use Rattle.spasm_run.specs.declared.words.Command.{Command}
-use Rattle.spasm_run.specs.declared.words.Task.TheVariants as task
+use Rattle.spasm_words.specs.declared.command.Command.{Command}
+use Rattle.spasm_words.specs.declared.command.Task.TheVariants as task
 use Rattle.spasm_run.specs.Computed.{IsAnswerTo, asking}
 use Rattle.spasm_run.specs.Contents.{AreToReplay, Contents, HasLawfulTrace, matrices_alone}
 

@@ -16,18 +16,18 @@ use Rattle.spasm_run.specs.declared.command_answer.CommandAnswer.{CommandAnswer}
 use Rattle.spasm_run.specs.declared.command_answer.CommandAnswer.TheVariants as answer
 use Rattle.spasm_run.specs.declared.status.Status.{Status}
 use Rattle.spasm_run.specs.declared.status.Status.TheVariants as status
-use Rattle.spasm_run.specs.declared.words.Command.{Command}
-use Rattle.spasm_run.specs.declared.generator.Generator.{Generator}
-use Rattle.spasm_run.specs.declared.words.Task.{Task}
-use Rattle.spasm_run.specs.declared.words.Task.TheVariants as task
+use Rattle.spasm_words.specs.declared.command.Command.{Command}
+use Rattle.spasm_words.specs.declared.generator.Generator.{Generator}
+use Rattle.spasm_words.specs.declared.command.Task.{Task}
+use Rattle.spasm_words.specs.declared.command.Task.TheVariants as task
 use Rattle.spasm_run.specs.Answers.{EndsWith, misfit, wanted}
 use Rattle.spasm_run.specs.Contents.{Contents, matrices_alone}
 use Rattle.spasm_run.specs.Computed.{ComesOf, ComesOfContents, IsFoundIn, WasFound, WasWritten, answer_text, asking, is_unread_in, status_behind}
 use Rattle.spasm_run.specs.Input.{HasContents, Input, WasRead, supply_behind}
 use Rattle.spasm_run.specs.Ran.{AreTooFew, HasAnswer, Explains, HasNoAnswer, HasWritten, IsAnswered, IsEither, IsMisfit, IsOffered, Ran, Run, request, whole_input}
 use Rattle.spasm_run.specs.Status.{is_unread, is_written, status_of}
-use Rattle.spasm_run.specs.Words.{Accepted, AreRefused}
-use Rattle.spasm_run.proofs.Exact.{one_command}
+use Rattle.spasm_words.specs.Words.{Accepted, AreRefused}
+use Rattle.spasm_words.proofs.Exact.{one_command}
 use Rattle.spasm_run.proofs.Input.{all_read, untaken}
 use Rattle.spasm_run.proofs.Outcomes.{Answered, Endings, Faulty, Outcome, Refused, Wanting, answers_whole, contents_of_all, fault_of_all, names_fault, refuses_shape, run_between}
 

@@ -24,14 +24,15 @@ use Rattle.grow_form.specs.Scripts.{AnswersLines, rank_line}
 use Rattle.spasm_run.specs.declared.commands.TheConstants.{LARGEST_INVERTED}
 use Rattle.spasm_run.specs.declared.status.Status.{Status}
 use Rattle.spasm_run.specs.declared.status.Status.TheVariants.{Done, No, Shape, Wide}
-use Rattle.spasm_run.specs.declared.words.Command.{Command}
-use Rattle.spasm_run.specs.declared.words.Task.{Task}
-use Rattle.spasm_run.specs.declared.words.Task.TheVariants.{Rank, Rref, Kernel, Solve, LeftKernel, Inverse, Pivots, Check, Trace, Replay, Grow, Drill, Certify}
+use Rattle.spasm_words.specs.declared.command.Command.{Command}
+use Rattle.spasm_words.specs.declared.command.Task.{Task}
+use Rattle.spasm_words.specs.declared.command.Task.TheVariants.{Rank, Rref, Kernel, Solve, LeftKernel, Inverse, Pivots, Check, Trace, Replay, Grow, Drill, Certify}
 use Rattle.run_trace.specs.declared.trace.Trace as run
 use Rattle.run_trace.specs.Lawful.{IsTraceOf}
 use Rattle.run_trace.specs.TraceText.{trace_text}
 use Rattle.spasm_run.specs.Contents.{Contents, HasLawfulTrace, IsCertified}
-use Rattle.spasm_run.specs.Generator.{generated, summary_of}
+use Rattle.spasm_words.specs.Generator.{generated}
+use Rattle.spasm_run.specs.Summary.{summary_of}
 
 -- the lines that are due at first: the headers of the matrices that are read, and the first line of a certificate or of a trace; the header
 -- of a matrix behind which a script comes

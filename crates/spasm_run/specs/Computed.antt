@@ -15,12 +15,12 @@ use Rattle.spasm_run.specs.declared.command_answer.CommandAnswer.{CommandAnswer}
 use Rattle.spasm_run.specs.declared.command_answer.CommandAnswer.TheVariants as answer
 use Rattle.spasm_run.specs.declared.status.Status.{Status}
 use Rattle.spasm_run.specs.declared.status.Status.TheVariants as status
-use Rattle.spasm_run.specs.declared.words.Command.{Command}
-use Rattle.spasm_run.specs.declared.words.Task.{Task}
+use Rattle.spasm_words.specs.declared.command.Command.{Command}
+use Rattle.spasm_words.specs.declared.command.Task.{Task}
 use Rattle.spasm_run.specs.Answers.{AnswerOf, EndsWith, RestsOn, misfit, pivots_text}
 use Rattle.spasm_run.specs.Contents.{Contents, matrices_alone}
-use Rattle.spasm_run.specs.declared.words.Task.TheVariants as task
-use Rattle.spasm_run.specs.Generator.{HasSizesInRange, summary_text}
+use Rattle.spasm_words.specs.declared.command.Task.TheVariants as task
+use Rattle.spasm_run.specs.Summary.{summary_text}
 use Rattle.spasm_run.specs.Input.{Input, supply_behind}
 use Rattle.spasm_run.specs.Ran.{AreTooFew, HasNoAnswer, IsAnswered}
 use Rattle.spasm_run.specs.Shapes.{HasAnswerShape}
@@ -67,11 +67,6 @@ IsSmall (answer.Script answers) = All AnswerFitsText answers.items
 -- the command, asking for this task modulo p
 abbrev pub asking : Task → ℕ → Command → Command
 asking t p c = record c { task = t; modulus = p }
-
--- where a matrix is to be generated, its sizes lie in range
-abbrev pub IsOfSizes : Task → Type 0
-IsOfSizes (task.Drill g) = HasSizesInRange g
-IsOfSizes t = Unit {0}
 
 -- the answer to a command for what was read, with matrices of the shapes that are wanted
 pub record IsAnswerTo (c : Command) (said : Contents) (a : CommandAnswer) : Type 0 where

@@ -1,11 +1,8 @@
 pub mod Answers
 pub mod Computed
 pub mod Contents
-pub mod Generator
 pub mod Input
-pub mod Line
-pub mod Options
 pub mod Ran
 pub mod Shapes
 pub mod Status
-pub mod Words
+pub mod Summary

@@ -6,13 +6,13 @@ use Rattle.sms_text.specs.Stream.{SinkState, SourceState, Gained, GainedAndFaile
 use Rattle.sms_text.specs.Text.{FirstFault, Request, Short, reading}
 use Rattle.spasm_run.specs.declared.status.Status.{Status}
 use Rattle.spasm_run.specs.declared.status.Status.TheVariants as status
-use Rattle.spasm_run.specs.declared.words.Command.{Command}
+use Rattle.spasm_words.specs.declared.command.Command.{Command}
 use Rattle.spasm_run.specs.Answers.{AnswerOf, EndsWith, RestsOn, misfit, wanted}
 use Rattle.spasm_run.specs.Contents.{Contents}
 use Rattle.spasm_run.specs.Input.{HasContents, Input, supply_behind}
 use Rattle.spasm_run.specs.Shapes.{HasAnswerShape}
 use Rattle.spasm_run.specs.Status.{is_unread}
-use Rattle.spasm_run.specs.Words.{Accepted, AreRefused}
+use Rattle.spasm_words.specs.Words.{Accepted, AreRefused}
 
 -- what there is to see of a run: its words, and of how many bytes its input may be; its source and its output, before it and after it
 pub record Run : Type 0 where

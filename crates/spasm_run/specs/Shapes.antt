@@ -7,9 +7,9 @@ use Rattle.certificates.specs.Certificate.{AreModulo, certificate_of, claim_kind
 use Rattle.certificates.specs.CertificateText.{HasText, certificate_text}
 use Rattle.grow_form.specs.declared.answering.Answer as grow
 use Rattle.grow_form.specs.Scripts.{AnswerFitsText, answers_text, rank_line}
-use Rattle.spasm_run.specs.declared.words.Task.{Task}
-use Rattle.spasm_run.specs.declared.words.Task.TheVariants.{Rank, Rref, Kernel, Solve, LeftKernel, Inverse, Pivots, Check, Trace, Replay, Grow, Drill, Certify}
-use Rattle.spasm_run.specs.Generator.{summary_of}
+use Rattle.spasm_words.specs.declared.command.Task.{Task}
+use Rattle.spasm_words.specs.declared.command.Task.TheVariants.{Rank, Rref, Kernel, Solve, LeftKernel, Inverse, Pivots, Check, Trace, Replay, Grow, Drill, Certify}
+use Rattle.spasm_run.specs.Summary.{summary_of}
 
 -- residues modulo p in n columns and at most n rows: echelon forms and kernel bases have no more
 abbrev pub IsAtMostSquare : ℕ → ℕ → Matrix → Type 0

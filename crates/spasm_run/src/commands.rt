@@ -6,21 +6,20 @@ ghost use Rattle.certificates.specs.Certificate.{AreModulo};
 ghost use Rattle.spasm_run.specs.Answers.{wanted};
 ghost use Rattle.spasm_run.specs.Computed.{ComesOf, ComesOfContents, IsSmall, asking};
 ghost use Rattle.spasm_run.specs.Contents.{AreToCheck, AreToReplay, Contents};
-ghost use Rattle.spasm_run.specs.Generator.{HasSizesInRange};
-ghost use Rattle.spasm_run.specs.declared.words.Command.{Command};
-ghost use Rattle.spasm_run.specs.declared.words.Task.TheVariants as task;
+ghost use Rattle.spasm_words.specs.Generator.{HasSizesInRange};
+ghost use Rattle.spasm_words.specs.declared.command.Command.{Command};
+ghost use Rattle.spasm_words.specs.declared.command.Task.TheVariants as task;
 
 use crate::command_answer::CommandAnswer;
-use crate::generator::Generator;
 use crate::status::Status;
 use crate::summary::Summary;
-use crate::words::{Command, Task};
 use certificates::{CertKind, Certificate};
 use optimistic_search::Gate;
 use residue_words::Modulus;
 use run_trace::{Trace, replay, trace_of};
 use sparse_rows::Rows;
 use spasm_lib::{Inverse, Solution, Team, Threaded};
+use spasm_words::{Command, Generator, Task};
 use std::alloc::Global;
 use std::thread::Threads;
 

@@ -2,7 +2,7 @@
 ghost use Rattle.std.specs.Prelude.{◌++◌, [], ◌∷◌};
 ghost use Rattle.std.specs.Fmt.{decimal};
 ghost use Rattle.sms_text.specs.Writing.{Writes};
-ghost use Rattle.spasm_run.specs.Generator.{numbered_line};
+ghost use Rattle.spasm_run.specs.Summary.{numbered_line};
 
 use sms_text::{Sink, WriteFault, write_number, write_text};
 

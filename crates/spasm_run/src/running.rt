@@ -2,21 +2,21 @@
 ghost use Rattle.std.specs.Prelude.{◌≡◌, ◌<◌, ◌≤◌, ℕ, List, [], true, false, IfOk};
 ghost use Rattle.residue_words.specs.declared.modulus.TheConstants.{MODULUS_BOUND};
 ghost use Rattle.sms_text.specs.declared.reader.TheConstants.{LARGEST_INPUT};
-ghost use Rattle.spasm_run.specs.Computed.{IsOfSizes, IsSmall, WasFound, WasWritten};
-ghost use Rattle.spasm_run.specs.Options.{bytes_of};
+ghost use Rattle.spasm_run.specs.Computed.{IsSmall, WasFound, WasWritten};
+ghost use Rattle.spasm_words.specs.Options.{bytes_of};
 ghost use Rattle.spasm_run.specs.Answers.{wanted};
 ghost use Rattle.spasm_run.specs.Ran.{Ran, WantNothing};
 ghost use Rattle.spasm_run.specs.Status.{SaysWhy, is_answered, is_written};
-ghost use Rattle.spasm_run.specs.Words.{Accepted};
+ghost use Rattle.spasm_words.specs.Words.{Accepted, IsOfSizes};
 
 use crate::command_answer::CommandAnswer;
 use crate::commands::{find_lawfulness, find_of_matrix, find_solution, find_summary, find_verdict};
 use crate::read_matrices::{read_and_answer, read_one, read_to_check, read_to_replay, read_two};
 use crate::status::Status;
-use crate::words::{Command, Task, read_words};
 use optimistic_search::Gate;
 use residue_words::Modulus;
 use sms_text::{LARGEST_INPUT, Sink, Source};
+use spasm_words::{Command, Task, read_words};
 use std::alloc::Global;
 use std::thread::Threads;
 

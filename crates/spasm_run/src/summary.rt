@@ -4,7 +4,7 @@ ghost use Rattle.residue_words.specs.Matrix.{entry};
 ghost use Rattle.residue_words.specs.Residues.{sum_below};
 ghost use Rattle.sparse_rows.specs.Rows.{entry_count};
 ghost use Rattle.sms_text.specs.Writing.{Writes};
-ghost use Rattle.spasm_run.specs.Generator.{place_sum, summary_text};
+ghost use Rattle.spasm_run.specs.Summary.{place_sum, summary_text};
 
 use crate::numbered_text::write_line;
 use sms_text::{Sink, WriteFault};

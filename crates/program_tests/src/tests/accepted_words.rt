@@ -1,7 +1,6 @@
 // The words that are accepted, with the command that they ask for.
 use certificates::CertKind;
-use spasm_run::Generator;
-use spasm_run::words::{Command, Task, command_line, read_words};
+use spasm_words::{Command, Generator, Task, command_line, read_words};
 
 const ACCEPTED: &[(&[&str], Task, u64, u32, u32)] = &[
     (&["rank"], Task::Rank, 42_013, 1, 3),

@@ -1,7 +1,7 @@
 -- The run is that of the top call on the adapters.
 use Rattle.std.proofs.Common.{ap, refl, subst}
 use Rattle.sms_text.specs.declared.reader.TheConstants.{LARGEST_INPUT}
-use Rattle.spasm_run.specs.Options.{bytes_of}
+use Rattle.spasm_words.specs.Options.{bytes_of}
 use Rattle.spasm_run.specs.Ran.{Run}
 use Rattle.spasm_run.specs.Status.{SaysWhy}
 use Rattle.std_edge.specs.Edge.{sink_of, source_of}

@@ -1,6 +1,6 @@
 -- The words that are lent are the words; without memory to lend them, no run begins.
 use Rattle.std.proofs.Common.{ap, subst, ◌∙◌}
-use Rattle.spasm_run.specs.Options.{bytes_of}
+use Rattle.spasm_words.specs.Options.{bytes_of}
 use Rattle.std_edge.specs.Edge.{told, texts_of}
 use Rattle.spasm_main.specs.Ends.{EndsFor}
 use Rattle.spasm_main.proofs.Ending.{ends_unbegun}

@@ -1,5 +1,5 @@
 -- Words that aren't accepted are refused; others are a batch, whose numbers lie in their ranges.
-use Rattle.spasm_run.specs.Options.{bytes_of}
+use Rattle.spasm_words.specs.Options.{bytes_of}
 use Rattle.batch_solve.proofs.BatchOptions.{count_in_range, modulus_in_range, workers_in_range}
 use Rattle.batch_solve.proofs.BatchWhole.{found_memory, found_refused}
 use Rattle.batch_solve.proofs.batch_run.find_replies.Goals as goal

@@ -1,7 +1,7 @@
 -- By the words that are --, and by what clap takes.
 use Rattle.std.proofs.Common.{ap, subst, ◌∙◌}
 use Rattle.clap.specs.Words.{App, is_simple_and_free}
-use Rattle.spasm_run.specs.Options.{AreTaken, bytes_of}
+use Rattle.spasm_words.specs.Options.{AreTaken, bytes_of}
 use Rattle.batch_solve.proofs.BatchOptions.{answered_batch, dashed_batch, line_is_ready, refused_batch}
 use Rattle.batch_solve.proofs.batch_words.read_batch_words.Goals as goal
 

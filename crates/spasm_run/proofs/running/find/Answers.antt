@@ -1,7 +1,7 @@
 -- Words that aren't accepted are refused; others are a command, whose numbers lie in their ranges.
 use Rattle.spasm_run.proofs.Whole.{found_memory, found_refused}
-use Rattle.spasm_run.specs.Options.{bytes_of}
-use Rattle.spasm_run.proofs.InRange.{modulus_in_range, sizes_in_range, workers_in_range}
+use Rattle.spasm_words.specs.Options.{bytes_of}
+use Rattle.spasm_words.proofs.InRange.{modulus_in_range, sizes_in_range, workers_in_range}
 use Rattle.spasm_run.proofs.running.find.Goals as goal
 
 pub returns-in-Ok-None-clause-found : goal.returns-in-Ok-None-clause-found

@@ -1,7 +1,7 @@
 -- What is found for the matrices of a command is found for its words.
 use Rattle.std.proofs.Common.{[], ◌∷◌, refl, subst, sym}
 use Rattle.certificates.specs.Certificate.{AreModulo}
-use Rattle.spasm_run.specs.declared.words.Task.TheVariants as task
+use Rattle.spasm_words.specs.declared.command.Task.TheVariants as task
 use Rattle.spasm_run.specs.Contents.{matrices_alone}
 use Rattle.spasm_run.proofs.Scripted.{script_answers}
 use Rattle.spasm_run.proofs.Whole.{found_generated, found_given, found_of_one, found_unread, reads_one, unread_of_one}

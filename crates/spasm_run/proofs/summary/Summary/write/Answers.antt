@@ -1,6 +1,6 @@
 -- Line by line.
 use Rattle.std.proofs.Common.{ℕ, List, ◌++◌, Ok, Err, codes, refl}
-use Rattle.spasm_run.specs.Generator.{numbered_line}
+use Rattle.spasm_run.specs.Summary.{numbered_line}
 use Rattle.spasm_run.proofs.Written.{writes_then, writes_stops}
 use Rattle.spasm_run.proofs.summary.Summary.write.Goals as goal
 

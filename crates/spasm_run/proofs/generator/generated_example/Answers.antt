@@ -1,5 +1,0 @@
-use Rattle.spasm_run.proofs.Generating.{generated_so}
-use Rattle.spasm_run.proofs.generator.generated_example.Goals as goal
-
-pub returns : goal.returns
-returns c = generated_so

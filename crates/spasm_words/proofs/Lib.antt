@@ -1,0 +1,11 @@
+pub mod Accepting
+pub mod Building
+pub mod Exact
+pub mod Generating
+pub mod InRange
+pub mod Matching
+pub mod Program
+pub mod Reading
+pub mod Spelled
+pub mod SpelledNumbers
+pub mod Walks

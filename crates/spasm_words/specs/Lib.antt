@@ -1,0 +1,4 @@
+pub mod Generator
+pub mod Line
+pub mod Options
+pub mod Words
