@@ -1,12 +1,12 @@
 // Kernel bases.
-ghost use Rattle.std.specs.Prelude.{◌≡◌, ◌<◌, ◌≤◌, ◌+◌, ℕ, length, slice_index, IfOk, OnOk};
+ghost use Rattle.std.specs.Prelude.{◌≡◌, ◌<◌, ◌≤◌, ◌+◌, ℕ, [], length, slice_index, IfOk, OnOk};
 ghost use Rattle.residue_words.specs.Residues.{IsPrime};
 ghost use Rattle.residue_words.specs.Matrix.{Matrix, IsMatrix};
 ghost use Rattle.sparse_rows.specs.Rows.{transposed};
 ghost use Rattle.sparse_rows.specs.Stored.{IsSparse, spread};
 ghost use Rattle.row_space.specs.Kernel.{IsKernel};
 ghost use Rattle.echelon_form.specs.Form.{IsFormOf};
-ghost use Rattle.kernel_solve.specs.ReadOff.{IsBasisRow, IsFree};
+ghost use Rattle.kernel_solve.specs.ReadOff.{AreReadOff, IsBasisRow, IsFree};
 
 use crate::columns::stands_at;
 use echelon_form::Echelon;
@@ -27,18 +27,27 @@ pub fn kernel(alloc: Global, form: &Echelon) -> Result<Rows, AllocError>
     ensures kernel { IfOk result (λ rows. (p : ℕ) (A : Matrix) → IsPrime p → IsFormOf p A form.now
         → IsKernel p A rows.matrix) }
 {
-    let rows = form.rows();
+    let mut basis = room_for_basis(alloc, form)?;
+    let columns = form.rows().transpose(alloc)?;
+    append_basis(alloc, form, &columns, &mut basis)?;
+    Ok(basis)
+}
+
+// Appends the rows of the basis to no row; the columns of the form stand as rows.
+fn append_basis(
+    alloc: Global,
+    form: &Echelon,
+    columns: &Rows,
+    basis: &mut Rows,
+) -> Result<(), AllocError>
+    requires columns { columns.now.matrix ≡ transposed form.now.matrix }
+    requires modulus { basis.old.modulus ≡ form.now.modulus }
+    requires none { basis.old.matrix ≡ record { height = 0; width = form.now.matrix.width; rows = [] } }
+    ensures { OnOk result (AreReadOff form.now basis.new) }
+{
     let leads = form.leads();
-    let width = rows.width();
-    let modulus = rows.modulus();
-    let height = width - form.rank();
-    let entries = (rows.entries() as usize)
-        .saturating_sub(leads.len())
-        .saturating_add(height as usize);
-    ask_for_room(alloc, height, entries)?;
-    let columns = rows.transpose(alloc)?;
-    let mut basis = Rows::with_room(alloc, modulus, width, height, entries)?;
-    let mut row = Sparse::new(alloc, width, modulus);
+    let width = form.rows().width();
+    let mut row = Sparse::new(alloc, width, form.rows().modulus());
     let mut next = 0;
     for f in 0..width {
         if stands_at(leads, next, f) {
@@ -49,7 +58,26 @@ pub fn kernel(alloc: Global, form: &Echelon) -> Result<Rows, AllocError>
             basis.append(&row)?;
         }
     }
-    Ok(basis)
+    Ok(())
+}
+
+// No row yet, with room for the basis of a form.
+fn room_for_basis(alloc: Global, form: &Echelon) -> Result<Rows, AllocError>
+    ensures modulus { IfOk result (λ basis. basis.modulus ≡ form.now.modulus) }
+    ensures matrix { IfOk result (λ basis. basis.matrix ≡ record {
+      height = 0;
+      width = form.now.matrix.width;
+      rows = [];
+    }) }
+{
+    let rows = form.rows();
+    let leads = form.leads();
+    let height = rows.width() - form.rank();
+    let entries = (rows.entries() as usize)
+        .saturating_sub(leads.len())
+        .saturating_add(height as usize);
+    ask_for_room(alloc, height, entries)?;
+    Rows::with_room(alloc, rows.modulus(), rows.width(), height, entries)
 }
 
 // Asks for the memory of a matrix of so many rows and entries in one piece, and gives it back. A basis that the machine
@@ -92,6 +120,23 @@ pub(crate) fn write_basis_row(
     Ok(())
 }
 
+// The kernel basis of a matrix.
+pub(crate) fn kernel_of<R: Threads + Sync>(
+    rt: &R,
+    alloc: Global,
+    a: &Rows,
+    workers: u32,
+) -> Result<Rows, AllocError>
+    requires some { 1 ≤ workers }
+    ensures modulus { IfOk result (λ rows. rows.modulus ≡ a.now.modulus) }
+    ensures width { IfOk result (λ rows. rows.matrix.width ≡ a.now.matrix.width) }
+    ensures kernel { IfOk result (λ rows. IsPrime a.now.modulus
+        → IsKernel a.now.modulus a.now.matrix rows.matrix) }
+{
+    let form = Echelon::of(rt, alloc, a, workers)?;
+    kernel(alloc, &form)
+}
+
 /// The plain form of `spasm_lib::left_kernel`: the kernel basis of the transposed matrix, whose rows y are those with y A = 0.
 pub fn left_kernel<R: Threads + Sync>(
     rt: &R,
@@ -110,6 +155,5 @@ pub fn left_kernel<R: Threads + Sync>(
     let columns = a.transpose(alloc)?;
     let form = Echelon::of(rt, alloc, &columns, workers)?;
     drop(columns);
-    let left = kernel(alloc, &form)?;
-    Ok(left)
+    kernel(alloc, &form)
 }

@@ -64,8 +64,7 @@ fn inverse_of<R: Threads + Sync>(
     };
     let form = Echelon::of(rt, alloc, &both, workers)?;
     drop(both);
-    let found = inverse_in(alloc, &form, a.width())?;
-    Ok(found)
+    inverse_in(alloc, &form, a.width())
 }
 
 /// [A | I] for a square matrix A of at most 2^30 rows; None just where A has fewer entries than rows, and so no inverse for
@@ -165,8 +164,7 @@ pub fn null_row(alloc: Global, form: &Echelon) -> Result<Rows, AllocError>
     // The call's contract tells how wide a matrix is.
     form.rows().is_sound();
     let first = first_basis_row(alloc, form)?;
-    let row = one_row(alloc, &first)?;
-    Ok(row)
+    one_row(alloc, &first)
 }
 
 // The first row of the kernel basis that belongs to a form; a zero row where there is none.

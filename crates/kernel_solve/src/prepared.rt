@@ -7,12 +7,11 @@ ghost use Rattle.kernel_solve.specs.Column.{column};
 ghost use Rattle.kernel_solve.specs.Prepared.{FitTogether, IsPreparedFor, IsReply, preparation};
 ghost use Rattle.kernel_solve.specs.Refuted.{multiple};
 
-use crate::bases::{kernel, left_kernel};
+use crate::bases::{kernel_of, left_kernel};
 use crate::reduction::{add_multiple, reduce};
 use crate::substitution::{back, forward, inverses};
 use crate::vectors::{column_of, entries_of, first_nonzero, row_of};
 use dense_finish::{Factors, finish};
-use echelon_form::Echelon;
 use residue_words::plain::Pair;
 use sparse_rows::{List, Rows};
 use std::alloc::{AllocError, Global};
@@ -73,12 +72,9 @@ impl Prepared {
         ensures { IfOk result (IsPreparedFor a.now.modulus a.now.matrix) }
     {
         let factors = finish(rt, alloc, a, workers)?;
-        let form = Echelon::of(rt, alloc, a, workers)?;
-        let null = kernel(alloc, &form)?;
-        drop(form);
+        let null = kernel_of(rt, alloc, a, workers)?;
         let relations = left_kernel(rt, alloc, a, workers)?;
-        let prepared = Prepared::by_factors(alloc, factors, null, relations)?;
-        Ok(prepared)
+        Prepared::by_factors(alloc, factors, null, relations)
     }
 
     /// The preparation of a matrix A by factors of A, the kernel basis of A and that of A transposed. It takes time by the
@@ -145,8 +141,7 @@ impl Prepared {
         let z = forward(alloc, &self.left, pivots, &self.left_inverses, side)?;
         let mut x = back(alloc, &self.right, pivots, &self.right_inverses, &z)?;
         reduce(&self.null, x.as_mut_slice());
-        let column = column_of(alloc, &x, self.right.modulus())?;
-        Ok(column)
+        column_of(alloc, &x, self.right.modulus())
     }
 }
 
@@ -173,6 +168,5 @@ fn refuting(alloc: Global, relations: &Rows, k: u32, product: u64) -> Result<Row
         relations.vals(k),
         y.as_mut_slice(),
     );
-    let row = row_of(alloc, &y, modulus)?;
-    Ok(row)
+    row_of(alloc, &y, modulus)
 }

@@ -1,9 +1,10 @@
 // Systems of equations.
-ghost use Rattle.std.specs.Prelude.{◌≡◌, ◌<◌, ◌≤◌, ◌+◌, ◌-◌, ◌↔◌, ℕ, length, slice_index, IfOk, IsTrue};
+ghost use Rattle.std.specs.Prelude.{◌≡◌, ◌<◌, ◌≤◌, ◌+◌, ◌-◌, ◌↔◌, ℕ, length, slice_index, slice_set, IfOk, OnOk, IsTrue};
 ghost use Rattle.residue_words.specs.Residues.{IsPrime};
-ghost use Rattle.residue_words.specs.Matrix.{Matrix, IsMatrix};
+ghost use Rattle.residue_words.specs.Matrix.{Matrix, IsMatrix, zeros};
 ghost use Rattle.sparse_rows.specs.declared.rows.TheConstants.{LARGEST_SIZE};
 ghost use Rattle.sparse_rows.specs.Rows.{beside};
+ghost use Rattle.sparse_rows.specs.Stored.{with_row};
 ghost use Rattle.row_space.specs.Solution.{refuting_rows, refuting_side};
 ghost use Rattle.echelon_form.specs.Form.{IsFormOf};
 ghost use Rattle.kernel_solve.specs.Column.{column, column_matrix};
@@ -88,12 +89,24 @@ pub fn refuting_system(alloc: Global, a: &Rows, b: &Rows) -> Result<Rows, AllocE
         (refuting_rows a.now.matrix (column b.now.matrix))
         (column_matrix (refuting_side a.now.matrix.width))) }
 {
+    // The call's contract tells that the entries are residues.
+    a.is_sound();
     let mut system = a.beside(alloc, b)?;
-    let mut last = Sparse::new(alloc, system.width(), a.modulus());
-    last.push(a.width(), 1)?;
-    system.append(&last)?;
-    let refuting = system.transpose(alloc)?;
-    Ok(refuting)
+    append_one(alloc, a.width(), &mut system)?;
+    system.transpose(alloc)
+}
+
+// Appends the row with a 1 in this column.
+fn append_one(alloc: Global, j: u32, to: &mut Rows) -> Result<(), AllocError>
+    requires column { j < to.old.matrix.width }
+    requires height { to.old.matrix.height < LARGEST_SIZE }
+    ensures modulus { to.new.modulus ≡ to.old.modulus }
+    ensures matrix { OnOk result (to.new.matrix
+        ≡ with_row to.old.matrix (slice_set (zeros to.old.matrix.width) j 1)) }
+{
+    let mut row = Sparse::new(alloc, to.width(), to.modulus());
+    row.push(j, 1)?;
+    to.append(&row)
 }
 
 // Whether this is the last of the leads.

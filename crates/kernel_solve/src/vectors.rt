@@ -18,8 +18,7 @@ pub(crate) fn entries_of(alloc: Global, b: &Rows) -> Result<Vec<u64>, AllocError
 {
     // The proof wants that b is a matrix of residues.
     b.is_sound();
-    let side = b.times(alloc, &[1])?;
-    Ok(side)
+    b.times(alloc, &[1])
 }
 
 // The column of these entries.
@@ -50,8 +49,7 @@ pub(crate) fn row_of(alloc: Global, entries: &[u64], p: Modulus) -> Result<Rows,
     ensures row { IfOk result (λ y. row y.matrix 0 ≡ entries.now) }
 {
     let sparse = sparse_of(alloc, entries, p)?;
-    let y = one_row(alloc, &sparse)?;
-    Ok(y)
+    one_row(alloc, &sparse)
 }
 
 // The row of these entries by those that aren't 0.

@@ -1,5 +1,6 @@
 use Rattle.std.proofs.Common.{◌≡◌, ℕ, List, length, replicate, sym, refl, ap, subst, ◌∙◌, arith}
 use Rattle.std.proofs.lemmas.List.{length-replicate, with_items_is}
+use Rattle.std.proofs.lemmas.Result.{IfOk-weaker}
 use Rattle.residue_words.specs.Residues.{inverse}
 use Rattle.residue_words.specs.Matrix.{IsVector, row}
 use Rattle.sparse_rows.specs.Rows.{ResidueMatrix}
@@ -47,7 +48,8 @@ returns-clause-width c =
     let zeros_are : c.as_mut_slice.result.now ≡ replicate M.matrix.width 0 =
     c.as_mut_slice.ensures.value ∙ c.in_ok-y.ensures.items_if_clones_equal (λ y e. e) ∙ ap (λ n. replicate {A = ℕ} n 0) c.width.ensures.value in
     let whole = with_items_is c.in_ok-y.y c.add_multiple.new.x (c.add_multiple.ensures.vector.len ∙ ap length c.as_mut_slice.ensures.value ∙ sym c.in_ok-y.y.ok.0) in
-    c.in_ok-row.ensures.width ∙ ap length (c.deref.ensures.value ∙ whole) ∙ c.add_multiple.ensures.vector.len ∙ ap length zeros_are ∙ length-replicate {A = ℕ} M.matrix.width 0
+    IfOk-weaker c.row_of.result _ _
+    (λ y wide. wide ∙ ap length (c.deref.ensures.value ∙ whole) ∙ c.add_multiple.ensures.vector.len ∙ ap length zeros_are ∙ length-replicate {A = ℕ} M.matrix.width 0) c.row_of.ensures.width
 
 pub returns-clause-row : goal.returns-clause-row
 returns-clause-row c =
@@ -64,6 +66,6 @@ returns-clause-row c =
     let spread_is : spread (length start) c.cols.result.now c.vals.result.now ≡ v = rw (long, c.cols.ensures.support, c.vals.ensures.values) (spread_support n v vector.len) in
     let adds : AddsTimes p c.inv-factor.result v start c.add_multiple.new.x =
     subst (λ u. AddsTimes p c.inv-factor.result u start c.add_multiple.new.x) spread_is (subst (λ q. AddsTimes q c.inv-factor.result (spread (length start) c.cols.result.now c.vals.result.now) start c.add_multiple.new.x) is c.add_multiple.ensures.adds) in
-    c.in_ok-row.ensures.row ∙ c.deref.ensures.value ∙ whole
+    IfOk-weaker c.row_of.result _ _ (λ y is_row. is_row ∙ c.deref.ensures.value ∙ whole
     ∙ multiple_added p c.inv-factor.result n v start c.add_multiple.new.x vector.len (c.add_multiple.ensures.vector.len ∙ long) zeros_are adds
-    ∙ ap (λ f. multiple p f v) (c.inv-factor.ensures.value ∙ ap (λ q. inverse q c.args.product) is)
+    ∙ ap (λ f. multiple p f v) (c.inv-factor.ensures.value ∙ ap (λ q. inverse q c.args.product) is)) c.row_of.ensures.row

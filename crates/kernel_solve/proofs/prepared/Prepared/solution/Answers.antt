@@ -1,5 +1,6 @@
 use Rattle.std.proofs.Common.{◌≡◌, ◌<◌, ℕ, List, length, slice_index, sym, refl, ap, subst, ◌∙◌, arith}
 use Rattle.std.proofs.lemmas.List.{with_items_is}
+use Rattle.std.proofs.lemmas.Result.{IfOk-weaker}
 use Rattle.residue_words.specs.declared.plain.Pair.{Pair}
 use Rattle.residue_words.specs.Matrix.{Matrix, IsVector, dot, row}
 use Rattle.row_space.specs.Factors.{col_at, row_at}
@@ -57,16 +58,19 @@ column_of-requires-clause-residues c =
 
 pub returns-clause-modulus : goal.returns-clause-modulus
 returns-clause-modulus c =
-    c.in_ok-column.ensures.modulus ∙ c.modulus.ensures.value ∙ c.self.invariant.0.right_modulus ∙ ap (λ (q : Preparation). q.modulus) c.self.view_is
+    IfOk-weaker c.column_of.result _ _ (λ column same. same ∙ c.modulus.ensures.value ∙ c.self.invariant.0.right_modulus ∙ ap (λ (q : Preparation). q.modulus) c.self.view_is)
+    c.column_of.ensures.modulus
 
 pub returns-clause-height : goal.returns-clause-height
 returns-clause-height c =
     let fit = c.self.invariant.0 in
     let whole = with_items_is c.in_ok-x.x c.reduce.new.x (c.reduce.ensures.vector.len ∙ fit.null_width ∙ sym c.in_ok-x.ensures.vector.len ∙ sym c.in_ok-x.x.ok.0) in
-    c.in_ok-column.ensures.height ∙ ap length (c.deref-4.ensures.value ∙ whole) ∙ c.reduce.ensures.vector.len ∙ fit.null_width ∙ ap (λ (q : Preparation). q.width) c.self.view_is
+    IfOk-weaker c.column_of.result _ _
+    (λ column high. high ∙ ap length (c.deref-4.ensures.value ∙ whole) ∙ c.reduce.ensures.vector.len ∙ fit.null_width ∙ ap (λ (q : Preparation). q.width) c.self.view_is)
+    c.column_of.ensures.height
 
 pub returns-clause-solution : goal.returns-clause-solution
-returns-clause-solution c = λ p A prime m prepared solvable.
+returns-clause-solution c =
     let s = c.self.inside in
     let L : ResidueMatrix = s.left in
     let U : ResidueMatrix = s.right in
@@ -87,6 +91,6 @@ returns-clause-solution c = λ p A prime m prepared solvable.
     (subst (λ side. IsUpper U.modulus U.matrix c.items-pivots.result.now c.deref-2.result.now → (k : ℕ) → k < length c.items-pivots.result.now → dot U.modulus U.matrix.width (row U.matrix k) x ≡ slice_index side k)
     c.deref-3.ensures.value c.in_ok-x.ensures.solves)) in
     let reduces = subst (λ old. (A : Matrix) (b : List ℕ) → IsKernel N.modulus A N.matrix → IsSolution N.modulus A b old → IsReducedSolution N.modulus A b y) c.as_mut_slice.ensures.value c.reduce.ensures.reduced in
-    subst (IsReducedSolution p A b) (sym (c.in_ok-column.ensures.entries ∙ all))
+    IfOk-weaker c.column_of.result _ _ (λ column entries p A prime m prepared solvable. subst (IsReducedSolution p A b) (sym (entries ∙ all))
     (solution_holds s.pivots L U N s.relations fit c.self.invariant.1 c.self.invariant.2 vb c.in_ok-z.ensures.vector at c.in_ok-x.ensures.vector above reduces p A prime m
-    (subst (IsPreparedFor p A) (sym c.self.view_is) prepared) solvable)
+    (subst (IsPreparedFor p A) (sym c.self.view_is) prepared) solvable)) c.column_of.ensures.entries
