@@ -11,13 +11,15 @@ use Rattle.row_space.proofs.Exists.{rref_of_each}
 use Rattle.row_space.proofs.Rows.{rank_of_independent}
 use Rattle.row_space.proofs.Spans.{places_independent, same_span_chained, same_span_of_rows}
 use Rattle.sparse_rows.specs.Rows.{ResidueMatrix, above}
+use Rattle.weight_order.specs.Turned.{HasFilledRows}
+use Rattle.weight_order.proofs.Turning.{turned_few, turned_matrix, turned_span, turned_width}
 use Rattle.pivot_table.specs.Order.{Triangular}
 use Rattle.triangular_solve.specs.Triangle.{TriangleState}
 use Rattle.dense_finish.specs.Factors.{IsRightFactored}
 use Rattle.dense_finish.specs.declared.right_factor.RightFactor.{RightFactor}
 use Rattle.echelon_form.specs.Form.{Form, IsFormOf}
 use Rattle.schur_rows.specs.Parts.{IsPartTo}
-use Rattle.schur_rows.specs.RestBasis.{IsBasisOf, IsBasisUpTo, IsFullFor, IsInColumns, IsRestBasis}
+use Rattle.schur_rows.specs.RestBasis.{IsBasisOf, IsBasisOfBoth, IsBasisUpTo, IsFullFor, IsInColumns, IsRestBasis}
 use Rattle.schur_rows.specs.declared.round.SchurRows.{SchurRows}
 use Rattle.schur_rows.proofs.Above.{above_first, above_matrix, above_second, each_of}
 use Rattle.schur_rows.proofs.FactorRows.{factor_rows_independent, factor_rows_span, fit_few}
@@ -103,7 +105,7 @@ without_coefficients {t} {with_coefficients} {from} {to} {s} h = (
 )
 
 -- the right factor is a basis
-pub basis_factored : {A : ResidueMatrix} {f : RightFactor} → IsMatrix A.modulus A.matrix → IsRightFactored A.modulus A.matrix f → IsBasisOf A f.u
+basis_factored : {A : ResidueMatrix} {f : RightFactor} → IsMatrix A.modulus A.matrix → IsRightFactored A.modulus A.matrix f → IsBasisOf A f.u
 basis_factored {A} {f} m factored = let h = factored.1 in record {
   modulus = h.right_modulus;
   matrix = h.fit.right;
@@ -143,47 +145,62 @@ module _ {A U : ResidueMatrix} {f : Form} (m : IsMatrix A.modulus A.matrix) (h :
     span = λ prime v. ((λ y. y), (λ y. y));
   }
 
-pub span_itself : (p : ℕ) (A : Matrix) → SameSpan p A A
-span_itself p A = λ v. ((λ y. y), (λ y. y))
+-- a basis of rows that stand above each other is one of both
+both_told : (A B S U : ResidueMatrix) → S.modulus ≡ A.modulus → S.matrix ≡ above A.matrix B.matrix → IsBasisOf S U → IsBasisOf (record { modulus = A.modulus; matrix = above A.matrix B.matrix }) U
+both_told A B S U modulus is b =
+    subst (λ M. IsBasisOf (record { modulus = A.modulus; matrix = M }) U) is (subst (λ q. IsBasisOf (record { modulus = q; matrix = S.matrix }) U) modulus b)
 
--- one chunk more below rows Q with the row space of the basis
-module _ {t : TriangleState} {from to : ℕ} {old Q : ResidueMatrix} {left : SchurRows} (h : IsBasisUpTo t from old) (g : IsPartTo t false from to left) (modulus : Q.modulus ≡ t.rows.modulus) (mq : IsMatrix t.rows.modulus Q.matrix)
-    (wide : Q.matrix.width ≡ t.rows.matrix.width) (few : Q.matrix.height ≤ from) (span : IsPrime t.rows.modulus → SameSpan t.rows.modulus old.matrix Q.matrix) where
-  abbrev p : ℕ
-  p = t.rows.modulus
+-- by a right factor
+pub both_factored : (A B S : ResidueMatrix) {f : RightFactor} → B.matrix.width ≡ A.matrix.width → S.modulus ≡ A.modulus → S.matrix ≡ above A.matrix B.matrix → IsRightFactored S.modulus S.matrix f → IsBasisOfBoth A B f.u
+both_factored A B S {f} wide modulus is factored ma mb =
+    let sound : IsMatrix S.modulus S.matrix =
+    subst (λ M. IsMatrix S.modulus M) (sym is) (subst (λ q. IsMatrix q (above A.matrix B.matrix)) (sym modulus) (above_matrix ma mb wide)) in
+    both_told A B S f.u modulus is (basis_factored sound factored)
 
-  pub both_sound : {both : ResidueMatrix} → both.modulus ≡ Q.modulus → both.matrix ≡ above Q.matrix left.rows.matrix → IsMatrix both.modulus both.matrix
-  both_sound {both} stacked is =
-      subst (λ M. IsMatrix both.modulus M) (sym is) (subst (λ q. IsMatrix q (above Q.matrix left.rows.matrix)) (sym (stacked ∙ modulus)) (above_matrix mq g.0.rest (g.0.width ∙ sym wide)))
+-- by rows T with the row space of A
+pub both_turned : (A B T S U : ResidueMatrix) → HasFilledRows A T → B.matrix.width ≡ A.matrix.width → S.modulus ≡ T.modulus → S.matrix ≡ above T.matrix B.matrix → IsBasisOf S U → IsBasisOfBoth A B U
+both_turned A B T S U turned wide modulus is found ma mb =
+    let p : ℕ = A.modulus in
+    let b : IsBasisOf (record { modulus = p; matrix = above T.matrix B.matrix }) U =
+    subst (λ q. IsBasisOf (record { modulus = q; matrix = above T.matrix B.matrix }) U) turned.modulus (both_told T B S U modulus is found) in
+    record {
+      modulus = b.modulus;
+      matrix = b.matrix;
+      width = b.width ∙ turned_width turned;
+      height = omega (arith, b.height, turned_few turned);
+      independent = b.independent;
+      span = λ prime. same_span_chained p (above A.matrix B.matrix) (above T.matrix B.matrix) U.matrix
+          (below_same prime.two_or_more ma (turned_matrix turned) mb (turned_width turned) wide (turned_span turned prime)) (b.span prime);
+    }
 
-  both : SchurRows
-  both = record {
-    rows = record { modulus = h.part.rows.modulus; matrix = above h.part.rows.matrix left.rows.matrix };
-    coefficients = record { modulus = h.part.coefficients.modulus; matrix = above h.part.coefficients.matrix left.coefficients.matrix };
-  }
-
-  whole : {next : ResidueMatrix} → IsBasisOf (record { modulus = p; matrix = above Q.matrix left.rows.matrix }) next → IsBasisUpTo t to next
-  unfolding both
-  whole {next} b = record {
-    modulus = b.modulus;
-    matrix = b.matrix;
-    width = b.width ∙ wide;
-    height = omega (arith, b.height, few, g.0.height, g.1);
-    part = both;
-    is_part = (
-      part_join t false 0 from h.part left both h.is_part.0 g.0 h.is_part.1 (record { modulus = refl; rows = refl; coefficient_modulus = refl; coefficients = refl }),
-      omega (arith, h.is_part.1, g.1),
-    );
-    independent = b.independent;
-    span = λ prime. same_span_chained p (above h.part.rows.matrix left.rows.matrix) (above Q.matrix left.rows.matrix) next.matrix
-        (below_same prime.two_or_more h.is_part.0.rest mq g.0.rest (wide ∙ sym h.is_part.0.width) (g.0.width ∙ sym h.is_part.0.width)
-        (same_span_chained p h.part.rows.matrix old.matrix Q.matrix (h.span prime) (span prime)))
-        (b.span prime);
-  }
-
-  pub basis_more : {both next : ResidueMatrix} → both.modulus ≡ Q.modulus → both.matrix ≡ above Q.matrix left.rows.matrix → IsBasisOf both next → IsBasisUpTo t to next
-  basis_more {both} {next} stacked is b =
-      whole (subst (λ M. IsBasisOf (record { modulus = p; matrix = M }) next) is (subst (λ q. IsBasisOf (record { modulus = q; matrix = both.matrix }) next) (stacked ∙ modulus) b))
+-- one chunk more
+pub basis_more : {t : TriangleState} {from to : ℕ} {old next : ResidueMatrix} {left : SchurRows} → IsBasisUpTo t from old → IsPartTo t false from to left → IsBasisOfBoth old left.rows next → IsBasisUpTo t to next
+basis_more {t} {from} {to} {old} {next} {left} h g found =
+    let p : ℕ = t.rows.modulus in
+    let P : Matrix = h.part.rows.matrix in
+    let L : Matrix = left.rows.matrix in
+    let both : SchurRows = record {
+      rows = record { modulus = h.part.rows.modulus; matrix = above P L };
+      coefficients = record { modulus = h.part.coefficients.modulus; matrix = above h.part.coefficients.matrix left.coefficients.matrix };
+    } in
+    let b : IsBasisOf (record { modulus = p; matrix = above old.matrix L }) next =
+    subst (λ q. IsBasisOf (record { modulus = q; matrix = above old.matrix L }) next) h.modulus
+    (found (subst (λ q. IsMatrix q old.matrix) (sym h.modulus) h.matrix) (subst (λ q. IsMatrix q L) (sym h.modulus) g.0.rest)) in
+    record {
+      modulus = b.modulus;
+      matrix = b.matrix;
+      width = b.width ∙ h.width;
+      height = omega (arith, b.height, h.height, g.0.height, g.1);
+      part = both;
+      is_part = (
+        part_join t false 0 from h.part left both h.is_part.0 g.0 h.is_part.1 (record { modulus = refl; rows = refl; coefficient_modulus = refl; coefficients = refl }),
+        omega (arith, h.is_part.1, g.1),
+      );
+      independent = b.independent;
+      span = λ prime. same_span_chained p (above P L) (above old.matrix L) next.matrix
+          (below_same prime.two_or_more h.is_part.0.rest h.matrix g.0.rest (h.width ∙ sym h.is_part.0.width) (g.0.width ∙ sym h.is_part.0.width) (h.span prime))
+          (b.span prime);
+    }
 
 -- a chunk whose entries stand in columns that the basis fills
 pub basis_kept : {t : TriangleState} {from to : ℕ} {old : ResidueMatrix} {left : SchurRows} → IsBasisUpTo t from old → IsPartTo t false from to left → IsFullFor left.rows.matrix old.matrix → IsBasisUpTo t to old

@@ -5,7 +5,7 @@ use Rattle.residue_words.specs.Matrix.{Matrix, IsMatrix, entry, row}
 use Rattle.residue_words.specs.declared.plain.Pair.{Pair}
 use Rattle.row_space.specs.Echelon.{IsIndependent, SameSpan}
 use Rattle.row_space.specs.Factors.{col_at}
-use Rattle.sparse_rows.specs.Rows.{ResidueMatrix}
+use Rattle.sparse_rows.specs.Rows.{ResidueMatrix, above}
 use Rattle.triangular_solve.specs.Reduced.{IsComplement}
 use Rattle.triangular_solve.specs.Triangle.{TriangleState}
 use Rattle.schur_rows.specs.Parts.{IsPartTo}
@@ -33,6 +33,11 @@ pub record IsBasisOf (A U : ResidueMatrix) : Type 0 where
   pub height : U.matrix.height ≤ A.matrix.height
   pub independent : IsPrime A.modulus → IsIndependent A.modulus U.matrix
   pub span : IsPrime A.modulus → SameSpan A.modulus A.matrix U.matrix
+
+-- the same of the rows of A and those of B below them, if both are residues
+abbrev pub IsBasisOfBoth : ResidueMatrix → ResidueMatrix → ResidueMatrix → Type 0
+IsBasisOfBoth A B U = IsMatrix A.modulus A.matrix → IsMatrix A.modulus B.matrix →
+    IsBasisOf (record { modulus = A.modulus; matrix = above A.matrix B.matrix }) U
 
 -- the same for what is left of the rows up to `to`
 pub record IsBasisUpTo (t : TriangleState) (to : ℕ) (U : ResidueMatrix) : Type 0 where

@@ -3,7 +3,7 @@ ghost use Rattle.std.specs.Prelude.{◌≡◌, ◌<◌, ◌≤◌, ◌↔◌, �
 ghost use Rattle.sparse_rows.specs.declared.rows.TheConstants.{LARGEST_SIZE};
 ghost use Rattle.sparse_rows.specs.Rows.{AreRising, above};
 ghost use Rattle.schur_rows.specs.PivotNumbers.{HasNumbers};
-ghost use Rattle.schur_rows.specs.RestBasis.{IsBasisOf, IsBasisWith, IsFullFor, IsRestBasis, HasColumnsLeft};
+ghost use Rattle.schur_rows.specs.RestBasis.{IsBasisOf, IsBasisOfBoth, IsBasisWith, IsFullFor, IsRestBasis, HasColumnsLeft};
 
 use crate::chunk_size::{CHUNK, ChunkSize, lacks_few};
 use crate::dealing::Dealing;
@@ -169,19 +169,53 @@ fn basis_with<C: Finishing>(
     requires height { basis.matrix.height + left.rows.matrix.height ≤ LARGEST_SIZE }
     ensures { IfOk result (IsBasisWith left basis) }
 {
-    let SchurRows { rows: below, .. } = left;
+    let below = left.into_rows();
     let full = is_full_for(alloc, &below, &basis)?;
     if full {
         return Ok(basis);
     }
-    if lacks_few(basis.height(), basis.occupied(alloc)?.len()) {
-        // From the last to the first, so that each is reduced by rows that are.
-        let turned = last_first(alloc, &basis)?;
-        drop(basis);
-        let both = stacked(turned, below)?;
-        let next = reduced_basis(alloc, both)?;
-        return Ok(next);
+    let nearly = is_nearly_full(alloc, &basis)?;
+    if nearly {
+        return by_form(alloc, basis, below);
     }
+    by_factors(crew, alloc, basis, below, workers)
+}
+
+// Whether independent rows are nearly as many as the columns in which they have an entry.
+fn is_nearly_full(alloc: Global, basis: &Rows) -> Result<bool, AllocError> {
+    let columns = basis.occupied(alloc)?;
+    Ok(lacks_few(basis.height(), columns.len()))
+}
+
+// A basis of the rows of two matrices by their reduced echelon form.
+fn by_form(alloc: Global, basis: Rows, below: Rows) -> Result<Rows, AllocError>
+    requires modulus { below.modulus ≡ basis.modulus }
+    requires width { below.matrix.width ≡ basis.matrix.width }
+    requires height { basis.matrix.height + below.matrix.height ≤ LARGEST_SIZE }
+    ensures { IfOk result (IsBasisOfBoth basis below) }
+{
+    // From the last to the first, so that each is reduced by rows that are.
+    let turned = last_first(alloc, &basis)?;
+    drop(basis);
+    let both = stacked(turned, below)?;
+    reduced_basis(alloc, both)
+}
+
+// A basis of the rows of two matrices by a right factor.
+fn by_factors<C: Finishing>(
+    crew: &C,
+    alloc: Global,
+    basis: Rows,
+    below: Rows,
+    workers: u32,
+) -> Result<Rows, AllocError>
+    requires able { C.can_work }
+    requires some { 1 ≤ workers }
+    requires modulus { below.modulus ≡ basis.modulus }
+    requires width { below.matrix.width ≡ basis.matrix.width }
+    requires height { basis.matrix.height + below.matrix.height ≤ LARGEST_SIZE }
+    ensures { IfOk result (IsBasisOfBoth basis below) }
+{
     let both = stacked(basis, below)?;
     let RightFactor { u, .. } = finish_right(crew, alloc, both, workers)?;
     Ok(u)

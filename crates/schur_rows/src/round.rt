@@ -23,6 +23,15 @@ pub struct SchurRows {
     pub coefficients: Rows,
 }
 
+impl SchurRows {
+    // The rows alone.
+    pub(crate) fn into_rows(self) -> Rows
+        ensures { result ≡ self.rows }
+    {
+        self.rows
+    }
+}
+
 /// The complement with the coefficients, by so many workers, at least one: for a prime modulus the same for every number of them.
 /// For a modulus that is not prime they are some matrices of these sizes.
 ///
@@ -43,8 +52,7 @@ pub fn schur<R: Threads + Sync>(
     triangle.is_sound();
     triangle.rows().is_sound();
     let reducer = RowReducer::by_walks(triangle);
-    let left = left_by(&Threaded::of(rt), alloc, &reducer, workers, true)?;
-    Ok(left)
+    left_by(&Threaded::of(rt), alloc, &reducer, workers, true)
 }
 
 /// The complement alone, by so many workers, at least one, in the way that the reducer has chosen.
@@ -65,6 +73,5 @@ pub fn complement<C: Dealing>(
     reducer.is_sound();
     reducer.rows().is_sound();
     let left = left_by(crew, alloc, reducer, workers, false)?;
-    let SchurRows { rows, .. } = left;
-    Ok(rows)
+    Ok(left.into_rows())
 }

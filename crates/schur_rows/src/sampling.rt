@@ -60,14 +60,14 @@ fn mean_of(
     requires some { 1 ≤ samples }
     requires numbers { HasNumbers reducer.now.pairs pivot_rows.now }
 {
-    let height = u64::from(reducer.rows().height());
+    let height = reducer.rows().height();
     let mut work = reducer.work(alloc)?;
     let mut reduced = reducer.room(alloc);
     let mut sum: u64 = 0;
     for k in 0..samples {
-        let from = (u64::from(k) * height / u64::from(samples)) as u32;
+        let from = begin_of(k, samples, height);
         if let Some(i) = next_without_pivot(reducer, pivot_rows, from) {
-            reduce_row(
+            let entries = entries_left(
                 alloc,
                 reducer,
                 i,
@@ -75,21 +75,28 @@ fn mean_of(
                 &mut work,
                 &mut reduced,
             )?;
-            sum = sum.saturating_add(entries_of(&reduced) as u64);
+            sum = sum.saturating_add(entries as u64);
         }
     }
     Ok(sum / u64::from(samples))
 }
 
-// Makes `reduced` what is left of row i, with its coefficients if they are wanted.
-fn reduce_row(
+// From which row on the k-th of so many samples is taken.
+fn begin_of(k: u32, samples: u32, height: u32) -> u32
+    requires { k < samples }
+{
+    (u64::from(k) * u64::from(height) / u64::from(samples)) as u32
+}
+
+// How many entries are left of row i, and coefficients if they are wanted; they stand in `reduced`.
+fn entries_left(
     alloc: Global,
     reducer: &RowReducer,
     i: u32,
     with_coefficients: bool,
     work: &mut Work,
     reduced: &mut Reduced,
-) -> Result<(), AllocError>
+) -> Result<usize, AllocError>
     requires row { i < reducer.now.rows.matrix.height }
     requires work { work.old ≡ workspace_of reducer.now }
     requires sizes { HasSizesOf reducer.now reduced.old }
@@ -100,9 +107,11 @@ fn reduce_row(
     // The call's contract tells that the entries are residues.
     rows.is_sound();
     if with_coefficients {
-        return reducer.reduce(alloc, rows.cols(i), rows.vals(i), work, reduced);
+        reducer.reduce(alloc, rows.cols(i), rows.vals(i), work, reduced)?;
+    } else {
+        reducer.rest(alloc, rows.cols(i), rows.vals(i), work, &mut reduced.rest)?;
     }
-    reducer.rest(alloc, rows.cols(i), rows.vals(i), work, &mut reduced.rest)
+    Ok(entries_of(reduced))
 }
 
 // How many entries both rows have.

@@ -121,18 +121,34 @@ pub(crate) fn left_by_stages<R: Threads + Sync>(
     // The call's contract tells how high a matrix is.
     deal.pass.reducer.rows().is_sound();
     let mut made = no_rows(alloc, deal.pass, deal.to - deal.from)?;
+    append_stages(rt, alloc, deal, &mut made)?;
+    Ok(made)
+}
+
+// Makes the parts of a deal stage by stage, and puts them below no row.
+fn append_stages<R: Threads + Sync>(
+    rt: &R,
+    alloc: Global,
+    deal: DealtRows,
+    made: &mut SchurRows,
+) -> Result<(), AllocError>
+    requires deal { AreDealtRows deal }
+    requires made { IsPartTo deal.pass.reducer.now deal.pass.with_coefficients
+        deal.from deal.from made.old }
+    ensures { OnOk result (IsPartTo deal.entry.pass.reducer.now deal.entry.pass.with_coefficients
+        deal.entry.from deal.entry.to made.new) }
+{
     let mut parts = Vec::new(alloc);
     let mut joined = 0;
     let mut begun = 0;
     while begun < deal.count {
         let end = deal.count.min(begun.saturating_add(deal.stage));
         let stage = Stage { joined, begun, end };
-        parts = next_stage(rt, alloc, deal, stage, &parts, &mut made)?;
+        parts = next_stage(rt, alloc, deal, stage, &parts, made)?;
         joined = begun;
         begun = end;
     }
-    join_parts(alloc, deal, joined, begun, &parts, &mut made)?;
-    Ok(made)
+    join_parts(alloc, deal, joined, begun, &parts, made)
 }
 
 // Joins the parts of the stage before, while the workers make those of the next.
@@ -198,8 +214,7 @@ fn join_and_go_on(
     let to_come = deal.cut(stage.end).saturating_sub(deal.cut(stage.begun));
     let entries = share_of_rows(&made.rows, made.rows.entries(), to_come);
     made.rows.write_ahead(entries);
-    let own = parts_of_worker(alloc, deal, stage.end, next)?;
-    Ok(own)
+    parts_of_worker(alloc, deal, stage.end, next)
 }
 
 // The parts below `end` that so many workers make.
@@ -252,20 +267,39 @@ fn parts_of_worker(alloc: Global, deal: DealtRows, end: usize, next: &AtomicU64)
     requires end { end ≤ deal.count }
     ensures { IsWorkersShare deal.entry.pass.reducer.now deal.entry result }
 {
-    // The call's contract tells how high a matrix is.
-    deal.pass.reducer.rows().is_sound();
     let mut work = deal.pass.reducer.work(alloc)?;
     let mut parts = Vec::new(alloc);
+    push_parts(alloc, deal, end, next, &mut work, &mut parts)?;
+    Ok(parts)
+}
+
+// Pushes the parts that it takes.
+fn push_parts(
+    alloc: Global,
+    deal: DealtRows,
+    end: usize,
+    next: &AtomicU64,
+    work: &mut Work,
+    parts: &mut Vec<NumberedPart>,
+) -> Result<(), AllocError>
+    requires deal { AreDealtRows deal }
+    requires end { end ≤ deal.count }
+    requires work { work.old ≡ workspace_of deal.pass.reducer.now }
+    requires parts { All (IsNumbered deal.pass.reducer.now deal) parts.old.items }
+    ensures { OnOk result (All (IsNumbered deal.entry.pass.reducer.now deal.entry) parts.new.items) }
+{
+    // The call's contract tells how high a matrix is.
+    deal.pass.reducer.rows().is_sound();
     // No worker can take more.
     for _ in 0..end {
         let number = next.fetch_add(1, Ordering::SeqCst) as usize;
         if number >= end {
-            return Ok(parts);
+            return Ok(());
         }
-        let left = part_by_number(alloc, deal, number, &mut work)?;
+        let left = part_by_number(alloc, deal, number, work)?;
         parts.push(NumberedPart { number, left })?;
     }
-    Ok(parts)
+    Ok(())
 }
 
 // The part of this number.
@@ -336,8 +370,7 @@ fn join_number(
     // The call's contract tells how high a matrix is.
     deal.pass.reducer.rows().is_sound();
     if let Some(part) = part_among(parts, number) {
-        join_below(made, part)?;
-        return Ok(());
+        return join_below(made, part);
     }
     join_missing(alloc, deal, number, made)
 }
@@ -359,8 +392,7 @@ fn join_missing(
     // The call's contract tells how high a matrix is.
     deal.pass.reducer.rows().is_sound();
     let part = part_alone(alloc, deal, number)?;
-    join_below(made, &part)?;
-    Ok(())
+    join_below(made, &part)
 }
 
 // The part of this number, made in room of its own.
@@ -385,6 +417,5 @@ fn join_below(made: &mut SchurRows, part: &SchurRows) -> Result<(), AllocError>
     ensures { OnOk result (Joins part.now made.old made.new) }
 {
     made.rows.append_all(&part.rows)?;
-    made.coefficients.append_all(&part.coefficients)?;
-    Ok(())
+    made.coefficients.append_all(&part.coefficients)
 }

@@ -1,7 +1,7 @@
 use Rattle.std.proofs.Common.{◌∙◌, All, sym, subst}
 use Rattle.std.proofs.lemmas.List.Elements.{All-push}
 use Rattle.schur_rows.specs.Parts.{IsNumbered}
-use Rattle.schur_rows.proofs.workers.parts_of_worker.Goals as goal
+use Rattle.schur_rows.proofs.workers.push_parts.Goals as goal
 
 pub loop-preserved : goal.loop-preserved
 loop-preserved c = record {

@@ -1,6 +1,6 @@
 use Rattle.std.proofs.Common.{◌≤◌, ◌-◌, All}
 use Rattle.schur_rows.specs.Parts.{IsNumbered, IsPartTo, cut_at}
-use Rattle.schur_rows.proofs.workers.left_by_stages.Given as goal
+use Rattle.schur_rows.proofs.workers.append_stages.Given as goal
 
 abbrev pub invariant-loop-begun : goal.invariant-loop-begun
 invariant-loop-begun g l = record {

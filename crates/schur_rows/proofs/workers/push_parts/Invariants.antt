@@ -1,7 +1,7 @@
 use Rattle.std.proofs.Common.{◌≡◌, All}
 use Rattle.triangular_solve.specs.Reduced.{workspace_of}
 use Rattle.schur_rows.specs.Parts.{IsNumbered}
-use Rattle.schur_rows.proofs.workers.parts_of_worker.Given as goal
+use Rattle.schur_rows.proofs.workers.push_parts.Given as goal
 
 abbrev pub invariant-loop : goal.invariant-loop
 invariant-loop l = record {
