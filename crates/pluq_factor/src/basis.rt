@@ -1,8 +1,6 @@
 // Rows that show the row space.
-ghost use Rattle.std.specs.Prelude.{◌≡◌, ◌≤◌, ◌+◌, IfOk};
-ghost use Rattle.sparse_rows.specs.declared.rows.TheConstants.{LARGEST_SIZE};
-ghost use Rattle.sparse_rows.specs.Rows.{above};
-ghost use Rattle.pluq_factor.specs.Basis.{IsBasis};
+ghost use Rattle.std.specs.Prelude.{◌≡◌, ◌≤◌, IfOk};
+ghost use Rattle.pluq_factor.specs.Basis.{IsBasis, IsStacked};
 
 use crate::basis_round::{BasisRound, take_basis_round};
 use crate::eliminating::Eliminating;
@@ -36,8 +34,7 @@ pub fn row_basis<C: Eliminating>(
     ensures { IfOk result (IsBasis rows.now.modulus rows.now.matrix) }
 {
     let turned = last_first(alloc, rows)?;
-    let basis = basis_by(crew, alloc, turned, plan)?;
-    Ok(basis)
+    basis_by(crew, alloc, turned, plan)
 }
 
 // The same in the order in which the rows stand.
@@ -135,27 +132,20 @@ fn basis_from<C: Eliminating>(
 {
     // The call's contract tells how high a matrix is.
     matrix.rows.is_sound();
-    if rounds == 0 {
-        return finished(crew, alloc, matrix, workers);
-    }
-    let Some(round) = take_basis_round(crew, alloc, &matrix, workers)? else {
+    let Some(round) = take_basis_round(crew, alloc, &matrix, workers, rounds)? else {
         return finished(crew, alloc, matrix, workers);
     };
     drop(matrix);
     let BasisRound { top, rest } = round;
     match rest {
-        Rest::Basis(below) => {
-            let whole = with_below(top, &below)?;
-            Ok(whole)
-        }
+        Rest::Basis(below) => with_below(top, &below),
         Rest::Stored(rows) => {
             let rest = Measured::of(alloc, rows)?;
             let more = rounds_behind(&rest, rounds - 1);
             let below = basis_from(crew, alloc, rest, workers, more)?;
             // The call's contract tells that the entries are residues.
             below.is_sound();
-            let basis = with_below(top, &below)?;
-            Ok(basis)
+            with_below(top, &below)
         }
     }
 }
@@ -164,10 +154,7 @@ fn basis_from<C: Eliminating>(
 fn with_below(top: Rows, below: &Rows) -> Result<Rows, AllocError>
     requires modulus { top.modulus ≡ below.now.modulus }
     requires width { top.matrix.width ≡ below.now.matrix.width }
-    ensures modulus { IfOk result (λ rows. rows.modulus ≡ top.modulus) }
-    ensures width { IfOk result (λ rows. rows.matrix.width ≡ top.matrix.width) }
-    ensures stacked { IfOk result (λ rows. top.matrix.height + below.now.matrix.height ≤ LARGEST_SIZE →
-        rows.matrix ≡ above top.matrix below.now.matrix) }
+    ensures { IfOk result (IsStacked top below.now) }
 {
     let mut basis = top;
     if below.height() > LARGEST_SIZE - basis.height() {

@@ -1,5 +1,5 @@
 // A round of a basis of the row space.
-ghost use Rattle.std.specs.Prelude.{◌≤◌, IfOk, IfSome};
+ghost use Rattle.std.specs.Prelude.{◌<◌, ◌≤◌, IfOk, IfSome};
 ghost use Rattle.pluq_factor.specs.RoundPivots.{IsBasisRound};
 
 use crate::eliminating::Eliminating;
@@ -19,41 +19,44 @@ pub(crate) struct BasisRound {
     pub(crate) rest: Rest,
 }
 
-// One round; None if there is no pivot.
+// The next of so many rounds; None if there is none or no pivot.
 pub(crate) fn take_basis_round<C: Eliminating>(
     crew: &C,
     alloc: Global,
     matrix: &Measured,
     workers: u32,
+    rounds: u32,
 ) -> Result<Option<BasisRound>, AllocError>
     requires able { C.can_work }
     requires some { 1 ≤ workers }
-    ensures { IfOk result (λ r. IfSome r (IsBasisRound matrix.now.rows)) }
+    ensures { IfOk result (λ r. IfSome r (λ round. (0 < rounds) × IsBasisRound matrix.now.rows round)) }
 {
-    let triangle = all_pivots(alloc, &matrix.rows)?;
-    if triangle.pairs().is_empty() {
+    if rounds == 0 {
         return Ok(None);
     }
-    let round = basis_round_by(crew, alloc, &triangle, &matrix.occupancy, workers)?;
-    Ok(Some(round))
+    let triangle = all_pivots(alloc, &matrix.rows)?;
+    basis_round_by(crew, alloc, &triangle, &matrix.occupancy, workers)
 }
 
-// The round of these pivots of a matrix of this occupancy.
+// The round of these pivots of a matrix of this occupancy; None if there are none.
 fn basis_round_by<C: Eliminating>(
     crew: &C,
     alloc: Global,
     triangle: &Triangle,
     occupancy: &Occupancy,
     workers: u32,
-) -> Result<BasisRound, AllocError>
+) -> Result<Option<BasisRound>, AllocError>
     requires able { C.can_work }
     requires some { 1 ≤ workers }
-    ensures { IfOk result (IsBasisRound triangle.now.rows) }
+    ensures { IfOk result (λ r. IfSome r (IsBasisRound triangle.now.rows)) }
 {
     // The calls' contracts tell that the entries are residues, and that the pivots are triangular.
     triangle.rows().is_sound();
     triangle.is_sound();
+    if triangle.pairs().is_empty() {
+        return Ok(None);
+    }
     let rest = Rest::of(crew, alloc, triangle, occupancy, workers)?;
     let top = rows_at_pivots(alloc, triangle)?;
-    Ok(BasisRound { top, rest })
+    Ok(Some(BasisRound { top, rest }))
 }

@@ -1,7 +1,8 @@
 // Factors by rounds.
-ghost use Rattle.std.specs.Prelude.{◌≡◌, ◌≤◌, ◌++◌, IfOk};
+ghost use Rattle.std.specs.Prelude.{◌≡◌, ◌≤◌, ◌+◌, ◌++◌, IfOk};
 ghost use Rattle.residue_words.specs.Residues.{IsPrime};
 ghost use Rattle.sparse_rows.specs.declared.rows.TheConstants.{LARGEST_SIZE};
+ghost use Rattle.sparse_rows.specs.Rows.{above};
 ghost use Rattle.pluq_factor.specs.Joined.{JoinRound, EmptyWhereMany, FitsRoundAbove, JoinsWhereFew, pivot_count, top_of};
 ghost use Rattle.pluq_factor.specs.Rounds.{AreFactorsOf, AreWithoutPivots};
 ghost use Rattle.pluq_factor.specs.Staged.{Staged};
@@ -35,8 +36,7 @@ pub fn factor<R: Threads + Sync, G: Gate>(
         Staged rows.now.modulus rows.now.matrix plan.workers plan.rounds f.pivots) }
 {
     let copy = rows.copy(alloc)?;
-    let factors = factor_from(rt, alloc, copy, plan.workers, plan.rounds, gate)?;
-    Ok(factors)
+    factor_from(rt, alloc, copy, plan.workers, plan.rounds, gate)
 }
 
 // Factors of the matrix by so many rounds and the finish. It is given up before the next round begins.
@@ -53,21 +53,13 @@ fn factor_from<R: Threads + Sync, G: Gate>(
     ensures staged { IfOk result (λ f. IsPrime rows.modulus →
         Staged rows.modulus rows.matrix workers rounds f.pivots) }
 {
-    // The call's contract tells that the entries are residues.
-    rows.is_sound();
-    if rounds == 0 {
-        let factors = finish(rt, alloc, &rows, workers)?;
-        return Ok(factors);
-    }
-    let Some(round) = take_round(rt, alloc, &rows, workers, gate)? else {
-        let factors = finish(rt, alloc, &rows, workers)?;
-        return Ok(factors);
+    let Some(round) = take_round(rt, alloc, &rows, workers, rounds, gate)? else {
+        return finish(rt, alloc, &rows, workers);
     };
     drop(rows);
     let (top, rest) = parted(round);
     let below = factor_from(rt, alloc, rest, workers, rounds - 1, gate)?;
-    let factors = with_below(alloc, top, &below)?;
-    Ok(factors)
+    with_below(alloc, top, &below)
 }
 
 // What a round gives the factors, and what it leaves.
@@ -89,8 +81,7 @@ fn parted(round: RoundPivots) -> (Top, Rows)
 // modulus excludes.
 fn with_below(alloc: Global, top: Top, below: &Factors) -> Result<Factors, AllocError>
     requires { FitsRoundAbove top below.now }
-    ensures joined { IfOk result (JoinsWhereFew top below.now) }
-    ensures without { IfOk result (EmptyWhereMany top below.now) }
+    ensures { IfOk result (λ f. JoinsWhereFew top below.now f × EmptyWhereMany top below.now f) }
 {
     let height = top.coefficients.height();
     if top.pivots.items().len() + below.pivots.items().len() > height as usize {
@@ -133,7 +124,19 @@ fn join(alloc: Global, top: Top, below: &Factors) -> Result<Factors, AllocError>
 {
     let pivots = both(alloc, top.pivots.items(), below.pivots.items())?;
     let l = top.coefficients.beside(alloc, &below.l)?;
-    let Top { rows: mut u, .. } = top;
-    u.append_all(&below.u)?;
+    let u = stacked(top, &below.u)?;
     Ok(Factors { pivots, l, u })
+}
+
+// The rows of a round's pivots with those of the rounds below.
+fn stacked(top: Top, below: &Rows) -> Result<Rows, AllocError>
+    requires modulus { top.rows.modulus ≡ below.now.modulus }
+    requires width { top.rows.matrix.width ≡ below.now.matrix.width }
+    requires height { top.rows.matrix.height + below.now.matrix.height ≤ LARGEST_SIZE }
+    ensures modulus { IfOk result (λ u. u.modulus ≡ top.rows.modulus) }
+    ensures matrix { IfOk result (λ u. u.matrix ≡ above top.rows.matrix below.now.matrix) }
+{
+    let Top { mut rows, .. } = top;
+    rows.append_all(below)?;
+    Ok(rows)
 }

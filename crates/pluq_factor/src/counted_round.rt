@@ -30,33 +30,32 @@ pub(crate) fn count_round<C: Eliminating>(
     ensures { IfOk result (λ r. IfSome r (IsCountedRound matrix.now.rows)) }
 {
     let pivots = few_pivots(alloc, &matrix.rows, searches)?;
-    if pivots.triangle.pairs().is_empty() {
-        return Ok(None);
-    }
-    let round = counted_by(crew, alloc, &pivots, &matrix.occupancy, workers)?;
-    Ok(Some(round))
+    counted_by(crew, alloc, &pivots, &matrix.occupancy, workers)
 }
 
-// The round of these pivots of a matrix of this occupancy.
+// The round of these pivots of a matrix of this occupancy; None if there are none.
 fn counted_by<C: Eliminating>(
     crew: &C,
     alloc: Global,
     pivots: &FewPivots,
     occupancy: &Occupancy,
     workers: u32,
-) -> Result<CountedRound, AllocError>
+) -> Result<Option<CountedRound>, AllocError>
     requires able { C.can_work }
     requires some { 1 ≤ workers }
-    ensures { IfOk result (IsCountedRound pivots.now.triangle.rows) }
+    ensures { IfOk result (λ r. IfSome r (IsCountedRound pivots.now.triangle.rows)) }
 {
     // The calls' contracts tell that the entries are residues, and that the pivots are triangular.
     pivots.triangle.rows().is_sound();
     pivots.triangle.is_sound();
+    if pivots.triangle.pairs().is_empty() {
+        return Ok(None);
+    }
     let count = pivots.triangle.pairs().len() as u32;
     let rest = Rest::of(crew, alloc, &pivots.triangle, occupancy, workers)?;
-    Ok(CountedRound {
+    Ok(Some(CountedRound {
         count,
         rest,
         searches: pivots.searches,
-    })
+    }))
 }

@@ -29,14 +29,12 @@ pub fn form<C: Eliminating>(
     ensures { IfOk result (IsFormOf rows.now.modulus rows.now.matrix) }
 {
     if plan.rounds == 0 && !is_block(&Occupancy::of(alloc, rows)?) {
-        let form = Echelon::made_by(crew, alloc, rows, plan.workers)?;
-        return Ok(form);
+        return Echelon::made_by(crew, alloc, rows, plan.workers);
     }
     let basis = row_basis(crew, alloc, rows, plan)?;
     let turned = last_first(alloc, &basis)?;
     drop(basis);
-    let form = Echelon::made_by(crew, alloc, &turned, plan.workers)?;
-    Ok(form)
+    Echelon::made_by(crew, alloc, &turned, plan.workers)
 }
 
 /// The reduced row echelon form of rows that stand as rounds or factors give them, by so many workers, at least one. For a modulus
@@ -55,6 +53,5 @@ pub fn form_of_basis<C: Settling>(
     ensures { IfOk result (IsFormOf basis.now.modulus basis.now.matrix) }
 {
     let turned = last_first(alloc, basis)?;
-    let form = Echelon::made_by(crew, alloc, &turned, workers)?;
-    Ok(form)
+    Echelon::made_by(crew, alloc, &turned, workers)
 }

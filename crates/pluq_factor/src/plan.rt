@@ -1,5 +1,5 @@
 // How a matrix is taken apart.
-ghost use Rattle.std.specs.Prelude.{◌≡◌, ◌≤◌, length, map, IfOk};
+ghost use Rattle.std.specs.Prelude.{◌≡◌, ◌≤◌, ◌⊎◌, length, map, IfOk};
 ghost use Rattle.pluq_factor.specs.RoundPivots.{AreSelected};
 
 use fl_pivots::leftmost;
@@ -43,11 +43,19 @@ pub(crate) fn select_pivots<'a, R: Threads + Sync, G: Gate>(
         return Ok(found);
     }
     let of_one = found_by(rt, alloc, rows, 1, gate)?;
-    if leaves_more(alloc, &found, &of_one)? {
-        Ok(of_one)
-    } else {
-        Ok(found)
-    }
+    better_of(alloc, found, of_one)
+}
+
+// Of two lists of pivots the one that leaves less by samples, or the first.
+fn better_of<'a>(
+    alloc: Global,
+    first: Triangle<'a>,
+    second: Triangle<'a>,
+) -> Result<Triangle<'a>, AllocError>
+    ensures { IfOk result (λ better. (better ≡ first.entry) ⊎ (better ≡ second.entry)) }
+{
+    let worse = leaves_more(alloc, &first, &second)?;
+    if worse { Ok(second) } else { Ok(first) }
 }
 
 // The pivots that so many workers find.

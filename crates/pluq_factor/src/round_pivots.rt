@@ -1,8 +1,9 @@
 // What one round takes out of a matrix.
-ghost use Rattle.std.specs.Prelude.{◌≡◌, ◌≤◌, [], IfOk};
+ghost use Rattle.std.specs.Prelude.{◌≡◌, ◌<◌, ◌≤◌, [], IfOk};
 ghost use Rattle.std.specs.Option.{MatchOption};
 ghost use Rattle.pivot_table.specs.Selected.{Selected};
 ghost use Rattle.pluq_factor.specs.RoundPivots.{IsRoundTaken};
+ghost use Rattle.pluq_factor.specs.Staged.{AreAnyStaged};
 ghost use Rattle.schur_rows.specs.Round.{pivot_rows};
 
 use crate::plan::{rows_of, select_pivots};
@@ -30,43 +31,49 @@ pub(crate) struct Top {
     pub(crate) coefficients: Rows,
 }
 
-// One round with the coefficients; None where there is no pivot.
+// The next of so many rounds, with the coefficients; None where there is none or no pivot.
 pub(crate) fn take_round<R: Threads + Sync, G: Gate>(
     rt: &R,
     alloc: Global,
     rows: &Rows,
     workers: u32,
+    rounds: u32,
     gate: &G,
 ) -> Result<Option<RoundPivots>, AllocError>
     requires some { 1 ≤ workers }
-    ensures { IfOk result (λ r. MatchOption r (Selected rows.now.matrix workers [])
-        (IsRoundTaken rows.now workers)) }
+    ensures { IfOk result (λ r. MatchOption r (AreAnyStaged rows.now workers rounds)
+        (λ round. (0 < rounds) × IsRoundTaken rows.now workers round)) }
 {
-    let triangle = select_pivots(rt, alloc, rows, workers, gate)?;
-    if triangle.pairs().is_empty() {
+    // The call's contract tells that the entries are residues.
+    rows.is_sound();
+    if rounds == 0 {
         return Ok(None);
     }
-    let round = round_by(rt, alloc, &triangle, workers)?;
-    Ok(Some(round))
+    let triangle = select_pivots(rt, alloc, rows, workers, gate)?;
+    round_by(rt, alloc, &triangle, workers)
 }
 
-// What these pivots take out, with the coefficients.
+// What these pivots take out, with the coefficients; None where there are none.
 fn round_by<R: Threads + Sync>(
     rt: &R,
     alloc: Global,
     triangle: &Triangle,
     workers: u32,
-) -> Result<RoundPivots, AllocError>
+) -> Result<Option<RoundPivots>, AllocError>
     requires some { 1 ≤ workers }
     requires selected { Selected triangle.now.rows.matrix workers triangle.now.pairs }
-    ensures { IfOk result (IsRoundTaken triangle.now.rows workers) }
+    ensures { IfOk result (λ r. MatchOption r (Selected triangle.now.rows.matrix workers [])
+        (IsRoundTaken triangle.now.rows workers)) }
 {
     // The call's contract tells that the entries are residues.
     triangle.rows().is_sound();
+    if triangle.pairs().is_empty() {
+        return Ok(None);
+    }
     let left = schur(rt, alloc, triangle, workers)?;
     let top = rows_at_pivots(alloc, triangle)?;
     let pivots = listed(alloc, triangle.pairs())?;
-    Ok(RoundPivots { pivots, top, left })
+    Ok(Some(RoundPivots { pivots, top, left }))
 }
 
 // The rows of the pivots, in their order.

@@ -5,4 +5,4 @@ use Rattle.pluq_factor.proofs.counted_round.counted_by.Goals as goal
 
 pub overflow_cast-count : goal.overflow_cast-count
 overflow_cast-count g c =
-    omega (arith, triangular_short c.pairs.ensures.triangular, ap length c.pairs.ensures.pairs, ap (λ (R : ResidueMatrix). R.matrix.height) c.rows.ensures, c.is_sound.ensures.height)
+    omega (arith, triangular_short c.pairs-2.ensures.triangular, ap length c.pairs-2.ensures.pairs, ap (λ (R : ResidueMatrix). R.matrix.height) c.rows.ensures, c.is_sound.ensures.height)
