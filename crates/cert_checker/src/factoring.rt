@@ -1,6 +1,8 @@
 // Whether matrices are factors of a matrix with these pivots.
-ghost use Rattle.std.specs.Prelude.{◌≡◌, ◌↔◌, map, IfOk, IsTrue};
+ghost use Rattle.std.specs.Prelude.{◌≡◌, ◌↔◌, length, map, IfOk, IsTrue};
 ghost use Rattle.row_space.specs.Factors.{AreFactors};
+ghost use Rattle.sparse_rows.specs.Rows.{transposed};
+ghost use Rattle.cert_checker.specs.Diagonal.{EndAt};
 ghost use Rattle.cert_checker.specs.Factoring.{AreOfSizes};
 
 use crate::diagonal::{are_below, are_last};
@@ -31,23 +33,41 @@ pub(crate) fn are_factors(
     if !are_of_sizes(a, pivots.len(), l, u) {
         return Ok(false);
     }
+    let left = end_at_rows(alloc, l, pivots)?;
+    if !left {
+        return Ok(false);
+    }
+    let right = end_at_columns(alloc, u, pivots)?;
+    if !right {
+        return Ok(false);
+    }
+    is_product(alloc, a, l, u)
+}
+
+// Whether the k-th pivot's row of L is there and ends at k, for each k.
+fn end_at_rows(alloc: Global, l: &Rows, pivots: &[Pair]) -> Result<bool, AllocError>
+    requires { l.now.matrix.width ≡ length pivots.now }
+    ensures { IfOk result (λ yes. IsTrue yes ↔ EndAt l.now.matrix (map (λ q. q.row) pivots.now)) }
+{
     let rows = rows_of(alloc, pivots)?;
-    if !are_below(a.height(), &rows) {
+    if !are_below(l.height(), &rows) {
         return Ok(false);
     }
+    Ok(are_last(l, &rows))
+}
+
+// Whether the k-th pivot's column of U is there and ends at k, for each k.
+fn end_at_columns(alloc: Global, u: &Rows, pivots: &[Pair]) -> Result<bool, AllocError>
+    requires { u.now.matrix.height ≡ length pivots.now }
+    ensures { IfOk result (λ yes. IsTrue yes
+        ↔ EndAt (transposed u.now.matrix) (map (λ q. q.col) pivots.now)) }
+{
     let cols = cols_of(alloc, pivots)?;
-    if !are_below(a.width(), &cols) {
-        return Ok(false);
-    }
-    if !are_last(l, &rows) {
+    if !are_below(u.width(), &cols) {
         return Ok(false);
     }
     let columns = u.transpose(alloc)?;
-    if !are_last(&columns, &cols) {
-        return Ok(false);
-    }
-    let product = is_product(alloc, a, l, u)?;
-    Ok(product)
+    Ok(are_last(&columns, &cols))
 }
 
 // Whether the sizes are those of factors of A with this many pivots.

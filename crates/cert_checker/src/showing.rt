@@ -1,8 +1,10 @@
 // Whether a certificate's last matrix shows the echelon form, or the kernel basis.
-ghost use Rattle.std.specs.Prelude.{◌≡◌, ◌≤◌, ◌↔◌, IfOk, IsTrue};
+ghost use Rattle.std.specs.Prelude.{◌≡◌, ◌<◌, ◌≤◌, ◌↔◌, length, All, IfOk, IsTrue};
 ghost use Rattle.row_space.specs.Factors.{ShowsKernel, ShowsRref};
 ghost use Rattle.sparse_rows.specs.declared.rows.TheConstants.{LARGEST_SIZE};
-ghost use Rattle.sparse_rows.specs.Rows.{matrix_by};
+ghost use Rattle.sparse_rows.specs.Rows.{AreBelow, matrix_by, selected, transposed};
+ghost use Rattle.cert_checker.specs.OuterOnes.{AreSingle};
+ghost use Rattle.cert_checker.specs.Product.{IsProduct};
 
 use crate::outer_ones::{Side, are_single, outer_ones};
 use crate::product::is_product;
@@ -27,15 +29,34 @@ pub(crate) fn shows_rref(alloc: Global, u: &Rows, e: &Rows) -> Result<bool, Allo
     let Some(leads) = outer_ones(alloc, e, Side::Left)? else {
         return Ok(false);
     };
-    let columns = e.transpose(alloc)?;
-    if !are_single(&columns, &leads) {
+    let single = are_single_columns(alloc, e, &leads)?;
+    if !single {
         return Ok(false);
     }
-    let u_columns = u.transpose(alloc)?;
-    let leading = u_columns.select(alloc, &leads)?;
-    let at_leads = leading.transpose(alloc)?;
-    let product = is_product(alloc, u, &at_leads, e)?;
-    Ok(product)
+    let at_leads = columns_of(alloc, u, &leads)?;
+    is_product(alloc, u, &at_leads, e)
+}
+
+// Whether each of the columns that are named has one entry alone.
+fn are_single_columns(alloc: Global, e: &Rows, named: &[u32]) -> Result<bool, AllocError>
+    requires { AreBelow e.now.matrix.width named.now }
+    ensures { IfOk result (λ yes. IsTrue yes ↔ AreSingle (transposed e.now.matrix) named.now) }
+{
+    let columns = e.transpose(alloc)?;
+    Ok(are_single(&columns, named))
+}
+
+// The columns that are named, in their order.
+fn columns_of(alloc: Global, u: &Rows, named: &[u32]) -> Result<Rows, AllocError>
+    requires many { length named.now ≤ LARGEST_SIZE }
+    requires inside { All (λ j. j < u.now.matrix.width) named.now }
+    ensures modulus { IfOk result (λ part. part.modulus ≡ u.now.modulus) }
+    ensures matrix { IfOk result (λ part.
+        part.matrix ≡ transposed (selected (transposed u.now.matrix) named.now)) }
+{
+    let columns = u.transpose(alloc)?;
+    let part = columns.select(alloc, named)?;
+    part.transpose(alloc)
 }
 
 // Whether K has the reduced form, as many rows as A's width exceeds the rank, and A times each row of K is 0.
@@ -59,9 +80,18 @@ pub(crate) fn shows_kernel(alloc: Global, a: &Rows, rank: u32, k: &Rows) -> Resu
     if !are_single(&columns, &ends) {
         return Ok(false);
     }
-    let nothing = zero_matrix(alloc, &a.modulus(), a.height(), k.height())?;
-    let product = is_product(alloc, &nothing, a, &columns)?;
-    Ok(product)
+    is_zero_product(alloc, a, &columns)
+}
+
+// Whether the product of two matrices is 0.
+fn is_zero_product(alloc: Global, y: &Rows, b: &Rows) -> Result<bool, AllocError>
+    requires inner { y.now.matrix.width ≡ b.now.matrix.height }
+    requires modulus { y.now.modulus ≡ b.now.modulus }
+    ensures { IfOk result (λ yes. IsTrue yes ↔ IsProduct b.now.modulus
+        (matrix_by y.now.matrix.height b.now.matrix.width (λ i j. 0)) y.now.matrix b.now.matrix) }
+{
+    let nothing = zero_matrix(alloc, &b.modulus(), y.height(), b.width())?;
+    is_product(alloc, &nothing, y, b)
 }
 
 // The matrix of zeros, which takes no memory by its sizes.

@@ -1,5 +1,6 @@
 use Rattle.std.proofs.Common.{ℕ, ◌≡◌, ◌+◌, List, subst, sym, arith, ◌∙◌}
 use Rattle.std.proofs.lemmas.Bool.{false≢true}
+use Rattle.std.proofs.lemmas.Result.{IfOk-weaker}
 use Rattle.residue_words.specs.Matrix.{Matrix, IsMatrix}
 use Rattle.cert_checker.specs.declared.outer_ones.Side.TheVariants.{Right}
 use Rattle.cert_checker.specs.OuterOnes.{AreAlone, AreOuterOnes}
@@ -32,7 +33,8 @@ returns c =
     let ends : List ℕ = c.in-Some.ends.items in
     let ones : AreOuterOnes Right K ends = rw c.in-Some.is at c.in_ok-ends.ensures.some in
     let alone : AreAlone K ends = single_alone m ones (rw (c.in_ok-columns.ensures.matrix, c.deref.ensures.value) at (c.are_single.ensures.0 c.if-not-are_single.false)) in
-    let product = rw (c.in_ok-nothing.ensures.matrix, c.in_ok-columns.ensures.matrix, c.in_ok-columns.ensures.modulus, c.requires, c.height-2.ensures.value, c.height-3.ensures.value) at c.in_ok-product.ensures in (
+    IfOk-weaker c.is_zero_product.result _ _ (λ yes told.
+    let product = rw (c.in_ok-columns.ensures.matrix, c.in_ok-columns.ensures.modulus, c.requires) at told in (
       λ e. kernel_made p A K c.args.rank ends m ones width high alone (product.0 e),
       λ s. product.1 (kernel_product p A K c.args.rank ends m ones width s),
-    )
+    )) c.is_zero_product.ensures

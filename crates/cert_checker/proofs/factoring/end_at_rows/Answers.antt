@@ -1,0 +1,20 @@
+use Rattle.std.proofs.Common.{ap, arith, length, sym, ◌∙◌}
+use Rattle.std.proofs.lemmas.Bool.{false≢true}
+use Rattle.std.proofs.lemmas.List.{length-map}
+use Rattle.residue_words.specs.declared.plain.Pair.{Pair}
+use Rattle.cert_checker.proofs.factoring.end_at_rows.Goals as goal
+
+pub are_last-requires-clause-width : goal.are_last-requires-clause-width
+are_last-requires-clause-width c = omega (arith, c.requires, ap length (c.deref-2.ensures.value ∙ c.in_ok-rows.ensures), length-map c.args.pivots.now (λ (q : Pair). q.row))
+
+pub returns-then-not-are_below : goal.returns-then-not-are_below
+returns-then-not-are_below c = (
+  λ e. absurd (false≢true e),
+  λ h. absurd (false≢true (sym c.if-not-are_below.true ∙ c.are_below.ensures.1 (rw (c.height.ensures.value, c.deref.ensures.value, c.in_ok-rows.ensures) h.0))),
+)
+
+pub returns : goal.returns
+returns c =
+    let below = rw (c.height.ensures.value, c.deref.ensures.value, c.in_ok-rows.ensures) at (c.are_below.ensures.0 c.if-not-are_below.false) in
+    let last = rw (c.deref-2.ensures.value, c.in_ok-rows.ensures) at c.are_last.ensures in
+    (λ e. (below, last.0 e), λ h. last.1 h.1)
