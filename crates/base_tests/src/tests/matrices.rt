@@ -1,20 +1,106 @@
 // Matrices read and written.
-ghost use Rattle.std.specs.Prelude.{◌<◌, ◌≤◌, IfOk};
-ghost use Rattle.sms_text.specs.declared.reader.TheConstants.{LARGEST_INPUT, LARGEST_TEXT_SIZE};
+ghost use Rattle.std.specs.Prelude.{◌≡◌, ◌<◌, ◌≤◌, IfOk, None};
+ghost use Rattle.sms_text.specs.declared.reader.TheConstants.{LARGEST_TEXT_SIZE};
 
+use super::entries::{Entries, lists};
+use super::pieces::Pieces;
 use residue_words::Modulus;
 use sms_text::{
-    Kind, MemorySink, Put, Reader, Sink, SteadySource, TextError, WriteFault, read_rows, write_end,
-    write_entry, write_head, write_rows,
+    Kind, MemorySink, Put, Reader, Sink, TextError, WriteFault, read_rows, write_end, write_entry,
+    write_head, write_rows,
 };
 use sparse_rows::Rows;
-use std::alloc::{AllocError, Global};
-use std::test::Fail;
+use std::alloc::Global;
 
 const READ: &[u8] =
     b"3 3 M\n3 3 1\n1 1 2\n1 2 4\n1 3 1\n2 1 1\n2 2 9\n3 1 3\n3 2 2\n3 2 4\n0 0 0\n3 3";
 
 const WRITTEN: &[u8] = b"3 3 M\n1 1 2\n1 2 4\n1 3 1\n2 1 1\n2 2 2\n3 1 3\n3 2 6\n3 3 1\n0 0 0\n";
+
+// The matrix of a text of at most so many bytes that comes in pieces.
+fn read(
+    alloc: Global,
+    text: &[u8],
+    piece: usize,
+    limit: u32,
+    p: &Modulus,
+) -> Result<Rows, TextError>
+    ensures height { IfOk result (λ rows. rows.matrix.height ≤ LARGEST_TEXT_SIZE) }
+    ensures width { IfOk result (λ rows. rows.matrix.width ≤ LARGEST_TEXT_SIZE) }
+{
+    match Reader::new(alloc, u64::from(limit)) {
+        Ok(mut reader) => read_rows(&mut reader, alloc, &mut Pieces::of(text, piece), p),
+        Err(_) => Err(TextError::Memory),
+    }
+}
+
+// The error where another text is read behind the first.
+fn second_error(alloc: Global, reader: &mut Reader, source: &mut Pieces<'_>) -> Option<TextError>
+    requires { reader.old.open_text ≡ None }
+{
+    let p = Modulus::new(7);
+    match read_rows(reader, alloc, source, &p) {
+        Ok(_) => read_rows(reader, alloc, source, &p).err(),
+        Err(_) => None,
+    }
+}
+
+// Whether what stands behind the text is left for the next call.
+fn leaves_what_is_behind(alloc: Global) -> bool {
+    let bad = TextError::Bad {
+        line: 12,
+        kind: Kind::Words,
+    };
+    match Reader::new(alloc, 99) {
+        Ok(mut reader) => {
+            second_error(alloc, &mut reader, &mut Pieces::of(READ, 5)) == Some(bad)
+        }
+        Err(_) => false,
+    }
+}
+
+// Whether the writing to a sink of memory went well, and whether the sink holds this in the end.
+fn writes(alloc: Global, rows: &Rows, piece: usize, fails: &[u64], wanted: &[u8]) -> (bool, bool)
+    requires piece { 0 < piece }
+    requires height { rows.now.matrix.height ≤ LARGEST_TEXT_SIZE }
+    requires width { rows.now.matrix.width ≤ LARGEST_TEXT_SIZE }
+{
+    let Ok(fails) = Vec::from_slice(alloc, fails) else {
+        return (false, false);
+    };
+    let Ok(mut sink) = MemorySink::new(alloc, 1024, piece, fails) else {
+        return (false, false);
+    };
+    let result = write_rows(&mut sink, rows);
+    (result.is_ok(), sink.content() == wanted)
+}
+
+// Each row: a text, the puts that fail, each of at most 16 bytes, and what the sink holds in the end.
+const TEXTS: &[(&[u8], &[u64], &[u8])] = &[
+    (READ, &[], WRITTEN),
+    (READ, &[1], b""),
+    (READ, &[3], b"3 3 M\n1 1 2\n1 2 4\n1 3 1\n2 1 1\n2 "),
+    (READ, &[5], WRITTEN),
+    (WRITTEN, &[], WRITTEN),
+];
+
+// Whether a text that was read is written so.
+fn is_written(alloc: Global, text: &[u8], fails: &[u64], held: &[u8]) -> bool {
+    match read(alloc, text, 5, 99, &Modulus::new(7)) {
+        Ok(rows) => writes(alloc, &rows, 16, fails, held) == (held.len() == WRITTEN.len(), true),
+        Err(_) => false,
+    }
+}
+
+#[test]
+fn texts_are_read_and_written(rt: HostRuntime) {
+    for (k, (text, fails, held)) in TEXTS.iter().enumerate() {
+        assert!(rt;
+            is_written(rt.alloc(), text, fails, held),
+            "row {k} of the table"
+        );
+    }
+}
 
 // A sink that keeps nothing, but counts the puts, and notes the length of the last one and the least of those before it.
 #[derive(Drop)]
@@ -38,110 +124,30 @@ impl Sink for Lengths {
     }
 }
 
-// The error where another text is read behind this one.
-fn error_behind(alloc: Global, text: &[u8]) -> Result<Option<TextError>, Fail> {
-    let p = Modulus::new(7);
-    let mut source = SteadySource::new(Vec::from_slice(alloc, text)?, 5);
-    let mut reader = Reader::new(alloc, 99)?;
-    if read_rows(&mut reader, alloc, &mut source, &p).is_err() {
-        return Err(Fail::new("not read"));
-    }
-    Ok(read_rows(&mut reader, alloc, &mut source, &p).err())
-}
-
-#[test]
-fn what_stands_behind_a_text_is_left(rt: HostRuntime) -> Result<(), Fail> {
-    let bad = TextError::Bad {
-        line: 12,
-        kind: Kind::Words,
-    };
-    assert_eq!(rt; error_behind(rt.alloc(), READ)?, Some(bad));
-    Ok(())
-}
-
-// The matrix modulo p of a text.
-fn rows_modulo(alloc: Global, text: &[u8], p: &Modulus) -> Result<Rows, Fail>
-    ensures height { IfOk result (λ rows. rows.matrix.height ≤ LARGEST_TEXT_SIZE) }
-    ensures width { IfOk result (λ rows. rows.matrix.width ≤ LARGEST_TEXT_SIZE) }
-{
-    let mut source = SteadySource::new(Vec::from_slice(alloc, text)?, 512);
-    let mut reader = Reader::new(alloc, 1024)?;
-    match read_rows(&mut reader, alloc, &mut source, p) {
-        Ok(rows) => Ok(rows),
-        Err(_) => Err(Fail::new("not read")),
-    }
-}
-
-// The matrix modulo 7 of a text that is read in pieces.
-fn rows_of(alloc: Global, text: &[u8], piece: usize) -> Result<Rows, Fail>
-    requires { 0 < piece }
-    ensures height { IfOk result (λ rows. rows.matrix.height ≤ LARGEST_TEXT_SIZE) }
-    ensures width { IfOk result (λ rows. rows.matrix.width ≤ LARGEST_TEXT_SIZE) }
-{
-    let mut source = SteadySource::new(Vec::from_slice(alloc, text)?, piece);
-    let mut reader = Reader::new(alloc, 99)?;
-    match read_rows(&mut reader, alloc, &mut source, &Modulus::new(7)) {
-        Ok(rows) => Ok(rows),
-        Err(_) => Err(Fail::new("not read")),
-    }
-}
-
-// Whether the writing to a sink of memory went well, and whether the sink holds this in the end.
-fn holds(
-    alloc: Global,
-    rows: &Rows,
-    piece: usize,
-    fails: &[u64],
-    wanted: &[u8],
-) -> Result<(bool, bool), AllocError>
-    requires piece { 0 < piece }
+// Whether a long text is written in blocks.
+fn comes_in_blocks(rows: &Rows) -> bool
     requires height { rows.now.matrix.height ≤ LARGEST_TEXT_SIZE }
     requires width { rows.now.matrix.width ≤ LARGEST_TEXT_SIZE }
 {
-    let fails = Vec::from_slice(alloc, fails)?;
-    let mut sink = MemorySink::new(alloc, 64, piece, fails)?;
-    let result = write_rows(&mut sink, rows);
-    Ok((result.is_ok(), sink.content() == wanted))
-}
-
-#[test]
-fn a_text_is_read_and_written(rt: HostRuntime) -> Result<(), Fail> {
-    let alloc = rt.alloc();
-    let rows = rows_of(alloc, READ, 5)?;
-    // The puts that fail, each of at most 16 bytes, and how many bytes the sink holds in the end.
-    let cases: [(&[u64], usize); 4] = [(&[], 60), (&[1], 0), (&[3], 32), (&[5], 60)];
-    for (fails, held) in cases {
-        let found = holds(alloc, &rows, 16, fails, &WRITTEN[..held])?;
-        assert_eq!(rt; found, (held == 60, true));
-    }
-    Ok(())
-}
-
-#[test]
-fn what_is_written_reads_back(rt: HostRuntime) -> Result<(), Fail> {
-    let alloc = rt.alloc();
-    for text in [READ, WRITTEN] {
-        let rows = rows_of(alloc, text, 9)?;
-        assert_eq!(rt; holds(alloc, &rows, 64, &[], WRITTEN)?, (true, true));
-    }
-    Ok(())
-}
-
-#[test]
-fn a_long_text_is_written_in_blocks(rt: HostRuntime) -> Result<(), Fail> {
-    let rows = Rows::identity(rt.alloc(), 6000, &Modulus::new(7))?;
     let mut sink = Lengths {
         count: 0,
         least: 65536,
         last: 65536,
     };
-    let result = write_rows(&mut sink, &rows);
-    assert_eq!(rt; (result, sink.least > 28672, sink.count), (Ok(()), true, 3));
-    Ok(())
+    let result = write_rows(&mut sink, rows);
+    (result, sink.least > 28672, sink.count) == (Ok(()), true, 3)
+}
+
+// Whether that of the identity is.
+fn identity_comes_in_blocks(alloc: Global) -> bool {
+    match Rows::identity(alloc, 6000, &Modulus::new(7)) {
+        Ok(rows) => comes_in_blocks(&rows),
+        Err(_) => false,
+    }
 }
 
 // Entries whose rows, columns and values have each number of digits, the least numbers and the largest.
-const NUMBERS: [(u32, u32, u64); 22] = [
+const NUMBERS: &[(u32, u32, u64)] = &[
     (1, 1, 1),
     (1, 9, 9),
     (9, 10, 10),
@@ -169,34 +175,45 @@ const NUMBERS: [(u32, u32, u64); 22] = [
 // Their text, each number written by `itoa`.
 fn put_numbers<K: Sink>(out: &mut K) -> Result<(), WriteFault> {
     write_head(out, 2_147_483_647, 2_147_483_647)?;
-    for (i, j, v) in &NUMBERS {
+    for (i, j, v) in NUMBERS {
         write_entry(out, *i, *j, *v)?;
     }
     write_end(out)
 }
 
-// Whether that text, read and written again, is the same.
-fn numbers_are_kept(alloc: Global) -> Result<bool, Fail> {
-    let mut first = MemorySink::new(alloc, 1024, 1024, Vec::new(alloc))?;
-    let mut second = MemorySink::new(alloc, 1024, 1024, Vec::new(alloc))?;
-    let put = put_numbers(&mut first);
-    let rows = rows_modulo(alloc, first.content(), &Modulus::new(281_474_976_710_655))?;
-    let written = write_rows(&mut second, &rows);
-    Ok(put.is_ok() && written.is_ok() && first.content() == second.content())
+// Whether a text, read and written again, is the same.
+fn is_kept(alloc: Global, text: &[u8]) -> bool {
+    match read(alloc, text, 512, 1024, &Modulus::new(281_474_976_710_655)) {
+        Ok(rows) => writes(alloc, &rows, 1024, &[], text) == (true, true),
+        Err(_) => false,
+    }
+}
+
+// Whether the text of those entries is.
+fn numbers_are_kept(alloc: Global) -> bool {
+    match MemorySink::new(alloc, 1024, 1024, Vec::new(alloc)) {
+        Ok(mut sink) => put_numbers(&mut sink).is_ok() && is_kept(alloc, sink.content()),
+        Err(_) => false,
+    }
 }
 
 #[test]
-fn numbers_of_each_length_are_written(rt: HostRuntime) -> Result<(), Fail> {
-    assert_eq!(rt; numbers_are_kept(rt.alloc())?, true);
-    Ok(())
+fn a_second_text_a_long_one_and_long_numbers(rt: HostRuntime) {
+    let alloc = rt.alloc();
+    let found = [
+        leaves_what_is_behind(alloc),
+        identity_comes_in_blocks(alloc),
+        numbers_are_kept(alloc),
+    ];
+    assert_eq!(rt; found, [true, true, true]);
 }
 
 // What a text says modulo 7: its entries, row by row, or the fault of a line.
-type Says = Result<&'static [(u32, u32, u64)], TextError>;
+type Says = Result<Entries, TextError>;
 
 // Each row: a text in which lines that are taken together stand beside such as are read word by word, its limit, and what it says. What
 // stands behind the texts lets the last of their lines be taken so, too.
-const MIXED: [(&[u8], u64, Says); 14] = [
+const MIXED: &[(&[u8], u32, Says)] = &[
     (
         b"2 3 M\n1 1 5\n1 2 -5\n2 3 12\n2 1 7\n2 1 6\n0 0 0\n% behind the text\n",
         99,
@@ -318,36 +335,33 @@ const MIXED: [(&[u8], u64, Says); 14] = [
 ];
 
 // Whether the text says this where it comes in pieces of so many bytes.
-fn says(
-    alloc: Global,
-    text: &[u8],
-    piece: usize,
-    limit: u64,
-    wanted: Says,
-) -> Result<bool, AllocError>
-    requires piece { 0 < piece }
-    requires limit { limit ≤ LARGEST_INPUT }
-{
-    let mut source = SteadySource::new(Vec::from_slice(alloc, text)?, piece);
-    let mut reader = Reader::new(alloc, limit)?;
-    match (
-        read_rows(&mut reader, alloc, &mut source, &Modulus::new(7)),
-        wanted,
-    ) {
-        (Ok(rows), Ok(entries)) => Ok(rows.triples(alloc)?.as_slice() == entries),
-        (Err(found), Err(error)) => Ok(found == error),
-        _ => Ok(false),
+fn says(alloc: Global, text: &[u8], piece: usize, limit: u32, wanted: Says) -> bool {
+    match read(alloc, text, piece, limit, &Modulus::new(7)) {
+        Ok(rows) => match wanted {
+            Ok(entries) => lists(rows.triples(alloc), entries),
+            Err(_) => false,
+        },
+        Err(error) => wanted == Err(error),
     }
 }
 
-#[test]
-fn texts_say_the_same_wherever_they_are_cut(rt: HostRuntime) -> Result<(), Fail> {
-    for (text, limit, wanted) in MIXED {
-        // Each place from the header's end on, or from the first entry's, is cut by pieces of that size.
-        let first = if wanted.is_ok() { 5 } else { 11 };
-        for k in first..text.len() {
-            assert!(rt; says(rt.alloc(), text, k + 1, limit, wanted)?);
-        }
+// Whether it says this wherever it is cut.
+fn says_always(alloc: Global, text: &[u8], limit: u32, wanted: Says) -> bool {
+    // Each place from the header's end on, or from the first entry's, is cut by pieces of that size.
+    let first = if wanted.is_ok() { 6 } else { 12 };
+    let mut always = true;
+    for piece in first..=text.len() {
+        always = always && says(alloc, text, piece, limit, wanted);
     }
-    Ok(())
+    always
+}
+
+#[test]
+fn texts_say_the_same_wherever_they_are_cut(rt: HostRuntime) {
+    for (k, (text, limit, wanted)) in MIXED.iter().enumerate() {
+        assert!(rt;
+            says_always(rt.alloc(), text, *limit, *wanted),
+            "row {k} of the table"
+        );
+    }
 }

@@ -1,15 +1,11 @@
 // Matrices without rows that are multiples of others, modulo 7.
 ghost use Rattle.sparse_rows.specs.declared.rows.TheConstants.{LARGEST_SIZE};
 
+use super::entries::{Entries, built, is_matrix};
 use plain_elimination::{plain_rows, rank_of};
-use residue_words::Modulus;
 use sparse_rows::{LARGEST_SIZE, Rows};
 use std::alloc::{AllocError, Global};
-use std::test::Fail;
 use weight_order::without_multiples;
-
-// Entries by rows.
-type Entries = &'static [(u32, u32, u64)];
 
 const LAST: u32 = LARGEST_SIZE - 1;
 
@@ -88,38 +84,75 @@ const HUGE: Entries = &[
 
 const HUGE_LEFT: Entries = &[(0, 7, 1), (0, LAST, 2), (1, 7, 3), (1, LAST, 5)];
 
-// The matrix of these entries.
-fn matrix(alloc: Global, m: u32, n: u32, entries: &[(u32, u32, u64)]) -> Result<Rows, Fail> {
-    match Rows::checked_from_triples(alloc, m, n, &Modulus::new(7), entries)? {
-        Some(rows) => Ok(rows),
-        None => Err(Fail::new("a place is outside")),
-    }
-}
-
-// Whether this is left of a matrix.
+// Whether these rows are left of a matrix.
 fn leaves(
     alloc: Global,
-    rows: Rows,
+    made: Option<Rows>,
     height: u32,
+    width: u32,
     entries: &[(u32, u32, u64)],
-) -> Result<bool, AllocError> {
-    let width = rows.width();
-    let left = without_multiples(alloc, rows)?;
-    let triples = left.triples(alloc)?;
-    Ok((left.height(), left.width(), triples.as_slice()) == (height, width, entries))
+) -> bool {
+    match made {
+        Some(rows) => is_matrix(
+            alloc,
+            without_multiples(alloc, rows).ok(),
+            height,
+            width,
+            entries,
+        ),
+        None => false,
+    }
 }
 
 // The rank of a matrix by plain elimination.
 fn plain_rank(alloc: Global, rows: &Rows) -> Result<usize, AllocError> {
-    let plain = plain_rows(alloc, rows)?;
-    rank_of(alloc, &rows.modulus(), rows.width() as usize, plain)
+    rank_of(
+        alloc,
+        &rows.modulus(),
+        rows.width() as usize,
+        plain_rows(alloc, rows)?,
+    )
 }
 
-// The rank of a matrix, and that of what is left of it.
-fn ranks(alloc: Global, rows: Rows) -> Result<(usize, usize), AllocError> {
-    let before = plain_rank(alloc, &rows)?;
-    let left = without_multiples(alloc, rows)?;
-    Ok((before, plain_rank(alloc, &left)?))
+// Whether a matrix has this rank.
+fn has_rank(alloc: Global, rows: &Rows, rank: usize) -> bool {
+    plain_rank(alloc, rows) == Ok(rank)
+}
+
+// Whether the rank is this, before and after multiples of rows are left out.
+fn keeps_rank(alloc: Global, made: Option<Rows>, rank: usize) -> bool {
+    match made {
+        Some(rows) => {
+            has_rank(alloc, &rows, rank)
+                && match without_multiples(alloc, rows) {
+                    Ok(left) => has_rank(alloc, &left, rank),
+                    Err(_) => false,
+                }
+        }
+        None => false,
+    }
+}
+
+// Whether what is given leaves what is left, of the same rank.
+fn agrees(alloc: Global, row: &(u32, u32, Entries, u32, Entries, usize)) -> bool {
+    let (m, n, entries, height, left, rank) = *row;
+    [
+        leaves(alloc, built(alloc, m, n, entries), height, n, left),
+        keeps_rank(alloc, built(alloc, m, n, entries), rank),
+    ] == [true, true]
+}
+
+#[test]
+fn multiples_go_and_the_rank_stays(rt: HostRuntime) {
+    for (k, row) in TABLE.iter().enumerate() {
+        assert!(rt; agrees(rt.alloc(), row), "row {k} of the table");
+    }
+}
+
+// Whether few are left of rows at the largest sizes.
+fn huge_ones_go(alloc: Global) -> bool {
+    let rows = built(alloc, LARGEST_SIZE, LARGEST_SIZE, HUGE);
+    leaves(alloc, rows, 2, LARGEST_SIZE, HUGE_LEFT)
 }
 
 // So many rows, each of which is a multiple of the one that stands twenty rows before it.
@@ -134,33 +167,16 @@ fn repeated(alloc: Global, count: u32) -> Result<Vec<(u32, u32, u64)>, AllocErro
     Ok(entries)
 }
 
-#[test]
-fn multiples_go(rt: HostRuntime) -> Result<(), Fail> {
-    let alloc = rt.alloc();
-    for (k, (m, n, entries, height, left, _)) in TABLE.iter().enumerate() {
-        let rows = matrix(alloc, *m, *n, entries)?;
-        assert!(rt; leaves(alloc, rows, *height, left)?, "row {k} of the table");
+// Whether the first twenty are left of them.
+fn many_go(alloc: Global) -> bool {
+    match (repeated(alloc, 200), repeated(alloc, 20)) {
+        (Ok(given), Ok(left)) => leaves(alloc, built(alloc, 200, 30, &given), 20, 30, &left),
+        _ => false,
     }
-    let rows = matrix(alloc, LARGEST_SIZE, LARGEST_SIZE, HUGE)?;
-    assert!(rt; leaves(alloc, rows, 2, HUGE_LEFT)?);
-    Ok(())
 }
 
 #[test]
-fn the_rank_stays(rt: HostRuntime) -> Result<(), Fail> {
+fn huge_and_many_multiples_go(rt: HostRuntime) {
     let alloc = rt.alloc();
-    for (k, (m, n, entries, _, _, rank)) in TABLE.iter().enumerate() {
-        let found = ranks(alloc, matrix(alloc, *m, *n, entries)?)?;
-        assert!(rt; found == (*rank, *rank), "row {k} of the table");
-    }
-    Ok(())
-}
-
-#[test]
-fn many_multiples_go(rt: HostRuntime) -> Result<(), Fail> {
-    let alloc = rt.alloc();
-    let rows = matrix(alloc, 200, 30, &repeated(alloc, 200)?)?;
-    let left = repeated(alloc, 20)?;
-    assert!(rt; leaves(alloc, rows, 20, &left)?);
-    Ok(())
+    assert_eq!(rt; [huge_ones_go(alloc), many_go(alloc)], [true, true]);
 }

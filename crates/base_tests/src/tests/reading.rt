@@ -1,40 +1,13 @@
 // Texts from outside, with the faults that their format gives them.
-ghost use Rattle.std.specs.Prelude.{◌≡◌, ◌≤◌, None};
-ghost use Rattle.sms_text.specs.declared.reader.TheConstants.{LARGEST_INPUT};
+ghost use Rattle.std.specs.Prelude.{◌≡◌, None};
 
+use super::pieces::Pieces;
 use residue_words::Modulus;
-use sms_text::{Entry, Head, Kind, Line, Pulled, Reader, Source, TextError};
-use std::alloc::{AllocError, Global};
-use std::test::Fail;
-
-// A source that gives at most so many bytes at a time, and notes whether it was offered 65,536 each time.
-#[derive(Drop)]
-struct Pieces<'a> {
-    rest: &'a [u8],
-    piece: usize,
-    whole: bool,
-}
-
-impl<'a> Source for Pieces<'a> {
-    ghost use Rattle.std.specs.Prelude.{None};
-
-    ghost state = { λ s. record { left = None; faults = 0 } };
-
-    fn pull(&mut self, buffer: &mut [u8]) -> Pulled {
-        self.whole = self.whole && buffer.len() == 65_536;
-        let count = self.rest.len().min(self.piece).min(buffer.len());
-        if count == 0 {
-            return Pulled::End;
-        }
-        let (front, rest) = self.rest.split_at(count);
-        buffer[..count].copy_from_slice(front);
-        self.rest = rest;
-        Pulled::Got(count)
-    }
-}
+use sms_text::{Entry, Head, Kind, Line, Reader, TextError};
+use std::alloc::Global;
 
 // Each row: a text, the limit, and the line and kind of its first fault; line 0 for none.
-const TEXTS: [(&[u8], u32, u64, Kind); 18] = [
+const TEXTS: &[(&[u8], u32, u64, Kind)] = &[
     (b"", 99, 1, Kind::NoHeader),
     (b"% only", 99, 2, Kind::NoHeader),
     (b"1 1", 99, 1, Kind::Words),
@@ -56,120 +29,38 @@ const TEXTS: [(&[u8], u32, u64, Kind); 18] = [
 ];
 
 // The error at which the reading of a text with few entries ends.
-fn first_error(
-    alloc: Global,
-    source: &mut Pieces<'_>,
-    limit: u64,
-    p: &Modulus,
-) -> Result<Option<TextError>, AllocError>
-    requires { limit ≤ LARGEST_INPUT }
+fn first_error(reader: &mut Reader, source: &mut Pieces<'_>, p: &Modulus) -> Option<TextError>
+    requires { reader.old.open_text ≡ None }
 {
-    let mut reader = Reader::new(alloc, limit)?;
     let head = match reader.header(source) {
         Ok(head) => head,
-        Err(error) => return Ok(Some(error)),
+        Err(error) => return Some(error),
     };
     for _ in 0..8 {
         match reader.entry(source, &head, p) {
             Ok(Some(_)) => {}
-            Ok(None) => return Ok(None),
-            Err(error) => return Ok(Some(error)),
+            Ok(None) => return None,
+            Err(error) => return Some(error),
         }
     }
-    Ok(None)
+    None
 }
 
-// A head, an entry or the error in its place, and the error of another call after an error.
-type Beginning = (Head, Result<Option<Entry>, TextError>, Option<TextError>);
-
-// What a text begins with.
-fn beginning(
-    reader: &mut Reader,
-    source: &mut Pieces<'_>,
-    p: &Modulus,
-) -> Result<Beginning, TextError>
-    requires { reader.old.open_text ≡ None }
-{
-    let head = reader.header(source)?;
-    let first = reader.entry(source, &head, p);
-    let again = match first {
-        Ok(_) => None,
-        Err(_) => reader.entry(source, &head, p).err(),
-    };
-    Ok((head, first, again))
-}
-
-// Each row: a text, the limit, its height and width, and its first entry or the error in its place.
-const BEGINNINGS: [(&[u8], u32, u32, Result<Option<Entry>, TextError>); 4] = [
-    (
-        b"3 3 M\n1 1 2\n1 2 4\n0 0 0\n",
-        99,
-        3,
-        Ok(Some(Entry { i: 0, j: 0, v: 2 })),
-    ),
-    // A plain line, and the same words with other gaps, which are sought one by one.
-    (
-        b"3 3 M\n2 3 -9\n0 0 0\n",
-        99,
-        3,
-        Ok(Some(Entry { i: 1, j: 2, v: 5 })),
-    ),
-    (
-        b"3 3 M\n\t2 \t3  -9 \n0 0 0\n",
-        99,
-        3,
-        Ok(Some(Entry { i: 1, j: 2, v: 5 })),
-    ),
-    (
-        b"1 1 M\n1 1 1\n0 0 0\n",
-        10,
-        1,
-        Err(TextError::Bad {
-            line: 2,
-            kind: Kind::Long,
-        }),
-    ),
-];
-
-// The same modulo 7 of a text that comes in pieces.
-fn beginning_of(
-    alloc: Global,
-    text: &[u8],
-    limit: u32,
-) -> Result<Result<Beginning, TextError>, AllocError> {
-    let mut source = Pieces {
-        rest: text,
-        piece: 5,
-        whole: true,
-    };
-    let mut reader = Reader::new(alloc, u64::from(limit))?;
-    Ok(beginning(&mut reader, &mut source, &Modulus::new(7)))
-}
-
-#[test]
-fn sizes_and_entries_are_read_and_an_error_stays(rt: HostRuntime) -> Result<(), Fail> {
-    for (text, limit, size, first) in BEGINNINGS {
-        let wanted = (Head { m: size, n: size }, first, first.err());
-        assert_eq!(rt; beginning_of(rt.alloc(), text, limit)?, Ok(wanted));
-    }
-    Ok(())
-}
-
-// The error modulo 7 at which a text ends that comes in pieces, and whether its source was offered 65,536 bytes each time.
+// The same modulo 7 of a text that comes in pieces, and whether its source was offered 65,536 bytes each time.
 fn error_in_pieces(
     alloc: Global,
     text: &[u8],
     piece: usize,
     limit: u32,
-) -> Result<(Option<TextError>, bool), AllocError> {
-    let mut source = Pieces {
-        rest: text,
-        piece,
-        whole: true,
-    };
-    let limit = u64::from(limit);
-    let error = first_error(alloc, &mut source, limit, &Modulus::new(7))?;
-    Ok((error, source.whole))
+) -> (Option<TextError>, bool) {
+    let mut source = Pieces::of(text, piece);
+    match Reader::new(alloc, u64::from(limit)) {
+        Ok(mut reader) => {
+            let error = first_error(&mut reader, &mut source, &Modulus::new(7));
+            (error, source.is_whole())
+        }
+        Err(_) => (Some(TextError::Memory), false),
+    }
 }
 
 // The fault of a line, or none for line 0.
@@ -181,60 +72,136 @@ fn fault_at(line: u64, kind: Kind) -> Option<TextError> {
     }
 }
 
-#[test]
-fn the_first_fault_of_each_text_is_named(rt: HostRuntime) -> Result<(), Fail> {
-    for piece in [1, 5, 65_536] {
-        for (text, limit, line, kind) in TEXTS {
-            let found = error_in_pieces(rt.alloc(), text, piece, limit)?;
-            assert_eq!(rt; found, (fault_at(line, kind), true));
-        }
-    }
-    Ok(())
+// Whether it is this, however long the pieces are.
+fn has_fault(alloc: Global, text: &[u8], limit: u32, fault: Option<TextError>) -> bool {
+    let wanted = (fault, true);
+    [
+        error_in_pieces(alloc, text, 1, limit),
+        error_in_pieces(alloc, text, 5, limit),
+        error_in_pieces(alloc, text, 65_536, limit),
+    ] == [wanted, wanted, wanted]
 }
 
-// The second entry of a text.
-fn second_entry(
+#[test]
+fn the_first_fault_of_each_text_is_named(rt: HostRuntime) {
+    for (k, (text, limit, line, kind)) in TEXTS.iter().enumerate() {
+        let fault = fault_at(*line, *kind);
+        assert!(rt;
+            has_fault(rt.alloc(), text, *limit, fault),
+            "row {k} of the table"
+        );
+    }
+}
+
+// An entry, or the error in its place.
+type Found = Result<Option<Entry>, TextError>;
+
+// The sizes of a text, its first entry and its second, or the error of both calls.
+fn beginning(
     reader: &mut Reader,
     source: &mut Pieces<'_>,
     p: &Modulus,
-) -> Result<Option<Entry>, TextError>
+) -> Result<(Head, [Found; 2]), TextError>
     requires { reader.old.open_text ≡ None }
 {
     let head = reader.header(source)?;
-    match reader.entry(source, &head, p) {
+    let first = reader.entry(source, &head, p);
+    let second = match first {
         Ok(Some(_)) => reader.entry(source, &head, p),
         Ok(None) => Ok(None),
-        Err(error) => Err(error),
-    }
+        Err(_) => reader.entry(source, &head, p),
+    };
+    Ok((head, [first, second]))
 }
 
-// The same modulo 42013 of a text that comes in pieces.
-fn second_entry_of(
-    alloc: Global,
-    text: &[u8],
-) -> Result<Result<Option<Entry>, TextError>, AllocError> {
-    let mut source = Pieces {
-        rest: text,
-        piece: 9,
-        whole: true,
-    };
-    let mut reader = Reader::new(alloc, 99)?;
-    Ok(second_entry(&mut reader, &mut source, &Modulus::new(42013)))
+const LONG: Found = Err(TextError::Bad {
+    line: 2,
+    kind: Kind::Long,
+});
+
+// Each row: a text of two rows and three columns, its limit, and its first two entries modulo 42013 or the error in their place.
+const BEGINNINGS: &[(&[u8], u32, [Found; 2])] = &[
+    (
+        b"2 3 M\n1 1 2\n1 2 4\n0 0 0\n",
+        99,
+        [
+            Ok(Some(Entry { i: 0, j: 0, v: 2 })),
+            Ok(Some(Entry { i: 0, j: 1, v: 4 })),
+        ],
+    ),
+    // A plain line, and the same words with other gaps, which are sought one by one.
+    (
+        b"2 3 M\n2 3 -9\n2 3 1\n0 0 0\n",
+        99,
+        [
+            Ok(Some(Entry {
+                i: 1,
+                j: 2,
+                v: 42004,
+            })),
+            Ok(Some(Entry { i: 1, j: 2, v: 1 })),
+        ],
+    ),
+    (
+        b"2 3 M\n\t2 \t3  -9 \n0 0 0\n",
+        99,
+        [
+            Ok(Some(Entry {
+                i: 1,
+                j: 2,
+                v: 42004,
+            })),
+            Ok(None),
+        ],
+    ),
+    // Values of any length.
+    (
+        b"2 3 M\n1 1 5\n2 3 -3/4\n0 0 0\n",
+        99,
+        [
+            Ok(Some(Entry { i: 0, j: 0, v: 5 })),
+            Ok(Some(Entry {
+                i: 1,
+                j: 2,
+                v: 31509,
+            })),
+        ],
+    ),
+    (
+        b"2 3 M\n1 1 5\n2 3 123456789012345678901234567890\n",
+        99,
+        [
+            Ok(Some(Entry { i: 0, j: 0, v: 5 })),
+            Ok(Some(Entry {
+                i: 1,
+                j: 2,
+                v: 20866,
+            })),
+        ],
+    ),
+    // An error stays.
+    (b"2 3 M\n1 1 1\n0 0 0\n", 10, [LONG, LONG]),
+];
+
+// Whether a text that comes in pieces begins so.
+fn begins(alloc: Global, text: &[u8], limit: u32, found: [Found; 2]) -> bool {
+    let p = Modulus::new(42013);
+    match Reader::new(alloc, u64::from(limit)) {
+        Ok(mut reader) => {
+            beginning(&mut reader, &mut Pieces::of(text, 5), &p) == Ok((Head { m: 2, n: 3 }, found))
+        }
+        Err(_) => false,
+    }
 }
 
 #[test]
-fn values_of_any_length_fold(rt: HostRuntime) -> Result<(), Fail> {
-    for (text, v) in [
-        (b"2 3 M\n1 1 5\n2 3 -3/4\n0 0 0\n".as_slice(), 31509),
-        (
-            b"2 3 M\n1 1 5\n2 3 123456789012345678901234567890\n".as_slice(),
-            20866,
-        ),
-    ] {
-        let entry = second_entry_of(rt.alloc(), text)?;
-        assert_eq!(rt; entry, Ok(Some(Entry { i: 1, j: 2, v })));
+fn sizes_and_entries_are_read_and_an_error_stays(rt: HostRuntime) {
+    for (k, (text, limit, found)) in BEGINNINGS.iter().enumerate() {
+        assert!(rt;
+            begins(rt.alloc(), text, *limit, *found),
+            "row {k} of the table"
+        );
     }
-    Ok(())
 }
 
 // Whether a line is one of four words, of which the second is `rank`, and the values of its second and its third word.
@@ -267,21 +234,23 @@ fn line_refused(
     Ok((line.number(), said, (refused, again)))
 }
 
-#[test]
-fn words_and_refusals_are_kept(rt: HostRuntime) -> Result<(), Fail> {
-    let mut source = Pieces {
-        rest: b"% a\ncertificate rank 7 2\n",
-        piece: 9,
-        whole: true,
-    };
-    let mut reader = Reader::new(rt.alloc(), 99)?;
+// Whether a line of words is kept, and a refusal of it.
+fn keeps_words_and_refusals(alloc: Global) -> bool {
+    let mut source = Pieces::of(b"% a\ncertificate rank 7 2\n", 9);
     let refused = TextError::Bad {
         line: 2,
         kind: Kind::Script,
     };
-    assert_eq!(rt;
-        line_refused(&mut reader, &mut source, &Modulus::new(5)),
-        Ok((2, Some((true, None, Some(2))), (refused, Some(refused))))
-    );
-    Ok(())
+    match Reader::new(alloc, 99) {
+        Ok(mut reader) => {
+            line_refused(&mut reader, &mut source, &Modulus::new(5))
+                == Ok((2, Some((true, None, Some(2))), (refused, Some(refused))))
+        }
+        Err(_) => false,
+    }
+}
+
+#[test]
+fn words_and_refusals_are_kept(rt: HostRuntime) {
+    assert!(rt; keeps_words_and_refusals(rt.alloc()));
 }

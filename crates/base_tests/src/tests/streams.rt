@@ -1,8 +1,9 @@
+// Streams of the system as sources and sinks, and the words of the command line.
 use sms_text::{Pulled, Put, Sink, Source};
+use std::alloc::Global;
 use std::env::{Env, FillError};
 use std::io;
 use std::io::{ErrorKind, Read, Write};
-use std::test::Fail;
 use std_edge::{FromRead, ToWrite, words_of};
 
 // Reads two bytes, then fails, then reads two more.
@@ -21,27 +22,23 @@ impl Read for Stutter {
     }
 }
 
-#[test]
-fn a_reader_gives_what_it_reads(rt: HostRuntime) -> Result<(), Fail> {
+// Whether a reader gives what it reads, and then its end.
+fn gives_all() -> bool {
     let mut buffer = [0; 8];
     let bytes = [3, 1, 4];
     let mut source = FromRead::new(bytes.as_slice());
-    let pulled = [source.pull(&mut buffer), source.pull(&mut buffer)];
-    assert_eq!(rt; pulled, [Pulled::Got(3), Pulled::End]);
-    Ok(())
+    [source.pull(&mut buffer), source.pull(&mut buffer)] == [Pulled::Got(3), Pulled::End]
 }
 
-#[test]
-fn a_reader_fails_where_it_fails(rt: HostRuntime) -> Result<(), Fail> {
+// Whether a reader fails where it fails, and only there.
+fn fails_once() -> bool {
     let mut buffer = [0; 8];
     let mut source = FromRead::new(Stutter { calls: 0 });
-    let pulled = [
+    [
         source.pull(&mut buffer),
         source.pull(&mut buffer),
         source.pull(&mut buffer),
-    ];
-    assert_eq!(rt; pulled, [Pulled::Got(2), Pulled::Failed, Pulled::Got(2)]);
-    Ok(())
+    ] == [Pulled::Got(2), Pulled::Failed, Pulled::Got(2)]
 }
 
 // Takes two bytes of a piece, and fails in its second flush.
@@ -64,34 +61,36 @@ impl Write for Sticky {
     }
 }
 
-#[test]
-fn a_writer_gains_what_it_takes(rt: HostRuntime) -> Result<(), Fail> {
-    let mut written = Vec::new(rt.alloc());
+// Whether a writer gains what it takes.
+fn gains_all(alloc: Global) -> bool {
+    let mut written = Vec::new(alloc);
     let put = ToWrite::new(&mut written).put(b"314");
-    assert_eq!(rt;
-        (put, written.as_slice()),
-        (Put::Took(3), b"314".as_slice())
-    );
-    Ok(())
+    (put, written.as_slice()) == (Put::Took(3), b"314".as_slice())
 }
 
-#[test]
-fn a_writer_that_failed_is_left_alone(rt: HostRuntime) -> Result<(), Fail> {
+// Whether a writer that failed is left alone.
+fn is_left_alone() -> bool {
     let mut sink = ToWrite::new(Sticky { flushes: 0 });
     let puts = [sink.put(b"314"), sink.put(b"314"), sink.put(b"3")];
-    let flushes = sink.into_writer().flushes;
-    assert_eq!(rt;
-        (puts, flushes),
-        ([Put::Took(2), Put::Failed, Put::Failed], 2)
-    );
-    Ok(())
+    (puts, sink.into_writer().flushes) == ([Put::Took(2), Put::Failed, Put::Failed], 2)
+}
+
+// Whether a full writer takes nothing.
+fn takes_nothing() -> bool {
+    let mut full: &mut [u8] = &mut [];
+    ToWrite::new(&mut full).put(b"3") == Put::Failed
 }
 
 #[test]
-fn a_full_writer_takes_nothing(rt: HostRuntime) -> Result<(), Fail> {
-    let mut full: &mut [u8] = &mut [];
-    assert_eq!(rt; ToWrite::new(&mut full).put(b"3"), Put::Failed);
-    Ok(())
+fn streams_are_sources_and_sinks(rt: HostRuntime) {
+    let found = [
+        gives_all(),
+        fails_once(),
+        gains_all(rt.alloc()),
+        is_left_alone(),
+        takes_nothing(),
+    ];
+    assert_eq!(rt; found, [true, true, true, true, true]);
 }
 
 // The words that a program is started with.
@@ -121,26 +120,35 @@ impl<'a> Env for Started<'a> {
     }
 }
 
-#[test]
-fn words_stand_behind_the_program_s_name(rt: HostRuntime) -> Result<(), Fail> {
-    let started = Started {
-        words: &[b"spasm", b"rank", b"--modulus=7", b""],
-    };
-    let words = words_of(&(started, rt.alloc()))?;
-    assert_eq!(rt; words.len(), 3);
-    let texts = [words[0].as_str(), words[1].as_str(), words[2].as_str()];
-    assert_eq!(rt; texts, ["rank", "--modulus=7", ""]);
-    Ok(())
+// Whether the words are these.
+fn are(words: &[String], wanted: [&str; 3]) -> bool {
+    words.len() == 3 && [words[0].as_str(), words[1].as_str(), words[2].as_str()] == wanted
+}
+
+// Whether these are found behind the name of the program.
+fn has_words(alloc: Global, words: &[&[u8]], wanted: [&str; 3]) -> bool {
+    match words_of(&(Started { words }, alloc)) {
+        Ok(found) => are(found.as_slice(), wanted),
+        Err(_) => false,
+    }
+}
+
+// Whether words are refused, since they aren't text.
+fn is_refused(alloc: Global, words: &[&[u8]]) -> bool {
+    match words_of(&(Started { words }, alloc)) {
+        Ok(_) => false,
+        Err(none) => none.code() == 2,
+    }
 }
 
 #[test]
-fn words_are_text(rt: HostRuntime) -> Result<(), Fail> {
-    let started = Started {
-        words: &[b"spasm", b"rank", b"\xff"],
-    };
-    match words_of(&(started, rt.alloc())) {
-        Ok(_) => panic!(rt; "a word that isn't UTF-8 was taken"),
-        Err(none) => assert_eq!(rt; none.code(), 2),
-    }
-    Ok(())
+fn words_stand_behind_the_program_s_name(rt: HostRuntime) {
+    let alloc = rt.alloc();
+    let found = has_words(
+        alloc,
+        &[b"spasm", b"rank", b"--modulus=7", b""],
+        ["rank", "--modulus=7", ""],
+    );
+    let refused = is_refused(alloc, &[b"spasm", b"rank", b"\xff"]);
+    assert_eq!(rt; [found, refused], [true, true]);
 }

@@ -1,14 +1,13 @@
 // Matrices with their rarest columns first, modulo 7.
 ghost use Rattle.sparse_rows.specs.declared.rows.TheConstants.{LARGEST_SIZE};
 
-use residue_words::Modulus;
-use sparse_rows::{LARGEST_SIZE, Rows};
+use super::entries::{Entries, built, is_matrix};
+use sparse_rows::LARGEST_SIZE;
 use std::alloc::Global;
-use std::test::Fail;
 use weight_order::{RowOrder, by_weight};
 
 // Sizes and entries by rows.
-type Sized = (u32, u32, &'static [(u32, u32, u64)]);
+type Sized = (u32, u32, Entries);
 
 const LAST: u32 = LARGEST_SIZE - 1;
 
@@ -58,21 +57,21 @@ const TABLE: &[(Sized, Sized)] = &[
 ];
 
 // Whether the first is made the second.
-fn is_made(alloc: Global, given: &Sized, wanted: &Sized) -> Result<bool, Fail> {
-    let (m, n, triples) = *given;
-    let Some(rows) = Rows::checked_from_triples(alloc, m, n, &Modulus::new(7), triples)? else {
-        return Ok(false);
-    };
-    let made = by_weight(alloc, &rows, RowOrder::LastFirst)?;
-    let entries = made.triples(alloc)?;
-    Ok((made.height(), made.width(), entries.as_slice()) == *wanted)
+fn is_made(alloc: Global, given: &Sized, wanted: &Sized) -> bool {
+    let (m, n, pushed) = *given;
+    let (height, width, entries) = *wanted;
+    match built(alloc, m, n, pushed) {
+        Some(rows) => {
+            let made = by_weight(alloc, &rows, RowOrder::LastFirst).ok();
+            is_matrix(alloc, made, height, width, entries)
+        }
+        None => false,
+    }
 }
 
 #[test]
-fn the_rarest_columns_come_first(rt: HostRuntime) -> Result<(), Fail> {
-    let alloc = rt.alloc();
+fn the_rarest_columns_come_first(rt: HostRuntime) {
     for (k, (given, wanted)) in TABLE.iter().enumerate() {
-        assert!(rt; is_made(alloc, given, wanted)?, "row {k} of the table");
+        assert!(rt; is_made(rt.alloc(), given, wanted), "row {k} of the table");
     }
-    Ok(())
 }

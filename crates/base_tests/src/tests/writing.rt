@@ -1,3 +1,4 @@
+// Sinks, sources, and what is written to them.
 ghost use Rattle.std.specs.Prelude.{◌<◌};
 
 use sms_text::{
@@ -5,7 +6,18 @@ use sms_text::{
     WriteFault, write_end, write_entry, write_head, write_number, write_text,
 };
 use std::alloc::{AllocError, Global};
-use std::test::Fail;
+
+// A sink of memory of such room that takes at most so many bytes in a put, and fails in these puts.
+fn memory_sink(
+    alloc: Global,
+    room: usize,
+    piece: usize,
+    fails: &[u64],
+) -> Result<MemorySink, AllocError>
+    requires { 0 < piece }
+{
+    MemorySink::new(alloc, room, piece, Vec::from_slice(alloc, fails)?)
+}
 
 fn write_small<K: Sink>(out: &mut K) -> Result<(), WriteFault> {
     write_head(out, 2, 3)?;
@@ -13,39 +25,29 @@ fn write_small<K: Sink>(out: &mut K) -> Result<(), WriteFault> {
     write_end(out)
 }
 
-// Whether the writing to a sink of memory went well, and whether the sink holds this in the end.
-fn holds(
-    alloc: Global,
-    room: usize,
-    piece: usize,
-    fails: &[u64],
-    wanted: &[u8],
-) -> Result<(bool, bool), AllocError>
-    requires { 0 < piece }
-{
-    let fails = Vec::from_slice(alloc, fails)?;
-    let mut sink = MemorySink::new(alloc, room, piece, fails)?;
-    let result = write_small(&mut sink);
-    Ok((result.is_ok(), sink.content() == wanted))
+const SMALL: &[u8] = b"2 3 M\n1 3 41\n0 0 0\n";
+
+// Whether a sink holds this in the end, and whether the writing goes well if that is all.
+fn holds(sink: Result<MemorySink, AllocError>, wanted: &[u8]) -> bool {
+    match sink {
+        Ok(mut sink) => {
+            let result = write_small(&mut sink);
+            (result.is_ok(), sink.content()) == (wanted.len() == SMALL.len(), wanted)
+        }
+        Err(_) => false,
+    }
 }
 
-#[test]
-fn a_sink_holds_what_was_written_before_its_fault(rt: HostRuntime) -> Result<(), Fail> {
-    let whole = b"2 3 M\n1 3 41\n0 0 0\n";
-    // Room, the most bytes of a put, the puts that fail, and how many bytes the sink holds in the end.
-    let cases: [(usize, usize, &[u64], usize); 6] = [
-        (64, 64, &[], 19),
-        (64, 1, &[], 19),
-        (64, 1, &[4], 3),
-        (3, 64, &[], 3),
-        (19, 2, &[], 19),
-        (64, 64, &[1, 2], 0),
-    ];
-    for (room, piece, fails, held) in cases {
-        let found = holds(rt.alloc(), room, piece, fails, &whole[..held])?;
-        assert_eq!(rt; found, (held == 19, true));
-    }
-    Ok(())
+// Whether sinks hold what was written before their fault.
+fn hold_until_their_fault(alloc: Global) -> bool {
+    [
+        holds(memory_sink(alloc, 64, 64, &[]), SMALL),
+        holds(memory_sink(alloc, 64, 1, &[]), SMALL),
+        holds(memory_sink(alloc, 64, 1, &[4]), b"2 3"),
+        holds(memory_sink(alloc, 3, 64, &[]), b"2 3"),
+        holds(memory_sink(alloc, 19, 2, &[]), SMALL),
+        holds(memory_sink(alloc, 64, 64, &[1, 2]), b""),
+    ] == [true, true, true, true, true, true]
 }
 
 // What a word, the largest number, the empty text and another word come to.
@@ -58,30 +60,20 @@ fn write_words<K: Sink>(out: &mut K) -> [Result<(), WriteFault>; 4] {
     ]
 }
 
-// The same, and whether a sink whose third put fails holds this in the end.
-fn hold_words(
-    alloc: Global,
-    wanted: &[u8],
-) -> Result<([Result<(), WriteFault>; 4], bool), AllocError> {
-    let fails = Vec::from_slice(alloc, &[3])?;
-    let mut sink = MemorySink::new(alloc, 64, 64, fails)?;
-    let results = write_words(&mut sink);
-    Ok((results, sink.content() == wanted))
+// Whether a sink whose third put fails takes the first two of them, and none for the empty text.
+fn holds_words(alloc: Global) -> bool {
+    match memory_sink(alloc, 64, 64, &[3]) {
+        Ok(mut sink) => {
+            write_words(&mut sink) == [Ok(()), Ok(()), Ok(()), Err(WriteFault)]
+                && sink.content() == b"rank 18446744073709551615".as_slice()
+        }
+        Err(_) => false,
+    }
 }
 
-#[test]
-fn words_are_written_and_none_for_the_empty_text(rt: HostRuntime) -> Result<(), Fail> {
-    assert_eq!(rt;
-        hold_words(rt.alloc(), b"rank 18446744073709551615")?,
-        ([Ok(()), Ok(()), Ok(()), Err(WriteFault)], true)
-    );
-    Ok(())
-}
-
-#[test]
-fn a_steady_sink_takes_all(rt: HostRuntime) -> Result<(), Fail> {
-    assert_eq!(rt; write_small(&mut SteadySink::new()), Ok(()));
-    Ok(())
+// Whether all is taken by a sink that keeps nothing.
+fn takes_all() -> bool {
+    write_small(&mut SteadySink::new()) == Ok(())
 }
 
 // What a source answers to two calls.
@@ -90,32 +82,33 @@ fn pull_twice<S: Source>(source: &mut S) -> [Pulled; 2] {
     [source.pull(&mut buffer), source.pull(&mut buffer)]
 }
 
-// What a source whose second pull fails answers to four calls.
-fn pieces(alloc: Global) -> Result<[[Pulled; 2]; 2], AllocError> {
-    let bytes = Vec::from_slice(alloc, b"314")?;
-    let fails = Vec::from_slice(alloc, &[2])?;
+// Whether a source whose second pull fails gives the pieces before and behind.
+fn gives_pieces(alloc: Global) -> bool {
+    let Ok(fails) = Vec::from_slice(alloc, &[2]) else {
+        return false;
+    };
+    let Ok(bytes) = Vec::from_slice(alloc, b"314") else {
+        return false;
+    };
     let mut source = MemorySource::new(bytes, 2, fails);
-    Ok([pull_twice(&mut source), pull_twice(&mut source)])
-}
-
-#[test]
-fn a_source_gives_pieces(rt: HostRuntime) -> Result<(), Fail> {
-    assert_eq!(rt;
-        pieces(rt.alloc())?,
-        [
+    [pull_twice(&mut source), pull_twice(&mut source)]
+        == [
             [Pulled::Got(2), Pulled::Failed],
             [Pulled::Got(1), Pulled::End],
         ]
-    );
-    Ok(())
 }
 
-#[test]
-fn a_steady_source_gives_all(rt: HostRuntime) -> Result<(), Fail> {
-    let bytes = Vec::from_slice(rt.alloc(), b"314")?;
-    let mut source = SteadySource::new(bytes, 64);
-    assert_eq!(rt; pull_twice(&mut source), [Pulled::Got(3), Pulled::End]);
-    Ok(())
+// Whether a source that never fails, and gives so many bytes at a time, answers this to four calls.
+fn gives(alloc: Global, piece: usize, wanted: [[Pulled; 2]; 2]) -> bool
+    requires { 0 < piece }
+{
+    match Vec::from_slice(alloc, b"314") {
+        Ok(bytes) => {
+            let mut source = SteadySource::new(bytes, piece);
+            [pull_twice(&mut source), pull_twice(&mut source)] == wanted
+        }
+        Err(_) => false,
+    }
 }
 
 // Adds a matrix of one entry.
@@ -123,6 +116,18 @@ fn add_small<K: Sink>(blocks: &mut BlockWriter, out: &mut K) -> Result<(), Write
     blocks.add_head(out, 2, 3)?;
     blocks.add_entry(out, 1, 3, 41)?;
     blocks.add_end(out)
+}
+
+// What that and its sending come to, and whether the sink has nothing before and all of it then.
+fn add_and_send(
+    blocks: &mut BlockWriter,
+    sink: &mut MemorySink,
+) -> ([Result<(), WriteFault>; 2], [bool; 2]) {
+    let added = add_small(blocks, sink);
+    let waits = sink.content().is_empty();
+    let sent = blocks.send(sink);
+    let is_whole = sink.content() == SMALL;
+    ([added, sent], [waits, is_whole])
 }
 
 // What a byte that is added, its sending and another sending come to.
@@ -133,31 +138,37 @@ fn add_and_send_twice<K: Sink>(
     [blocks.add(out, b"x"), blocks.send(out), blocks.send(out)]
 }
 
-// What that matrix and its sending come to, and whether the sink has nothing before and all of it then.
-fn add_and_send(
-    blocks: &mut BlockWriter,
-    sink: &mut MemorySink,
-) -> ([Result<(), WriteFault>; 2], [bool; 2]) {
-    let added = add_small(blocks, sink);
-    let waits = sink.content().is_empty();
-    let sent = blocks.send(sink);
-    let is_whole = sink.content() == b"2 3 M\n1 3 41\n0 0 0\n".as_slice();
-    ([added, sent], [waits, is_whole])
+// Whether blocks wait until they are sent, to a sink whose second put fails.
+fn blocks_wait(blocks: &mut BlockWriter, alloc: Global) -> bool {
+    match memory_sink(alloc, 64, 64, &[2]) {
+        Ok(mut sink) => {
+            add_and_send(blocks, &mut sink) == ([Ok(()), Ok(())], [true, true])
+                && add_and_send_twice(blocks, &mut sink) == [Ok(()), Err(WriteFault), Ok(())]
+        }
+        Err(_) => false,
+    }
 }
 
 #[test]
-fn blocks_wait_until_they_are_sent(rt: HostRuntime) -> Result<(), Fail> {
-    let fails = Vec::from_slice(rt.alloc(), &[2])?;
-    let mut sink = MemorySink::new(rt.alloc(), 64, 64, fails)?;
-    let mut blocks = BlockWriter::new();
-    let first = add_and_send(&mut blocks, &mut sink);
-    let second = add_and_send_twice(&mut blocks, &mut sink);
-    assert_eq!(rt;
-        (first, second),
-        (
-            ([Ok(()), Ok(())], [true, true]),
-            [Ok(()), Err(WriteFault), Ok(())],
-        )
-    );
-    Ok(())
+fn sinks_hold_what_was_written_before_their_fault(rt: HostRuntime) {
+    let alloc = rt.alloc();
+    let found = [
+        hold_until_their_fault(alloc),
+        holds_words(alloc),
+        takes_all(),
+        blocks_wait(&mut BlockWriter::new(), alloc),
+    ];
+    assert_eq!(rt; found, [true, true, true, true]);
+}
+
+#[test]
+fn sources_give_what_they_have(rt: HostRuntime) {
+    let alloc = rt.alloc();
+    let ends = [Pulled::End, Pulled::End];
+    let found = [
+        gives_pieces(alloc),
+        gives(alloc, 64, [[Pulled::Got(3), Pulled::End], ends]),
+        gives(alloc, 2, [[Pulled::Got(2), Pulled::Got(1)], ends]),
+    ];
+    assert_eq!(rt; found, [true, true, true]);
 }
