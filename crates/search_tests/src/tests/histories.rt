@@ -6,12 +6,8 @@ ghost use Rattle.pivot_table.specs.Core.{claiming, opened, parting, splitting};
 ghost use Rattle.pivot_table.specs.Example.{pivot_example};
 ghost use Rattle.pivot_table.specs.History.{pair};
 
-use crate::tests::example::{first_pair, rows};
-use pivot_table::{Board, Closed, Outcome, Pair, Seat, histories_are_worked};
-use std::alloc::{AllocError, Global};
-use std::sync::atomic::{AtomicU64, Ordering};
-use std::test::Fail;
-use std::thread::{Threads, join_mut};
+use pivot_table::{Board, Book, Closed, Outcome, Pair, Seat, histories_are_worked};
+use std::alloc::Global;
 
 // The first seat takes row 1.
 fn claim_first(board: &Board<'_>, first: &mut Seat) -> bool
@@ -59,17 +55,7 @@ fn be_late(board: &Board<'_>, first: &mut Seat) -> bool
     }
 }
 
-// Whether the counter comes to n within a second or so.
-fn comes_to(counter: &AtomicU64, n: u64) -> bool {
-    for _ in 0..500_000_000u64 {
-        if counter.load(Ordering::SeqCst) == n {
-            return true;
-        }
-    }
-    false
-}
-
-// One thread goes by turns.
+// Both seats go by turns.
 fn by_turns(board: &Board<'_>, first: &mut Seat, second: &mut Seat) -> bool
     requires matrix { board.now.rows.matrix ≡ pivot_example }
     requires first { IsSeatOf board.now first.old × (first.old.chair ≡ parting (opened (pair 0 0 ∷ []))) }
@@ -86,101 +72,6 @@ fn by_turns(board: &Board<'_>, first: &mut Seat, second: &mut Seat) -> bool
         return false;
     }
     be_late(board, first)
-}
-
-// The first seat's calls, each in its turn.
-fn be_late_in_turn(board: &Board<'_>, first: &mut Seat, turn: &AtomicU64) -> bool
-    requires matrix { board.now.rows.matrix ≡ pivot_example }
-    requires seat { IsSeatOf board.now first.old }
-    requires opened { first.old.chair ≡ parting (opened (pair 0 0 ∷ [])) }
-    ensures seat { IsSeatOf board.now first.new }
-    ensures settled { IsTrue result → MayFinish pivot_example first.new.chair }
-{
-    if !claim_first(board, first) {
-        return false;
-    }
-    turn.store(1, Ordering::SeqCst);
-    if !comes_to(turn, 2) {
-        return false;
-    }
-    be_late(board, first)
-}
-
-// The second seat's calls, each in its turn.
-fn overtake_in_turn(board: &Board<'_>, second: &mut Seat, turn: &AtomicU64) -> bool
-    requires matrix { board.now.rows.matrix ≡ pivot_example }
-    requires seat { IsSeatOf board.now second.old }
-    requires split { second.old.chair ≡ splitting (opened (pair 0 0 ∷ [])) }
-    ensures seat { IsSeatOf board.now second.new }
-    ensures settled { IsTrue result → MayFinish pivot_example second.new.chair }
-{
-    if !comes_to(turn, 1) {
-        return false;
-    }
-    if !overtake(board, second) {
-        return false;
-    }
-    turn.store(2, Ordering::SeqCst);
-    true
-}
-
-// Two threads go by the turns that a counter tells.
-fn in_threads<R: Threads + Sync>(
-    rt: &R,
-    board: &Board<'_>,
-    first: &mut Seat,
-    second: &mut Seat,
-) -> bool
-    requires matrix { board.now.rows.matrix ≡ pivot_example }
-    requires first { IsSeatOf board.now first.old × (first.old.chair ≡ parting (opened (pair 0 0 ∷ []))) }
-    requires second { IsSeatOf board.now second.old
-        × (second.old.chair ≡ splitting (opened (pair 0 0 ∷ []))) }
-    ensures first { IsSeatOf board.now first.new × (IsTrue result → MayFinish pivot_example first.new.chair) }
-    ensures second { IsSeatOf board.now second.new
-        × (IsTrue result → MayFinish pivot_example second.new.chair) }
-{
-    let turn = AtomicU64::new(0);
-    let (late, early) = join_mut(
-        rt,
-        &mut || -> bool
-            requires { (board.now.rows.matrix ≡ pivot_example) × IsSeatOf board.now first.now
-                × (first.now.chair ≡ parting (opened (pair 0 0 ∷ []))) }
-            ensures { IsSeatOf board.entry.now first.exit.now
-                × (IsTrue result → MayFinish pivot_example first.exit.now.chair) }
-        { be_late_in_turn(board, first, &turn) },
-        &mut || -> bool
-            requires { (board.now.rows.matrix ≡ pivot_example) × IsSeatOf board.now second.now
-                × (second.now.chair ≡ splitting (opened (pair 0 0 ∷ []))) }
-            ensures { IsSeatOf board.entry.now second.exit.now
-                × (IsTrue result → MayFinish pivot_example second.exit.now.chair) }
-        { overtake_in_turn(board, second, &turn) },
-    );
-    if !late {
-        return false;
-    }
-    early
-}
-
-// The calls of both seats, in two threads or in one.
-fn both_go<R: Threads + Sync>(
-    rt: &R,
-    board: &Board<'_>,
-    first: &mut Seat,
-    second: &mut Seat,
-    threads: bool,
-) -> bool
-    requires matrix { board.now.rows.matrix ≡ pivot_example }
-    requires first { IsSeatOf board.now first.old × (first.old.chair ≡ parting (opened (pair 0 0 ∷ []))) }
-    requires second { IsSeatOf board.now second.old
-        × (second.old.chair ≡ splitting (opened (pair 0 0 ∷ []))) }
-    ensures first { IsSeatOf board.now first.new × (IsTrue result → MayFinish pivot_example first.new.chair) }
-    ensures second { IsSeatOf board.now second.new
-        × (IsTrue result → MayFinish pivot_example second.new.chair) }
-{
-    if threads {
-        return in_threads(rt, board, first, second);
-    }
-    by_turns(board, first, second)
 }
 
 // Lets both rows go and ends the board.
@@ -216,39 +107,17 @@ fn is_overtaken(closed: &Closed<'_>) -> bool
     closed.book.pairs() == pairs.as_slice() && done == [true; 3] && starts == [None, Some(1), None]
 }
 
-// Whether the calls of these seats, in one thread or in two, leave what they should.
-fn leave_what_they_should<R: Threads + Sync>(
-    rt: &R,
-    board: Board<'_>,
-    first: Seat,
-    second: Seat,
-    threads: bool,
-) -> bool
-    requires matrix { board.rows.matrix ≡ pivot_example }
-    requires first { IsSeatOf board first × (first.chair ≡ parting (opened (pair 0 0 ∷ []))) }
-    requires second { IsSeatOf board second × (second.chair ≡ splitting (opened (pair 0 0 ∷ []))) }
+// Whether the calls of two seats at a board that begins with the first pair leave what they should.
+pub(crate) fn are_overtaken(alloc: Global, book: &Book<'_>) -> bool
+    requires matrix { book.now.rows.matrix ≡ pivot_example }
+    requires pairs { book.now.pairs ≡ pair 0 0 ∷ [] }
 {
-    let mut first = first;
-    let mut second = second;
-    if !both_go(rt, &board, &mut first, &mut second, threads) {
+    let Ok((board, mut first)) = Board::new(alloc, book) else {
+        return false;
+    };
+    let mut second = board.split(&mut first);
+    if !by_turns(&board, &mut first, &mut second) {
         return false;
     }
     is_overtaken(&ended(board, first, second))
-}
-
-// The same of two seats at a board that begins with the first pair.
-fn two_seats<R: Threads + Sync>(rt: &R, alloc: Global, threads: bool) -> Result<bool, AllocError> {
-    let rows = rows(alloc)?;
-    let book = first_pair(alloc, &rows)?;
-    let (board, mut first) = Board::new(alloc, &book)?;
-    let second = board.split(&mut first);
-    Ok(leave_what_they_should(rt, board, first, second, threads))
-}
-
-#[test]
-fn two_seats_take_turns(rt: HostRuntime) -> Result<(), Fail> {
-    for threads in &[false, true] {
-        assert!(rt; two_seats(&rt, rt.alloc(), *threads)?);
-    }
-    Ok(())
 }

@@ -1,5 +1,4 @@
 use Rattle.std.proofs.Common.{ap, ◌∙◌}
-use Rattle.residue_words.specs.declared.plain.Pair.{Pair}
 use Rattle.pivot_table.specs.History.{pair}
 use Rattle.pivot_walks.specs.Walked.{Walked, open_after}
 use Rattle.pivot_walks.proofs.Example.{carried_steps}
