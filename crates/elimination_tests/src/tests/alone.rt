@@ -1,67 +1,68 @@
 // What the caller alone answers, beside what threads answer.
-ghost use Rattle.std.specs.Prelude.{◌<◌, ◌≤◌};
+ghost use Rattle.std.specs.Prelude.{◌≤◌};
 
-use crate::tests::matrices::{have_same_entries, scattered};
+use crate::tests::matrices::{Built, have_same_entries, scattered};
 use sparse_rows::Rows;
 use spasm_lib::{Team, rank, rref};
 use std::alloc::{AllocError, Global};
-use std::test::Fail;
 use std::thread::Threads;
 
-// Whether the caller alone, who does the work of so many workers, finds the form that two threads find.
-fn forms_agree<R: Threads + Sync>(
-    rt: &R,
-    alloc: Global,
-    rows: &Rows,
-    workers: u32,
-) -> Result<bool, AllocError>
+// Whether the caller alone, who does the work of so many workers, finds this form and this rank.
+fn finds(alloc: Global, rows: &Rows, workers: u32, form: &Rows, known: u32) -> bool
     requires { 1 ≤ workers }
 {
-    let team = Team {
-        workers: 2,
-        ..Team::of(rt, alloc)
-    };
     let alone = Team {
         workers,
         ..Team::alone(alloc)
     };
-    have_same_entries(alloc, &rref(team, rows)?, &rref(alone, rows)?)
-}
-
-// The same of the rank.
-fn ranks_agree<R: Threads + Sync>(
-    rt: &R,
-    alloc: Global,
-    rows: &Rows,
-    workers: u32,
-) -> Result<bool, AllocError>
-    requires { 1 ≤ workers }
-{
-    let team = Team {
-        workers: 2,
-        ..Team::of(rt, alloc)
-    };
+    if rank(alone, rows) != Ok(known) {
+        return false;
+    }
     let alone = Team {
         workers,
         ..Team::alone(alloc)
     };
-    Ok(rank(team, rows)? == rank(alone, rows)?)
+    let Ok(own) = rref(alone, rows) else {
+        return false;
+    };
+    have_same_entries(alloc, &own, form)
 }
 
-// The same of both for a scattered matrix.
-fn agree_on<R: Threads + Sync>(
-    rt: &R,
-    alloc: Global,
-    m: u32,
-    n: u32,
-    per: u32,
-    workers: u32,
-) -> Result<bool, Fail>
-    requires wide { 0 < n }
-    requires some { 1 ≤ workers }
-{
-    let rows = scattered(alloc, m, n, per)?;
-    Ok(forms_agree(rt, alloc, &rows, workers)? && ranks_agree(rt, alloc, &rows, workers)?)
+// The rank that two threads find.
+fn rank_by_two<R: Threads + Sync>(rt: &R, alloc: Global, rows: &Rows) -> Result<u32, AllocError> {
+    let team = Team {
+        workers: 2,
+        ..Team::of(rt, alloc)
+    };
+    rank(team, rows)
+}
+
+// The form that they find.
+fn form_by_two<R: Threads + Sync>(rt: &R, alloc: Global, rows: &Rows) -> Result<Rows, AllocError> {
+    let team = Team {
+        workers: 2,
+        ..Team::of(rt, alloc)
+    };
+    rref(team, rows)
+}
+
+// Whether the caller alone finds what two threads find, by the work of one worker and of three.
+fn agree_on<R: Threads + Sync>(rt: &R, alloc: Global, rows: &Rows) -> bool {
+    let Ok(known) = rank_by_two(rt, alloc, rows) else {
+        return false;
+    };
+    let Ok(form) = form_by_two(rt, alloc, rows) else {
+        return false;
+    };
+    finds(alloc, rows, 1, &form, known) && finds(alloc, rows, 3, &form, known)
+}
+
+// The same for a matrix that was built.
+fn agree_on_built<R: Threads + Sync>(rt: &R, alloc: Global, built: Built) -> bool {
+    match built {
+        Ok(Some(rows)) => agree_on(rt, alloc, &rows),
+        _ => false,
+    }
 }
 
 // Heights, widths and values a row: an empty matrix, a dense one, two of less rank than height and width, a tall one of full rank, and
@@ -77,15 +78,10 @@ const SCATTERED: &[(u32, u32, u32)] = &[
 ];
 
 #[test]
-fn alone_answers_as_threads_do(rt: HostRuntime) -> Result<(), Fail> {
+fn alone_answers_as_threads_do(rt: HostRuntime) {
+    let alloc = rt.alloc();
     for (m, n, per) in SCATTERED {
-        assert!(rt; 0 < *n);
-        for workers in [1, 3] {
-            assert!(rt;
-                agree_on(&rt, rt.alloc(), *m, *n, *per, workers)?,
-                "at {m} {n} {per}"
-            );
-        }
+        let agree = agree_on_built(&rt, alloc, scattered(alloc, *m, *n, *per));
+        assert!(rt; agree, "at {m} {n} {per}");
     }
-    Ok(())
 }

@@ -1,14 +1,14 @@
 // What the leftmost pivots leave of scattered matrices: by flat rows as by walks, and by chunks as at once.
-ghost use Rattle.std.specs.Prelude.{◌<◌, ◌≤◌};
+ghost use Rattle.std.specs.Prelude.{◌≤◌};
 
-use crate::tests::matrices::{built, have_same_entries, scattered};
+use crate::tests::matrices::{Built, built, have_same_entries, scattered};
 use crew::Threaded;
 use dense_finish::finish;
 use fl_pivots::leftmost;
+use pivot_table::Book;
 use schur_rows::{ChunkSize, RowReducer, complement, rest_basis_by};
 use sparse_rows::Rows;
-use std::alloc::{AllocError, Global};
-use std::test::Fail;
+use std::alloc::Global;
 use std::thread::Threads;
 use triangular_solve::Triangle;
 
@@ -19,10 +19,12 @@ fn leaves<R: Threads + Sync>(
     reducer: &RowReducer,
     workers: u32,
     known: &Rows,
-) -> Result<bool, AllocError>
+) -> bool
     requires some { 1 ≤ workers }
 {
-    let left = complement(&Threaded::of(rt), alloc, reducer, workers)?;
+    let Ok(left) = complement(&Threaded::of(rt), alloc, reducer, workers) else {
+        return false;
+    };
     have_same_entries(alloc, &left, known)
 }
 
@@ -34,12 +36,14 @@ fn has_basis<R: Threads + Sync>(
     workers: u32,
     rows: u32,
     rank: usize,
-) -> Result<bool, AllocError>
+) -> bool
     requires some { 1 ≤ workers }
 {
     let size = ChunkSize { rows, places: 1 };
-    let basis = rest_basis_by(&Threaded::of(rt), alloc, reducer, workers, size)?;
-    Ok(basis.height() as usize == rank)
+    let Ok(basis) = rest_basis_by(&Threaded::of(rt), alloc, reducer, workers, size) else {
+        return false;
+    };
+    basis.height() as usize == rank
 }
 
 // Whether a reducer leaves what is known by one worker and by several, and a basis of the rank by chunks of one row, of some and of all.
@@ -49,24 +53,12 @@ fn agrees<R: Threads + Sync>(
     reducer: &RowReducer,
     known: &Rows,
     rank: usize,
-) -> Result<bool, AllocError> {
-    let alone = leaves(rt, alloc, reducer, 1, known)?;
-    let shared = leaves(rt, alloc, reducer, 3, known)?;
-    let single = has_basis(rt, alloc, reducer, 1, 1, rank)?;
-    let some = has_basis(rt, alloc, reducer, 3, 7, rank)?;
-    let whole = has_basis(rt, alloc, reducer, 2, 1000, rank)?;
-    Ok(alone && shared && single && some && whole)
-}
-
-// What walks leave, and its rank.
-fn known_rest<R: Threads + Sync>(
-    rt: &R,
-    alloc: Global,
-    triangle: &Triangle,
-) -> Result<(Rows, usize), AllocError> {
-    let known = complement(&Threaded::of(rt), alloc, &RowReducer::by_walks(triangle), 1)?;
-    let factors = finish(rt, alloc, &known, 1)?;
-    Ok((known, factors.pivots.items().len()))
+) -> bool {
+    leaves(rt, alloc, reducer, 1, known)
+        && leaves(rt, alloc, reducer, 3, known)
+        && has_basis(rt, alloc, reducer, 1, 1, rank)
+        && has_basis(rt, alloc, reducer, 3, 7, rank)
+        && has_basis(rt, alloc, reducer, 2, 1000, rank)
 }
 
 // Whether flat rows leave what is known, and give bases of the rank.
@@ -76,67 +68,72 @@ fn flat_agrees<R: Threads + Sync>(
     triangle: &Triangle,
     known: &Rows,
     rank: usize,
-) -> Result<bool, AllocError> {
-    let flat = RowReducer::by_flat_rows(alloc, triangle)?;
+) -> bool {
+    let Ok(flat) = RowReducer::by_flat_rows(alloc, triangle) else {
+        return false;
+    };
     agrees(rt, alloc, &flat, known, rank)
 }
 
-// Whether walks do.
-fn walks_agree<R: Threads + Sync>(
-    rt: &R,
-    alloc: Global,
-    triangle: &Triangle,
-    known: &Rows,
-    rank: usize,
-) -> Result<bool, AllocError> {
-    agrees(rt, alloc, &RowReducer::by_walks(triangle), known, rank)
+// The rank of a matrix.
+fn rank_of<R: Threads + Sync>(rt: &R, alloc: Global, rows: &Rows) -> Option<usize> {
+    let Ok(factors) = finish(rt, alloc, rows, 1) else {
+        return None;
+    };
+    Some(factors.pivots.items().len())
 }
 
-// The rank of what these pivots leave, if walks and flat rows agree on that.
+// The rank of what is known to be left, if walks and flat rows agree on that.
 fn agreed_rank<R: Threads + Sync>(
     rt: &R,
     alloc: Global,
     triangle: &Triangle,
-) -> Result<Option<usize>, AllocError> {
-    let (known, rank) = known_rest(rt, alloc, triangle)?;
-    let agree = walks_agree(rt, alloc, triangle, &known, rank)?
-        && flat_agrees(rt, alloc, triangle, &known, rank)?;
-    Ok(if agree { Some(rank) } else { None })
+    walks: &RowReducer,
+    known: &Rows,
+) -> Option<usize> {
+    let rank = rank_of(rt, alloc, known)?;
+    if agrees(rt, alloc, walks, known, rank) && flat_agrees(rt, alloc, triangle, known, rank) {
+        Some(rank)
+    } else {
+        None
+    }
+}
+
+// The rank of what one worker leaves by walks, if all ways agree on that.
+fn rank_left_by<R: Threads + Sync>(
+    rt: &R,
+    alloc: Global,
+    triangle: &Triangle,
+    walks: &RowReducer,
+) -> Option<usize> {
+    let Ok(known) = complement(&Threaded::of(rt), alloc, walks, 1) else {
+        return None;
+    };
+    agreed_rank(rt, alloc, triangle, walks, &known)
+}
+
+// The same of what these pairs leave.
+fn rank_beside<R: Threads + Sync>(rt: &R, alloc: Global, book: &Book) -> Option<usize> {
+    let Ok(triangle) = Triangle::of(alloc, book) else {
+        return None;
+    };
+    rank_left_by(rt, alloc, &triangle, &RowReducer::by_walks(&triangle))
 }
 
 // The same of what the leftmost pivots leave.
-fn rank_left<R: Threads + Sync>(
-    rt: &R,
-    alloc: Global,
-    rows: &Rows,
-) -> Result<Option<usize>, AllocError> {
-    let book = leftmost(alloc, rows)?;
-    let triangle = Triangle::of(alloc, &book)?;
-    agreed_rank(rt, alloc, &triangle)
+fn rank_left<R: Threads + Sync>(rt: &R, alloc: Global, rows: &Rows) -> Option<usize> {
+    let Ok(book) = leftmost(alloc, rows) else {
+        return None;
+    };
+    rank_beside(rt, alloc, &book)
 }
 
-// The same of a scattered matrix.
-fn rank_left_of_scattered<R: Threads + Sync>(
-    rt: &R,
-    alloc: Global,
-    m: u32,
-    n: u32,
-    per: u32,
-) -> Result<Option<usize>, Fail>
-    requires { 0 < n }
-{
-    let rows = scattered(alloc, m, n, per)?;
-    Ok(rank_left(rt, alloc, &rows)?)
-}
-
-// The same of five rows with these entries.
-fn rank_left_of_five<R: Threads + Sync>(
-    rt: &R,
-    alloc: Global,
-    entries: &[(u32, u32, u64)],
-) -> Result<Option<usize>, Fail> {
-    let rows = built(alloc, 5, 4, entries)?;
-    Ok(rank_left(rt, alloc, &rows)?)
+// The same of a matrix that was built.
+fn rank_left_of<R: Threads + Sync>(rt: &R, alloc: Global, built: Built) -> Option<usize> {
+    match built {
+        Ok(Some(rows)) => rank_left(rt, alloc, &rows),
+        _ => None,
+    }
 }
 
 // Heights, widths and values a row: a complement of few rows, tall ones, one of full rank, a dense matrix, and sizes where a row costs
@@ -232,20 +229,19 @@ const LEFT: &[(&[(u32, u32, u64)], usize)] = &[
 ];
 
 #[test]
-fn bases_end_in_time(rt: HostRuntime) -> Result<(), Fail> {
+fn bases_end_in_time(rt: HostRuntime) {
+    let alloc = rt.alloc();
     for (entries, rank) in LEFT {
-        let found = rank_left_of_five(&rt, rt.alloc(), entries)?;
-        assert_eq!(rt; found, Some(*rank));
+        let found = rank_left_of(&rt, alloc, built(alloc, 5, 4, entries));
+        assert!(rt; found == Some(*rank), "rank {rank}");
     }
-    Ok(())
 }
 
 #[test]
-fn ways_and_chunks_agree(rt: HostRuntime) -> Result<(), Fail> {
+fn ways_and_chunks_agree(rt: HostRuntime) {
+    let alloc = rt.alloc();
     for (m, n, per) in SCATTERED {
-        assert!(rt; 0 < *n);
-        let found = rank_left_of_scattered(&rt, rt.alloc(), *m, *n, *per)?;
+        let found = rank_left_of(&rt, alloc, scattered(alloc, *m, *n, *per));
         assert!(rt; found.is_some(), "at {m} {n} {per}");
     }
-    Ok(())
 }

@@ -1,10 +1,10 @@
 // Calls that no program makes, on small matrices modulo 7.
-ghost use Rattle.std.specs.Prelude.{◌≤◌};
+ghost use Rattle.std.specs.Prelude.{◌≡◌, ◌≤◌};
 
 use crate::tests::matrices::{built, lists};
 use kernel_solve::{Inverse, inverse, left_kernel};
-use std::alloc::{AllocError, Global};
-use std::test::Fail;
+use sparse_rows::Rows;
+use std::alloc::Global;
 use std::thread::Threads;
 
 // 3 x 3, of rank 2: the second column is twice the first.
@@ -30,29 +30,22 @@ const Y: &[(u32, u32, u64)] = &[
     (2, 2, 2),
 ];
 
-// The entries of the left kernel basis of X.
-const LEFT_KERNEL: &[(u32, u32, u64)] = &[(0, 0, 6), (0, 1, 6), (0, 2, 1)];
-
-// Whether the left kernel basis of X is as known.
-fn has_left_kernel<R: Threads + Sync>(rt: &R, alloc: Global) -> Result<bool, Fail> {
-    let a = built(alloc, 3, 3, X)?;
-    let basis = left_kernel(rt, alloc, &a, 1)?;
-    Ok(lists(alloc, basis, LEFT_KERNEL)?)
+// A square matrix: its size and entries, whether there is an inverse, its entries or those of the null vector, and those of the left
+// kernel's basis.
+struct Square {
+    size: u32,
+    entries: &'static [(u32, u32, u64)],
+    is_inverse: bool,
+    inverse: &'static [(u32, u32, u64)],
+    left_kernel: &'static [(u32, u32, u64)],
 }
 
-#[test]
-fn left_kernels(rt: HostRuntime) -> Result<(), Fail> {
-    assert!(rt; has_left_kernel(&rt, rt.alloc())?);
-    Ok(())
-}
-
-// The size of a matrix, its entries, whether there is an inverse, and its entries or those of the null vector.
-const INVERSES: &[(u32, &[(u32, u32, u64)], bool, &[(u32, u32, u64)])] = &[
-    (
-        3,
-        Y,
-        true,
-        &[
+const SQUARES: &[Square] = &[
+    Square {
+        size: 3,
+        entries: Y,
+        is_inverse: true,
+        inverse: &[
             (0, 0, 1),
             (1, 0, 6),
             (1, 1, 2),
@@ -60,48 +53,81 @@ const INVERSES: &[(u32, &[(u32, u32, u64)], bool, &[(u32, u32, u64)])] = &[
             (2, 1, 6),
             (2, 2, 1),
         ],
-    ),
-    (3, X, false, &[(0, 0, 5), (0, 1, 1)]),
-    (2, &[(0, 0, 1)], false, &[(0, 1, 1)]),
-    (1, &[(0, 0, 3)], true, &[(0, 0, 5)]),
-    (0, &[], true, &[]),
+        left_kernel: &[],
+    },
+    Square {
+        size: 3,
+        entries: X,
+        is_inverse: false,
+        inverse: &[(0, 0, 5), (0, 1, 1)],
+        left_kernel: &[(0, 0, 6), (0, 1, 6), (0, 2, 1)],
+    },
+    Square {
+        size: 2,
+        entries: &[(0, 0, 1)],
+        is_inverse: false,
+        inverse: &[(0, 1, 1)],
+        left_kernel: &[(0, 1, 1)],
+    },
+    Square {
+        size: 1,
+        entries: &[(0, 0, 3)],
+        is_inverse: true,
+        inverse: &[(0, 0, 5)],
+        left_kernel: &[],
+    },
+    Square {
+        size: 0,
+        entries: &[],
+        is_inverse: true,
+        inverse: &[],
+        left_kernel: &[],
+    },
 ];
 
-// Whether an inverse with these entries was found, or a null vector with them.
-fn tells(
-    alloc: Global,
-    found: Inverse,
-    is_inverse: bool,
-    entries: &[(u32, u32, u64)],
-) -> Result<bool, AllocError> {
+// Whether the left kernel basis of a matrix is as known.
+fn has_left_kernel<R: Threads + Sync>(rt: &R, alloc: Global, a: &Rows, known: &Square) -> bool {
+    let Ok(basis) = left_kernel(rt, alloc, a, 1) else {
+        return false;
+    };
+    lists(alloc, &basis, known.left_kernel)
+}
+
+// Whether an inverse with the known entries was found, or a null vector with them.
+fn tells(alloc: Global, found: &Inverse, known: &Square) -> bool {
     match found {
-        Inverse::Of(b) => Ok(is_inverse && lists(alloc, b, entries)?),
-        Inverse::Singular(v) => Ok(!is_inverse && lists(alloc, v, entries)?),
+        Inverse::Of(b) => known.is_inverse && lists(alloc, b, known.inverse),
+        Inverse::Singular(v) => !known.is_inverse && lists(alloc, v, known.inverse),
     }
 }
 
-// The same of the n x n matrix of these places and values.
-fn inverts_into<R: Threads + Sync>(
-    rt: &R,
-    alloc: Global,
-    n: u32,
-    a: &[(u32, u32, u64)],
-    is_inverse: bool,
-    entries: &[(u32, u32, u64)],
-) -> Result<bool, Fail>
-    requires { n ≤ 8 }
+// The same of a matrix.
+fn inverts<R: Threads + Sync>(rt: &R, alloc: Global, a: &Rows, known: &Square) -> bool
+    requires square { a.now.matrix.height ≡ a.now.matrix.width }
+    requires small { a.now.matrix.width ≤ 8 }
 {
-    let a = built(alloc, n, n, a)?;
-    let found = inverse(rt, alloc, &a, 2)?;
-    Ok(tells(alloc, found, is_inverse, entries)?)
+    let Ok(found) = inverse(rt, alloc, a, 2) else {
+        return false;
+    };
+    tells(alloc, &found, known)
+}
+
+// Whether a matrix has the left kernel, and the inverse or null vector, that are known.
+fn is_as_known<R: Threads + Sync>(rt: &R, alloc: Global, known: &Square) -> bool {
+    let n = known.size;
+    if n > 8 {
+        return false;
+    }
+    let Ok(Some(a)) = built(alloc, n, n, known.entries) else {
+        return false;
+    };
+    has_left_kernel(rt, alloc, &a, known) && inverts(rt, alloc, &a, known)
 }
 
 #[test]
-fn inverses(rt: HostRuntime) -> Result<(), Fail> {
-    for (n, a, is_inverse, entries) in INVERSES {
-        assert!(rt; *n <= 8);
-        let known = inverts_into(&rt, rt.alloc(), *n, a, *is_inverse, entries)?;
-        assert!(rt; known, "{n} x {n}");
+fn left_kernels_and_inverses(rt: HostRuntime) {
+    for known in SQUARES {
+        let n = known.size;
+        assert!(rt; is_as_known(&rt, rt.alloc(), known), "{n} x {n}");
     }
-    Ok(())
 }
