@@ -11,3 +11,9 @@ invariant_of-self-2 c =
       row = omega (arith, c.new.ensures.place, c.ranges.j.fits, c.requires.row, ap (λ (b : Building). b.height) c.self.view_is);
       column = omega (arith, c.new.ensures.place, c.ranges.j.fits, c.requires.column, ap (λ (b : Building). b.width) c.self.view_is);
     }) (omega (arith, c.new.ensures.val, c.requires.residue, ap (λ (b : Building). b.modulus) c.self.view_is)))
+
+pub push-requires-clause-row : goal.push-requires-clause-row
+push-requires-clause-row c = omega (arith, c.requires.row, ap (λ (b : Building). b.height) c.self.view_is, c.self.invariant.height_small)
+
+pub push-requires-clause-behind : goal.push-requires-clause-behind
+push-requires-clause-behind c = c.takes.ensures c.if-takes.true

@@ -8,6 +8,10 @@ use Rattle.sparse_rows.proofs.Spread.{entry_support}
 use Rattle.sparse_rows.proofs.rows.Rows.copy_shifted.Goals as goal
 use Rattle.sparse_rows.proofs.rows.Rows.copy_shifted.Goals.{After-loop-k}
 
+-- a row has as many entries as columns of entries
+entry_inside : (v cols vals : List ℕ) (k : ℕ) → cols ≡ support v → length vals ≡ length (support v) → k < length cols → k < length vals
+entry_inside v cols vals k e same l = omega (arith, ap length e, same, l)
+
 pub overflow_add-by : goal.overflow_add-by
 overflow_add-by c = omega (arith, c.cols-cols.ensures.below_width c.loop-k.k c.loop-k-test.true, c.requires.narrow)
 
@@ -38,3 +42,25 @@ returns-clause-after c = λ j a b.
     let e : c.args.by + (j - c.args.by) ≡ j = omega arith in
     ap (slice_index c.loop-k.to.row) (sym e) ∙ copied c (j - c.args.by) (omega arith)
     ∙ get_or_past (row c.args.self.now.matrix c.args.i) (j - c.args.by) 0 (omega (arith, (c.is_sound.ensures.entries.each c.args.i c.requires.row).len))
+
+pub bounds-vals-k : goal.bounds-vals-k
+bounds-vals-k c = entry_inside (row c.args.self.now.matrix c.args.i) c.cols-cols.result.now c.vals-vals.result.now c.loop-k.k c.cols-cols.ensures.support c.vals-vals.ensures.same_length c.loop-k-test.true
+
+pub push-requires-clause-column : goal.push-requires-clause-column
+push-requires-clause-column c = omega (arith, c.cols-cols.ensures.below_width c.loop-k.k c.loop-k-test.true, c.requires.width, c.loop-k.invariant.1.long)
+
+pub push-requires-clause-positive : goal.push-requires-clause-positive
+push-requires-clause-positive c = c.vals-vals.ensures.positive c.loop-k.k (entry_inside (row c.args.self.now.matrix c.args.i) c.cols-cols.result.now c.vals-vals.result.now c.loop-k.k c.cols-cols.ensures.support c.vals-vals.ensures.same_length c.loop-k-test.true)
+
+pub push-requires-clause-residue : goal.push-requires-clause-residue
+push-requires-clause-residue c =
+    omega (arith, c.vals-vals.ensures.residues c.loop-k.k (entry_inside (row c.args.self.now.matrix c.args.i) c.cols-cols.result.now c.vals-vals.result.now c.loop-k.k c.cols-cols.ensures.support c.vals-vals.ensures.same_length c.loop-k-test.true), c.loop-k.invariant.0, c.requires.modulus)
+
+pub returns-clause-modulus : goal.returns-clause-modulus
+returns-clause-modulus c = c.loop-k.invariant.0
+
+pub returns-clause-length : goal.returns-clause-length
+returns-clause-length c = c.loop-k.invariant.1.long
+
+pub returns-clause-before : goal.returns-clause-before
+returns-clause-before c = c.loop-k.invariant.1.before

@@ -1,3 +1,4 @@
+use Rattle.residue_words.specs.Matrix.{Matrix}
 use Rattle.std.proofs.Common.{◌<◌, ◌∙◌, ap, arith, map, subst, sym}
 use Rattle.std.specs.List.{All}
 use Rattle.std.proofs.lemmas.List.Elements.{All-weaker}
@@ -77,3 +78,30 @@ returns-clause-matrix c =
     ∙ (is_numbered c.args.modulus c.args.height c.args.width c.args.cells.now _ _ _ _ _ _ c.requires.height_small c.requires.width_small c.requires.entries c.requires.within
     (c.deref.ensures.value ∙ c.in_ok-numbers.ensures) (c.deref-3.ensures.value ∙ c.in_ok-numbers.ensures) c.in_ok-rows.ensures c.deref-2.ensures.value c.in_ok-places.ensures
     (c.deref-5.ensures.value ∙ c.in_ok-cells.ensures ∙ ap (λ ks. renumbered ks c.args.cells.now) c.deref-4.ensures.value)).matrix
+
+pub from_cells-requires-clause-height_small : goal.from_cells-requires-clause-height_small
+from_cells-requires-clause-height_small c = c.requires.height_small
+
+pub from_cells-requires-clause-width_small : goal.from_cells-requires-clause-width_small
+from_cells-requires-clause-width_small c = c.requires.width_small
+
+pub from_cells-requires-clause-within : goal.from_cells-requires-clause-within
+from_cells-requires-clause-within c = c.requires.within
+
+pub from_cells-requires-clause-entries : goal.from_cells-requires-clause-entries
+from_cells-requires-clause-entries c = c.requires.entries
+
+pub invariant_of-result : goal.invariant_of-result
+invariant_of-result c = (c.requires.height_small, sym (ap (λ (M : Matrix). M.height) c.in_ok-from_cells.ensures.matrix))
+
+pub returns-then-stores_every_row-clause-modulus : goal.returns-then-stores_every_row-clause-modulus
+returns-then-stores_every_row-clause-modulus c = c.in_ok-from_cells.ensures.modulus
+
+pub returns-then-stores_every_row-clause-matrix : goal.returns-then-stores_every_row-clause-matrix
+returns-then-stores_every_row-clause-matrix c = c.in_ok-from_cells.ensures.matrix
+
+pub from_cells-requires-2-clause-width_small : goal.from_cells-requires-2-clause-width_small
+from_cells-requires-2-clause-width_small c = c.requires.width_small
+
+pub returns-clause-modulus : goal.returns-clause-modulus
+returns-clause-modulus c = c.in_ok-from_cells-2.ensures.modulus

@@ -60,3 +60,24 @@ returns-clause-matrix c =
     (within_listed a.rows.now a.columns.now a.values.now a.p a.m a.n s.columns s.values s.width s.inside s.positive s.order)
     record { place = 0; val = 0 } s.width)
     ∙ built_listed a.rows.now a.columns.now a.values.now a.p a.m a.n s.columns s.values s.width s.inside s.positive s.order
+
+pub listed-requires-clause-columns : goal.listed-requires-clause-columns
+listed-requires-clause-columns c = c.requires.columns
+
+pub listed-requires-clause-values : goal.listed-requires-clause-values
+listed-requires-clause-values c = c.requires.values
+
+pub from_cells-requires-clause-height_small : goal.from_cells-requires-clause-height_small
+from_cells-requires-clause-height_small c = c.requires.height
+
+pub from_cells-requires-clause-width_small : goal.from_cells-requires-clause-width_small
+from_cells-requires-clause-width_small c = c.requires.width
+
+pub returns-then-not-stores_every_row-clause-modulus : goal.returns-then-not-stores_every_row-clause-modulus
+returns-then-not-stores_every_row-clause-modulus c = c.from_cells.ensures.modulus
+
+pub starts_of-requires-clause-below : goal.starts_of-requires-clause-below
+starts_of-requires-clause-below c = λ k l. (c.requires.inside k l).row
+
+pub returns-clause-modulus : goal.returns-clause-modulus
+returns-clause-modulus c = c.of_parts.ensures.modulus

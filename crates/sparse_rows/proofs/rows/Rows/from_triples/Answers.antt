@@ -1,8 +1,15 @@
-use Rattle.std.proofs.Common.{◌≡◌, ◌∙◌, ap, map}
-use Rattle.std.proofs.lemmas.List.{take_all}
+use Rattle.std.proofs.Common.{◌≡◌, ◌∙◌, ◌++◌, ◌∷◌, [], List, ap, get_or, map, sym, take}
+use Rattle.std.proofs.lemmas.List.{map_more, take_all}
 use Rattle.std.proofs.lemmas.Result.{IfOk-weaker}
-use Rattle.sparse_rows.specs.Rows.{Building, built, triple}
+use Rattle.sparse_rows.specs.Rows.{Building, Triple, built, triple}
 use Rattle.sparse_rows.proofs.rows.Rows.from_triples.Goals as goal
+
+pub loop-i-preserved : goal.loop-i-preserved
+loop-i-preserved c =
+    let building : List Triple → Building = λ ts. record { modulus = c.args.p.now; height = c.args.m; width = c.args.n; pushed = ts } in
+    c.in_ok-push.ensures.ok
+    ∙ ap (λ (b : Building). record b { pushed = b.pushed ++ triple (get_or c.args.triples.now c.loop-i.i-index (0, 0, 0)) ∷ [] }) c.loop-i.invariant
+    ∙ ap building (sym (map_more triple c.args.triples.now c.loop-i.i-index (0, 0, 0) c.loop-i-test.true))
 
 pub returns-clause-matrix : goal.returns-clause-matrix
 returns-clause-matrix c =

@@ -2,8 +2,8 @@ use Rattle.std.proofs.Common.{◌≡◌, ◌∙◌, ap, ap₂, cond, subst, sym}
 use Rattle.residue_words.specs.Matrix.{Matrix}
 use Rattle.sparse_rows.specs.Columns.{GoTo}
 use Rattle.sparse_rows.specs.Placed.{AreNamed, expanded}
-use Rattle.sparse_rows.specs.Rows.{narrowed, transposed, widened}
-use Rattle.sparse_rows.proofs.Expanding.{listed, transposed_listed, transposed_placed, turned_sound}
+use Rattle.sparse_rows.specs.Rows.{narrowed, transposed, widened, AreEnough}
+use Rattle.sparse_rows.proofs.Expanding.{listed, transposed_listed, transposed_placed, turned_sound, placed_small}
 use Rattle.sparse_rows.proofs.rows.Rows.transpose.Goals as goal
 use Rattle.sparse_rows.proofs.rows.Rows.transpose.Goals.{In_ok-with_columns-2}
 
@@ -35,3 +35,24 @@ invariant_of-result-2 c = (c.width-width.ensures.bound, subst (λ w. AreNamed w 
 
 pub returns-clause-matrix : goal.returns-clause-matrix
 returns-clause-matrix c = ap (λ w. expanded w c.in_ok-columns.columns.items c.in_ok-with_columns-2.field-0.matrix) c.width-width.ensures.value ∙ (both c).1
+
+pub with_columns-requires-clause-height : goal.with_columns-requires-clause-height
+with_columns-requires-clause-height c = placed_small c.self.inside.every_row _ _ _ c.self.invariant
+
+pub with_columns-requires-clause-rows : goal.with_columns-requires-clause-rows
+with_columns-requires-clause-rows c = λ e.
+    let l = listed c.self.inside.every_row c.self.inside.height c.self.inside.rows.items c.self.inside.stored.matrix e c.self.invariant in
+    let w : c.in_ok-stored.stored.matrix.width ≡ c.self.inside.stored.matrix.height = ap (λ M. M.width) c.in_ok-stored.ensures.matrix in
+    subst (GoTo c.in_ok-stored.stored.matrix.width c.self.inside.height) (sym c.deref.ensures.value) record { many = l.1.many ∙ sym w; rising = l.1.rising; below = l.1.below }
+
+pub with_columns-requires-2-clause-height : goal.with_columns-requires-2-clause-height
+with_columns-requires-2-clause-height c = placed_small c.self.inside.every_row _ _ _ c.self.invariant
+
+pub narrowed-requires : goal.narrowed-requires
+narrowed-requires c = subst (AreEnough c.self.inside.stored.matrix) (sym c.deref-2.ensures.value) c.in_ok-columns.ensures.enough
+
+pub returns-then-stores_every_row-clause-modulus : goal.returns-then-stores_every_row-clause-modulus
+returns-then-stores_every_row-clause-modulus c = c.in_ok-with_columns.ensures.modulus ∙ c.in_ok-stored.ensures.modulus ∙ ap (λ m. m.modulus) c.self.view_is
+
+pub returns-clause-modulus : goal.returns-clause-modulus
+returns-clause-modulus c = c.in_ok-with_columns-2.ensures.modulus ∙ c.in_ok-stored-2.ensures.modulus ∙ c.in_ok-narrowed.ensures.modulus ∙ ap (λ m. m.modulus) c.self.view_is

@@ -50,3 +50,9 @@ returns-clause-matrix c =
     let first = ap (λ (m : ResidueMatrix). m.matrix) c.self.view_is in
     let second = ap (λ w. stored_matrix w c.from.inside.starts.items c.from.inside.cols.items c.from.inside.vals.items) n ∙ ap (λ (m : ResidueMatrix). m.matrix) c.from.view_is in
     rw (columns c, values c) (joined_matrix _ _ _ _ _ c.self.invariant _ _ _ (further c) _ (starts c)) ∙ ap₂ above first second
+
+pub invariant_of-self : goal.invariant_of-self
+invariant_of-self c = rw c.reserve.ensures.items c.self.invariant
+
+pub returns-clause-modulus : goal.returns-clause-modulus
+returns-clause-modulus c = ap (λ (m : ResidueMatrix). m.modulus) c.self.view_is
