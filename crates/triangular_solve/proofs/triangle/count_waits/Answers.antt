@@ -1,7 +1,8 @@
+use Rattle.sparse_rows.specs.Rows.{AreRising}
 use Rattle.std.proofs.Common.{ℕ, List, ◌≡◌, ◌<◌, ◌++◌, ◌∷◌, [], ◌∙◌, drop, get_or, inl, inr, length, slice_index, subst, sym, take, ap, arith}
 use Rattle.std.specs.List.{Contains}
 use Rattle.std.proofs.lemmas.Bool.{cases_eq}
-use Rattle.std.proofs.lemmas.List.{length-map, length-take-le, take_at, take_more}
+use Rattle.std.proofs.lemmas.List.{length-map, length-take-le, take_at, take_more, take_all}
 use Rattle.std.proofs.lemmas.List.Elements.{Contains-get_or}
 use Rattle.residue_words.specs.Matrix.{entry}
 use Rattle.residue_words.specs.declared.plain.Pair.{Pair}
@@ -56,3 +57,18 @@ loop-pair-preserved c =
           ] in
           ap (λ (xs : List ℕ). slice_index xs k) back ∙ next ∙ ap (λ (l : List Pair). column_count A l d) (sym (take_more pairs i no_pair c.loop-pair-test.true));
     }
+
+pub raise-requires-clause-many : goal.raise-requires-clause-many
+raise-requires-clause-many c = ap length c.deref_mut.ensures.value ∙ c.loop-pair.invariant.many ∙ sym (ap length c.requires.columns ∙ length-map c.args.pairs.now (λ (p : Pair). p.col))
+
+pub raise-requires-clause-pivotal : goal.raise-requires-clause-pivotal
+raise-requires-clause-pivotal c = subst AreRising (sym c.requires.columns) c.requires.pivots.rising
+
+pub raise-requires-clause-rising : goal.raise-requires-clause-rising
+raise-requires-clause-rising c = c.cols.ensures.ascending
+
+pub returns : goal.returns
+returns c = record {
+  many = c.loop-pair.invariant.many;
+  counts = λ k l. c.loop-pair.invariant.counts k l ∙ ap (λ (ps : List Pair). column_count c.args.rows.now.matrix ps (col_at c.args.pairs.now k)) (take_all c.loop-pair.pair-index c.args.pairs.now c.loop-pair-test.false);
+}

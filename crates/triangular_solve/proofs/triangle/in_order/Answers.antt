@@ -1,9 +1,10 @@
-use Rattle.std.proofs.Common.{List, ◌≡◌, ◌<◌, ◌∙◌, length, map, slice_index, subst, sym, ap, arith}
+use Rattle.std.proofs.Common.{ℕ, List, ◌≤◌, ◌≡◌, ◌<◌, ◌∙◌, length, map, slice_index, subst, sym, ap, arith}
 use Rattle.std.proofs.lemmas.List.{length-map}
 use Rattle.std.proofs.lemmas.List.Elements.{Contains-get_or}
 use Rattle.residue_words.specs.declared.plain.Pair.{Pair}
 use Rattle.sparse_rows.specs.Rows.{AreRising, ResidueMatrix}
-use Rattle.triangular_solve.specs.Listing.{AreSortedPivots}
+use Rattle.triangular_solve.specs.Listing.{AreSortedPivots, AreWaits, HasReady}
+use Rattle.sparse_rows.specs.declared.rows.TheConstants.{LARGEST_SIZE}
 use Rattle.pivot_table.specs.Order.{IsTriangularOrder}
 use Rattle.triangular_solve.proofs.Listing.{col_is, no_pair, order_of_sorted}
 use Rattle.triangular_solve.proofs.triangle.in_order.Goals as goal
@@ -33,3 +34,25 @@ pub returns : goal.returns
 returns c = order_of_sorted c.in_ok-pairs.ensures.permutation
     (subst (λ (m : ResidueMatrix). IsTriangularOrder m.matrix c.in_ok-pairs.pairs.items c.in_ok-order.order.items) c.rows-rows.ensures
     (subst (λ (qs : List Pair). IsTriangularOrder c.rows-rows.result.now.matrix qs c.in_ok-order.order.items) c.deref-4.ensures.value c.in_ok-order.ensures))
+
+pub of-requires-clause-width : goal.of-requires-clause-width
+of-requires-clause-width c = c.width.ensures.bound
+
+few : (pairs : List Pair) (columns : List ℕ) → columns ≡ map (λ (p : Pair). p.col) pairs → length columns ≤ LARGEST_SIZE → length pairs ≤ LARGEST_SIZE
+few pairs columns e l = subst (λ n. n ≤ LARGEST_SIZE) (ap length e ∙ length-map pairs (λ (p : Pair). p.col)) l
+
+pub count_waits-requires-clause-few : goal.count_waits-requires-clause-few
+count_waits-requires-clause-few c = few c.deref-2.result.now c.in_ok-columns.columns (c.in_ok-columns.ensures ∙ c.in_ok-columns_of.ensures ∙ ap (map (λ (p : Pair). p.col)) (c.deref.ensures.value ∙ sym c.deref-2.ensures.value)) (subst (λ (xs : List ℕ). length xs ≤ LARGEST_SIZE) c.columns.view_is c.columns.invariant.few)
+
+pub count_waits-requires-clause-columns : goal.count_waits-requires-clause-columns
+count_waits-requires-clause-columns c = c.in_ok-columns.ensures ∙ c.in_ok-columns_of.ensures ∙ ap (map (λ (p : Pair). p.col)) (c.deref.ensures.value ∙ sym c.deref-2.ensures.value)
+
+pub list_all-requires-clause-columns : goal.list_all-requires-clause-columns
+list_all-requires-clause-columns c = c.in_ok-columns.ensures ∙ c.in_ok-columns_of.ensures ∙ ap (map (λ (p : Pair). p.col)) (c.deref.ensures.value ∙ sym c.deref-4.ensures.value)
+
+pub list_all-requires-clause-waits : goal.list_all-requires-clause-waits
+list_all-requires-clause-waits c = subst (λ (qs : List Pair). AreWaits c.rows-rows.result.now.matrix qs c.deref_mut.result.now) (c.deref-2.ensures.value ∙ sym c.deref-4.ensures.value)
+    (subst (AreWaits c.rows-rows.result.now.matrix c.deref-2.result.now) (sym c.deref_mut.ensures.value) c.in_ok-waits.ensures)
+
+pub list_all-requires-clause-ready : goal.list_all-requires-clause-ready
+list_all-requires-clause-ready c = subst (λ (ws : List ℕ). HasReady ws c.in_ok-queue.queue) (c.deref-3.ensures.value ∙ sym c.deref_mut.ensures.value) c.in_ok-queue.ensures

@@ -1,6 +1,7 @@
+use Rattle.sparse_rows.specs.Rows.{AreRising}
 use Rattle.std.proofs.Common.{ℕ, List, ◌≡◌, ◌≢◌, ◌<◌, length, get_or, inl, inr, ⊎_elim, slice_index, subst, sym, ap, ◌∙◌, arith}
 use Rattle.std.specs.List.{Contains}
-use Rattle.std.proofs.lemmas.List.{length-map}
+use Rattle.std.proofs.lemmas.List.{length-map, length_push}
 use Rattle.std.proofs.lemmas.List.Elements.{Contains-get_or}
 use Rattle.residue_words.specs.Matrix.{entry}
 use Rattle.residue_words.specs.declared.plain.Pair.{Pair}
@@ -71,3 +72,16 @@ bounds-pairs-place c = c.loop-place.invariant.inside c.in-Some.place c.in-Some.e
 
 pub lower-requires-clause-rising : goal.lower-requires-clause-rising
 lower-requires-clause-rising c = c.cols.ensures.ascending
+
+pub lower-requires-clause-many : goal.lower-requires-clause-many
+lower-requires-clause-many c = c.loop-place.auto.waits ∙ c.requires.waits.many ∙ sym (ap length c.requires.columns ∙ length-map c.args.pairs.now (λ (p : Pair). p.col))
+
+pub lower-requires-clause-pivotal : goal.lower-requires-clause-pivotal
+lower-requires-clause-pivotal c = subst AreRising (sym c.requires.columns) c.requires.pivots.rising
+
+pub loop-place-smaller : goal.loop-place-smaller
+loop-place-smaller c =
+    let inv = c.loop-place.invariant in
+    let some = c.in-Some.ensures.some in
+    let left = waits_left c.requires.pivots inv c.in-Some.place (inv.inside c.in-Some.place some.here) some.ready in
+    omega (arith, ap length c.in_ok-push.ensures.items, length_push c.loop-place.order.items (get_or c.args.pairs.now c.in-Some.place no_pair), inv.many, left.1)

@@ -1,4 +1,5 @@
-use Rattle.std.proofs.Common.{◌∙◌, length, ap, subst}
+use Rattle.residue_words.specs.Matrix.{zeros}
+use Rattle.std.proofs.Common.{◌∙◌, length, ap, subst, sym}
 use Rattle.sparse_rows.specs.Rows.{ResidueRow}
 use Rattle.sparse_rows.proofs.Loops.{length_zeros}
 use Rattle.triangular_solve.specs.PivotRows.{IsSplitRow}
@@ -10,3 +11,39 @@ returns-clause-left c = left_parts c.order.ensures.placed c.in_ok-take_row.ensur
     (subst (λ xs. IsSplitRow xs c.join.new.rest.row c.take_row.new.sums.row c.take_row.new.passed.row) c.order.ensures.columns c.in_ok-join.ensures.joined)
     (left_vector c.args.row.cols.now c.args.row.vals.now (c.in_ok-join.ensures.rest.1 ∙ ap (λ (r : ResidueRow). length r.row) c.requires.rest ∙ length_zeros (length c.args.passed.now.row))
     (c.in_ok-join.ensures.rest.0 ∙ ap (λ (r : ResidueRow). r.modulus) c.requires.rest ∙ c.requires.room.modulus) c.is_sound.ensures.entries)
+
+pub take_row-requires-clause-flat : goal.take_row-requires-clause-flat
+take_row-requires-clause-flat c = c.requires.flat
+
+pub take_row-requires-clause-row : goal.take_row-requires-clause-row
+take_row-requires-clause-row c = c.requires.row
+
+pub take_row-requires-clause-room : goal.take_row-requires-clause-room
+take_row-requires-clause-room c = c.requires.room
+
+pub take_row-requires-clause-below : goal.take_row-requires-clause-below
+take_row-requires-clause-below c = c.requires.below
+
+pub join-requires-clause-alike : goal.join-requires-clause-alike
+join-requires-clause-alike c = (ap (λ (r : ResidueRow). r.modulus) c.requires.rest ∙ sym c.take_row.ensures.passed.0, ap (λ (r : ResidueRow). length r.row) c.requires.rest ∙ length_zeros (length c.args.passed.now.row) ∙ sym c.take_row.ensures.passed.1)
+
+pub join-requires-clause-modulus : goal.join-requires-clause-modulus
+join-requires-clause-modulus c = c.take_row.ensures.sums.0 ∙ ap (λ (r : ResidueRow). r.modulus) c.requires.room.clear ∙ sym (ap (λ (r : ResidueRow). r.modulus) c.requires.rest ∙ c.requires.room.modulus)
+
+pub join-requires-clause-none : goal.join-requires-clause-none
+join-requires-clause-none c = ap (λ (r : ResidueRow). r.row) c.requires.rest ∙ ap zeros (sym (ap (λ (r : ResidueRow). length r.row) c.requires.rest ∙ length_zeros (length c.args.passed.now.row)))
+
+pub join-requires-clause-distinct : goal.join-requires-clause-distinct
+join-requires-clause-distinct c = rw c.order.ensures.columns c.order.ensures.placed.distinct
+
+pub join-requires-clause-below : goal.join-requires-clause-below
+join-requires-clause-below c = rw (ap (λ (r : ResidueRow). length r.row) c.requires.rest ∙ length_zeros (length c.args.passed.now.row), c.order.ensures.columns) c.requires.below
+
+pub returns-clause-passed : goal.returns-clause-passed
+returns-clause-passed c = c.take_row.ensures.passed
+
+pub returns-clause-rest : goal.returns-clause-rest
+returns-clause-rest c = c.join.ensures.rest
+
+pub returns-clause-sums : goal.returns-clause-sums
+returns-clause-sums c = (c.join.ensures.sums.0 ∙ c.take_row.ensures.sums.0, c.join.ensures.sums.1 ∙ c.take_row.ensures.sums.1)
