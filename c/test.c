@@ -93,9 +93,13 @@ static void refusals(void) {
         spasm_room it = room_of(1);
         expect(spasm_rank(&bad[k], &rank) == SPASM_BAD_INPUT && rank == 77, "bad input of spasm_rank");
         expect(spasm_rref(&bad[k], &it) == SPASM_BAD_INPUT && it.values[0] == 99, "bad input of spasm_rref");
+        expect(spasm_kernel(&bad[k], &it) == SPASM_BAD_INPUT && it.values[0] == 99, "bad input of spasm_kernel");
         expect(spasm_solve(&bad[k], &bad[k], &it) == SPASM_BAD_INPUT, "bad input of spasm_solve");
         let_go(&it);
     }
+    spasm_room short_of_one = room_of(1);
+    expect(spasm_kernel(&matrix, &short_of_one) == SPASM_NO_ROOM && short_of_one.needed == 2, "spasm_kernel without room");
+    let_go(&short_of_one);
     for (size_t places = 0; places < 3; places++) {
         spasm_room it = room_of(places);
         expect(spasm_rref(&matrix, &it) == SPASM_NO_ROOM && it.needed == 3 && it.height == 2, "spasm_rref without room");
