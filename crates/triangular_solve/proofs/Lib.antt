@@ -10,6 +10,7 @@ pub mod PivotReduction
 pub mod Placing
 pub mod PlacingRows
 pub mod Queueing
+pub mod Rooms
 pub mod SchurRows
 pub mod SplitRows
 pub mod StoredScattered
