@@ -1,10 +1,11 @@
 // Multiples of rows added by lanes and plainly.
 ghost use Rattle.std.specs.Prelude.{◌≡◌, ◌<◌, ◌≤◌, ℕ, length, slice_index};
 
+use crate::timing::{now, say, since};
 use dense_finish::{axpy, axpy_plainly};
 use residue_words::Modulus;
 use std::io;
-use std::time::{Clock, Instant};
+use std::time::Clock;
 
 // How many entries a row has, and how often a multiple is added.
 const SIZE: usize = 2000;
@@ -20,14 +21,14 @@ pub(crate) fn time_additions<R: Clock + Print>(rt: &R) -> io::Result<()> {
     let p = Modulus::new(2147483647);
     fill(&mut y, 2, p.p());
     fill(&mut out, 1, p.p());
-    let start = Instant::now(rt)?;
+    let start = now(rt);
     by_lanes(&mut out, FACTOR, &y, &p);
-    let lanes = start.elapsed(rt)?.as_micros();
+    let lanes = since(rt, start);
     fill(&mut out, 1, p.p());
-    let start = Instant::now(rt)?;
+    let start = now(rt);
     plainly(&mut out, FACTOR, &y, &p);
-    let plain = start.elapsed(rt)?.as_micros();
-    println!(rt; "{lanes} {plain}")
+    let plain = since(rt, start);
+    say(rt, lanes, &[plain])
 }
 
 // Residues of a simple generator.

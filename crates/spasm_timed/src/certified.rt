@@ -3,89 +3,66 @@ ghost use Rattle.std.specs.Prelude.{◌≤◌, IfOk};
 ghost use Rattle.certificates.specs.Certificate.{AreModulo};
 ghost use Rattle.pluq_factor.specs.Rounds.{AreFactorsOf};
 
-use crate::texts::{PRIME, matrix};
+use crate::timing::{now, since, told};
 use cert_checker::check;
 use certificates::{Certificate, Claim};
 use optimistic_search::Open;
 use pluq_factor::{Factors, Plan, factor};
-use residue_words::Modulus;
 use sparse_rows::Rows;
-use std::alloc::Global;
-use std::io::{self, Read};
+use std::alloc::{AllocError, Global};
+use std::io;
 use std::thread::Threads;
-use std::time::{Clock, Instant};
+use std::time::Clock;
 
-// How many microseconds a certificate and its check take, whether it is valid, and how many entries the matrix, the left and the
-// right factor have.
-#[derive(Clone, Copy)]
-struct Certified {
-    elimination: u128,
-    checking: u128,
-    valid: bool,
-    entries: [u64; 3],
-}
-
-// Says how long the factors by one worker take that make a certificate of the rank, and how long its check takes; whether it is
-// valid; and how many entries the matrix, the left and the right factor have.
-pub(crate) fn time_certificate<R: Threads + Sync + Clock + Print, I: Read + Drop>(
-    rt: &R,
-    alloc: Global,
-    input: I,
-    rounds: u32,
-) -> io::Result<()> {
-    let rows = matrix(alloc, input, &Modulus::new(PRIME))?;
-    let certified = made_and_checked(rt, alloc, &rows, rounds)?;
-    say(rt, &certified)
-}
-
-// Says what a certificate took.
-fn say<R: Print>(rt: &R, certified: &Certified) -> io::Result<()> {
-    let Certified {
-        elimination,
-        checking,
-        valid,
-        entries,
-    } = certified;
-    let [rows, left, right] = entries;
-    println!(rt; "{elimination} {checking} {valid} {rows} {left} {right}")
-}
-
-// Makes a certificate of the rank, and checks it.
-fn made_and_checked<R: Threads + Sync + Clock>(
-    rt: &R,
-    alloc: Global,
-    rows: &Rows,
-    rounds: u32,
-) -> io::Result<Certified> {
-    let plan = Plan { workers: 1, rounds };
-    let (certificate, elimination) = made(rt, alloc, rows, plan)?;
-    let (valid, checking) = checked(rt, alloc, rows, &certificate)?;
-    Ok(Certified {
-        elimination,
-        checking,
-        valid,
-        entries: [
-            rows.entries(),
-            certificate.l.entries(),
-            certificate.u.entries(),
-        ],
-    })
-}
-
-// Makes a certificate of the rank, and tells the microseconds of its factors.
-fn made<R: Threads + Sync + Clock>(
+// Says how long the factors take that make a certificate of the rank, and how long its check takes; whether it is valid; and how many
+// entries the matrix, the left and the right factor have.
+pub(crate) fn time_certificate<R: Threads + Sync + Clock + Print>(
     rt: &R,
     alloc: Global,
     rows: &Rows,
     plan: Plan,
-) -> io::Result<(Certificate, u128)>
+) -> io::Result<()>
     requires some { 1 ≤ plan.workers }
-    ensures { IfOk result (λ t. AreModulo rows.now.modulus t.0) }
 {
-    let start = Instant::now(rt)?;
+    let start = now(rt);
+    let certificate = made(rt, alloc, rows, plan)?;
+    let elimination = since(rt, start);
+    time_check(rt, alloc, rows, &certificate, elimination)
+}
+
+// Checks a certificate that took so long, and says what there is to say of it.
+fn time_check<R: Clock + Print>(
+    rt: &R,
+    alloc: Global,
+    rows: &Rows,
+    certificate: &Certificate,
+    elimination: Option<u128>,
+) -> io::Result<()>
+    requires { AreModulo rows.now.modulus certificate.now }
+{
+    let start = now(rt);
+    let valid = check(alloc, rows, certificate)?;
+    say(
+        rt,
+        [elimination, since(rt, start)],
+        valid,
+        rows,
+        certificate,
+    )
+}
+
+// Makes a certificate of the rank.
+fn made<R: Threads + Sync>(
+    rt: &R,
+    alloc: Global,
+    rows: &Rows,
+    plan: Plan,
+) -> Result<Certificate, AllocError>
+    requires some { 1 ≤ plan.workers }
+    ensures { IfOk result (AreModulo rows.now.modulus) }
+{
     let factors = factor(rt, alloc, rows, plan, &Open)?;
-    let time = start.elapsed(rt)?.as_micros();
-    Ok((of_rank(rows, factors), time))
+    Ok(of_rank(rows, factors))
 }
 
 // The certificate of the rank by these factors.
@@ -105,17 +82,18 @@ fn of_rank(rows: &Rows, factors: Factors) -> Certificate
     }
 }
 
-// Checks a certificate, and tells the microseconds of that.
-fn checked<R: Clock>(
+// Says what a certificate took, and what there is to say of it.
+fn say<R: Print>(
     rt: &R,
-    alloc: Global,
+    [elimination, checking]: [Option<u128>; 2],
+    valid: bool,
     rows: &Rows,
     certificate: &Certificate,
-) -> io::Result<(bool, u128)>
-    requires { AreModulo rows.now.modulus certificate.now }
-{
-    let start = Instant::now(rt)?;
-    let valid = check(alloc, rows, certificate)?;
-    let time = start.elapsed(rt)?.as_micros();
-    Ok((valid, time))
+) -> io::Result<()> {
+    let (elimination, checking) = (told(elimination)?, told(checking)?);
+    let (left, right) = (certificate.l.entries(), certificate.u.entries());
+    println!(rt;
+        "{elimination} {checking} {valid} {} {left} {right}",
+        rows.entries()
+    )
 }

@@ -6,6 +6,8 @@
 //! or with none, one line says these.
 #![tactic(auto)]
 
+ghost use Rattle.std.specs.Prelude.{◌≤◌};
+
 mod added_rows;
 mod certified;
 mod counts;
@@ -22,14 +24,15 @@ use pluq_factor::Plan;
 use residue_words::{MODULUS_BOUND, Modulus};
 use rounds::time_rounds;
 use searched::{time_board, time_pivots, time_walks};
+use sparse_rows::Rows;
 use std::alloc::Global;
 use std::io::{self, Read, Write};
 use std::process::ExitCode;
 use std::thread::Threads;
 use std::time::Clock;
 use std_edge::words_of;
-use texts::{time_reading, time_writing};
-use timing::Timing;
+use texts::{matrix, time_reading, time_writing};
+use timing::{Part, Timing};
 
 // How many structural rounds there are, as the program has it without an option.
 const ROUNDS: u32 = 3;
@@ -55,34 +58,44 @@ fn perform<R: Threads + Sync + Clock + Print + Eprint, I: Read + Drop, O: Write 
 ) -> io::Result<()> {
     match task {
         Some(Timing::Lanes) => time_additions(rt),
-        Some(Timing::Factors(p, workers))
-            if 2 <= p && p < MODULUS_BOUND && 1 <= workers && workers <= 64 => {
-            time_factors(rt, alloc, input, &Modulus::new(p), workers)
-        }
-        Some(Timing::Pivots(workers)) if 1 <= workers && workers <= 64 => {
-            time_pivots(rt, alloc, input, workers)
-        }
-        Some(Timing::Rounds(workers)) if 1 <= workers && workers <= 64 => {
-            let plan = Plan {
-                workers,
-                rounds: ROUNDS,
-            };
-            time_rounds(rt, alloc, input, plan)
-        }
-        Some(Timing::Walks) => time_walks(rt, alloc, input),
-        Some(Timing::Board(workers)) if 1 <= workers && workers <= 64 => {
-            time_board(rt, alloc, input, workers)
-        }
-        Some(Timing::Certified) => time_certificate(rt, alloc, input, ROUNDS),
         Some(Timing::Read(p)) if 2 <= p && p < MODULUS_BOUND => {
             time_reading(rt, alloc, input, &Modulus::new(p))
         }
         Some(Timing::Write(p)) if 2 <= p && p < MODULUS_BOUND => {
             time_writing(rt, alloc, input, output, &Modulus::new(p))
         }
+        Some(Timing::Work(part, p, workers))
+            if 2 <= p && p < MODULUS_BOUND && 1 <= workers && workers <= 64 => {
+            let rows = matrix(alloc, input, &Modulus::new(p))?;
+            time_part(rt, alloc, &rows, part, workers)
+        }
         _ => println!(rt;
             "spasm_timed lanes | factors P WORKERS | pivots WORKERS | walks | board WORKERS | \
              rounds WORKERS | certified | read P | write P"
         ),
+    }
+}
+
+// Times a part of the work on a matrix.
+fn time_part<R: Threads + Sync + Clock + Print>(
+    rt: &R,
+    alloc: Global,
+    rows: &Rows,
+    part: Part,
+    workers: u32,
+) -> io::Result<()>
+    requires { 1 ≤ workers }
+{
+    let plan = Plan {
+        workers,
+        rounds: ROUNDS,
+    };
+    match part {
+        Part::Factors => time_factors(rt, alloc, rows, workers),
+        Part::Pivots => time_pivots(rt, alloc, rows, workers),
+        Part::Walks => time_walks(rt, alloc, rows),
+        Part::Board => time_board(rt, alloc, rows, workers),
+        Part::Rounds => time_rounds(rt, alloc, rows, plan),
+        Part::Certified => time_certificate(rt, alloc, rows, plan),
     }
 }

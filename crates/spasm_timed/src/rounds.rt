@@ -1,46 +1,32 @@
 // The rank of a matrix, and the structural rounds that lead to it.
 ghost use Rattle.std.specs.Prelude.{◌≡◌, ◌≤◌};
 
-use crate::texts::{PRIME, matrix};
+use crate::timing::{now, say, since};
 use crew::Threaded;
 use fl_pivots::leftmost;
 use optimistic_search::{Open, search_counted};
 use pluq_factor::{Plan, rank};
-use residue_words::Modulus;
 use schur_rows::{RowReducer, complement};
 use sparse_rows::Rows;
 use std::alloc::{AllocError, Global};
-use std::io::{self, Read};
+use std::io;
 use std::thread::Threads;
-use std::time::{Clock, Instant};
+use std::time::Clock;
 use triangular_solve::Triangle;
 
-// How many microseconds a round's search and its complement take, how many pivots it finds, and how many rows, columns and entries
-// it leaves.
-#[derive(Clone, Copy)]
-struct TimedRound {
-    search: u128,
-    elimination: u128,
-    found: usize,
-    height: usize,
-    width: usize,
-    entries: u64,
-}
-
-// Says how long the whole rank takes, and the rank; and then of each of so many rounds how long its pivots take and how many they
-// are, how long the complement takes, and of what size it is and how many entries it has.
-pub(crate) fn time_rounds<R: Threads + Sync + Clock + Print, I: Read + Drop>(
+// Says how long the whole rank takes, and the rank; and then of each of so many rounds, at least one, how long its pivots take and how
+// many they are, how long the complement takes, and of what size it is and how many entries it has.
+pub(crate) fn time_rounds<R: Threads + Sync + Clock + Print>(
     rt: &R,
     alloc: Global,
-    input: I,
+    rows: &Rows,
     plan: Plan,
 ) -> io::Result<()>
     requires some { 1 ≤ plan.workers }
 {
-    let rows = matrix(alloc, input, &Modulus::new(PRIME))?;
-    time_rank(rt, alloc, &rows, plan)?;
-    let mut rest = rows;
-    for _round in 0..plan.rounds {
+    time_rank(rt, alloc, rows, plan)?;
+    let mut rest = time_round(rt, alloc, rows, plan.workers)?;
+    for _round in 1..plan.rounds {
         rest = time_round(rt, alloc, &rest, plan.workers)?;
     }
     Ok(())
@@ -55,10 +41,10 @@ fn time_rank<R: Threads + Sync + Clock + Print>(
 ) -> io::Result<()>
     requires some { 1 ≤ plan.workers }
 {
-    let start = Instant::now(rt)?;
+    let start = now(rt);
     let rank = rank(&Threaded::of(rt), alloc, rows, plan)?;
-    let time = start.elapsed(rt)?.as_micros();
-    println!(rt; "{time} {rank}")
+    let time = since(rt, start);
+    say(rt, time, &[Some(u128::from(rank))])
 }
 
 // Takes one round, and says how long that takes. One worker finds its pivots, so that they are the same for every number of workers.
@@ -70,50 +56,65 @@ fn time_round<R: Threads + Sync + Clock + Print>(
 ) -> io::Result<Rows>
     requires some { 1 ≤ workers }
 {
-    let start = Instant::now(rt)?;
+    let start = now(rt);
     let triangle = pivots(rt, alloc, rows)?;
-    let search = start.elapsed(rt)?.as_micros();
-    let found = triangle.pairs().len();
-    let (rest, elimination) = left(rt, alloc, &triangle, workers)?;
-    let round = TimedRound {
-        search,
-        elimination,
-        found,
-        height: rest.filled(alloc)?.len(),
-        width: rest.occupied(alloc)?.len(),
-        entries: rest.entries(),
-    };
-    say(rt, &round)?;
-    Ok(rest)
+    let search = since(rt, start);
+    time_complement(rt, alloc, &triangle, workers, search)
 }
 
-// What pivots leave, and how many microseconds that takes.
-fn left<R: Threads + Sync + Clock>(
+// Takes what pivots leave that took so long, and says what there is to say of the round.
+fn time_complement<R: Threads + Sync + Clock + Print>(
     rt: &R,
     alloc: Global,
     triangle: &Triangle<'_>,
     workers: u32,
-) -> io::Result<(Rows, u128)>
+    search: Option<u128>,
+) -> io::Result<Rows>
     requires some { 1 ≤ workers }
 {
-    let start = Instant::now(rt)?;
-    let reducer = RowReducer::of(alloc, triangle, workers)?;
-    let rest = complement(&Threaded::of(rt), alloc, &reducer, workers)?;
-    let time = start.elapsed(rt)?.as_micros();
-    Ok((rest, time))
+    let start = now(rt);
+    let rest = left(rt, alloc, triangle, workers)?;
+    let elimination = since(rt, start);
+    say_round(
+        rt,
+        alloc,
+        [search, elimination],
+        triangle.pairs().len(),
+        &rest,
+    )?;
+    Ok(rest)
 }
 
-// Says what a round took.
-fn say<R: Print>(rt: &R, round: &TimedRound) -> io::Result<()> {
-    let TimedRound {
+// What pivots leave.
+fn left<R: Threads + Sync>(
+    rt: &R,
+    alloc: Global,
+    triangle: &Triangle<'_>,
+    workers: u32,
+) -> Result<Rows, AllocError>
+    requires some { 1 ≤ workers }
+{
+    let reducer = RowReducer::of(alloc, triangle, workers)?;
+    complement(&Threaded::of(rt), alloc, &reducer, workers)
+}
+
+// Says how long a round's search and its complement took, how many pivots it found, and how many rows, columns and entries it left.
+fn say_round<R: Print>(
+    rt: &R,
+    alloc: Global,
+    [search, elimination]: [Option<u128>; 2],
+    found: usize,
+    rest: &Rows,
+) -> io::Result<()> {
+    let height = rest.filled(alloc)?.len() as u128;
+    let width = rest.occupied(alloc)?.len() as u128;
+    let entries = u128::from(rest.entries());
+    let found = Some(found as u128);
+    say(
+        rt,
         search,
-        elimination,
-        found,
-        height,
-        width,
-        entries,
-    } = round;
-    println!(rt; "{search} {found} {elimination} {height} {width} {entries}")
+        &[found, elimination, Some(height), Some(width), Some(entries)],
+    )
 }
 
 // The pivots of a round in triangular order.

@@ -1,12 +1,13 @@
 // Matrices read from texts and written.
 ghost use Rattle.std.specs.Prelude.{◌≤◌, IfOk};
 
+use crate::timing::{now, say, since, told};
 use residue_words::Modulus;
 use sms_text::{Reader, read_rows, write_rows};
 use sparse_rows::Rows;
 use std::alloc::Global;
 use std::io::{self, ErrorKind, Read, Write};
-use std::time::{Clock, Instant};
+use std::time::Clock;
 use std_edge::{FromRead, ToWrite};
 
 // The modulus of the matrices, where the words tell none.
@@ -35,10 +36,10 @@ pub(crate) fn time_reading<R: Clock + Print, I: Read + Drop>(
     input: I,
     p: &Modulus,
 ) -> io::Result<()> {
-    let start = Instant::now(rt)?;
+    let start = now(rt);
     matrix(alloc, input, p)?;
-    let time = start.elapsed(rt)?.as_micros();
-    println!(rt; "{time}")
+    let time = since(rt, start);
+    say(rt, time, &[])
 }
 
 // Writes the matrix that was read, and says on standard error how long that takes.
@@ -50,11 +51,19 @@ pub(crate) fn time_writing<R: Clock + Eprint, I: Read + Drop, O: Write + Drop>(
     p: &Modulus,
 ) -> io::Result<()> {
     let rows = matrix(alloc, input, p)?;
+    time_write(rt, output, &rows)
+}
+
+// The same for a matrix that was read.
+fn time_write<R: Clock + Eprint, O: Write + Drop>(rt: &R, output: O, rows: &Rows) -> io::Result<()>
+    requires height { rows.now.matrix.height ≤ 2147483647 }
+    requires width { rows.now.matrix.width ≤ 2147483647 }
+{
     let mut out = ToWrite::new(output);
-    let start = Instant::now(rt)?;
-    if write_rows(&mut out, &rows).is_err() {
+    let start = now(rt);
+    if write_rows(&mut out, rows).is_err() {
         return Err(ErrorKind::WriteZero.into());
     }
-    let time = start.elapsed(rt)?.as_micros();
-    eprintln!(rt; "{time}")
+    let time = since(rt, start);
+    eprintln!(rt; "{}", told(time)?)
 }

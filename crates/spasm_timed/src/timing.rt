@@ -1,46 +1,76 @@
-// What is to be timed.
+// What is to be timed, and how long it took.
+use crate::texts::PRIME;
+use std::io::{self, ErrorKind};
+use std::time::{Clock, Instant};
 
-#[derive(Clone, Copy, Debug)]
+// A part of the work on a matrix.
+#[derive(Clone, Copy)]
+pub(crate) enum Part {
+    // Its factors.
+    Factors,
+    // Its structural pivots.
+    Pivots,
+    // The same by a walk from each row, in steps.
+    Walks,
+    // The same on a board, in steps.
+    Board,
+    // Its rank, and the rounds that lead to it.
+    Rounds,
+    // A certificate of its rank, made and checked.
+    Certified,
+}
+
+#[derive(Clone, Copy)]
 pub(crate) enum Timing {
     // Multiples of rows added, by lanes and plainly.
     Lanes,
-    // The factors of the matrix on standard input modulo this, by so many workers.
-    Factors(u64, u32),
-    // The structural pivots of the matrix on standard input, by so many workers.
-    Pivots(u32),
-    // The same by a walk from each row, in steps.
-    Walks,
-    // The same on a board, by so many workers, in steps.
-    Board(u32),
-    // The rank of the matrix on standard input, and the rounds that lead to it, by so many workers.
-    Rounds(u32),
-    // A certificate of the rank of the matrix on standard input, made and checked.
-    Certified,
     // The matrix on standard input read, modulo this.
     Read(u64),
     // The same matrix written.
     Write(u64),
+    // A part of the work on the same matrix, modulo this by so many workers.
+    Work(Part, u64, u32),
+}
+
+impl Part {
+    // The part that a word names, if it does.
+    fn named(word: &str) -> Option<Part> {
+        match word {
+            "factors" => Some(Part::Factors),
+            "pivots" => Some(Part::Pivots),
+            "walks" => Some(Part::Walks),
+            "board" => Some(Part::Board),
+            "rounds" => Some(Part::Rounds),
+            "certified" => Some(Part::Certified),
+            _ => None,
+        }
+    }
+
+    // What the words with it ask for, if they do.
+    fn asked(self, words: &[String]) -> Option<Timing> {
+        match (self, words.len()) {
+            (Part::Walks | Part::Certified, 1) => Some(Timing::Work(self, PRIME, 1)),
+            (Part::Pivots | Part::Board | Part::Rounds, 2) => {
+                Some(Timing::Work(self, PRIME, workers_at(words, 1)?))
+            }
+            (Part::Factors, 3) => {
+                let p = number_at(words, 1)?;
+                Some(Timing::Work(self, p, workers_at(words, 2)?))
+            }
+            _ => None,
+        }
+    }
 }
 
 impl Timing {
     // What these words ask for, if they do.
     pub(crate) fn asked(words: &[String]) -> Option<Timing> {
         let task = words.first()?.as_str();
-        let first = number_at(words, 1);
-        let second = number_at(words, 2);
-        match (task, first, second) {
-            ("lanes", None, None) => Some(Timing::Lanes),
-            ("factors", Some(p), Some(workers)) => {
-                Some(Timing::Factors(p, u32::try_from(workers).ok()?))
-            }
-            ("pivots", Some(workers), None) => Some(Timing::Pivots(u32::try_from(workers).ok()?)),
-            ("walks", None, None) => Some(Timing::Walks),
-            ("board", Some(workers), None) => Some(Timing::Board(u32::try_from(workers).ok()?)),
-            ("rounds", Some(workers), None) => Some(Timing::Rounds(u32::try_from(workers).ok()?)),
-            ("certified", None, None) => Some(Timing::Certified),
-            ("read", Some(p), None) => Some(Timing::Read(p)),
-            ("write", Some(p), None) => Some(Timing::Write(p)),
-            _ => None,
+        match (task, words.len()) {
+            ("lanes", 1) => Some(Timing::Lanes),
+            ("read", 2) => Some(Timing::Read(number_at(words, 1)?)),
+            ("write", 2) => Some(Timing::Write(number_at(words, 1)?)),
+            _ => Part::named(task)?.asked(words),
         }
     }
 }
@@ -48,4 +78,39 @@ impl Timing {
 // The number that the word at this place says, if it says one.
 fn number_at(words: &[String], place: usize) -> Option<u64> {
     words.get(place).and_then(|word| word.parse::<u64>().ok())
+}
+
+// The number of workers that it says.
+fn workers_at(words: &[String], place: usize) -> Option<u32> {
+    u32::try_from(number_at(words, place)?).ok()
+}
+
+// What the clock shows, unless it fails.
+pub(crate) fn now<R: Clock>(rt: &R) -> Option<Instant> {
+    Instant::now(rt).ok()
+}
+
+// How many microseconds have passed, unless the clock failed.
+pub(crate) fn since<R: Clock>(rt: &R, start: Option<Instant>) -> Option<u128> {
+    match start?.elapsed(rt) {
+        Ok(time) => Some(time.as_micros()),
+        Err(_) => None,
+    }
+}
+
+// Says these numbers on one line, the first of which is a time, if the clock told all.
+pub(crate) fn say<R: Print>(rt: &R, time: Option<u128>, others: &[Option<u128>]) -> io::Result<()> {
+    print!(rt; "{}", told(time)?)?;
+    for number in others {
+        print!(rt; " {}", told(*number)?)?;
+    }
+    println!(rt; "")
+}
+
+// What the clock told.
+pub(crate) fn told(number: Option<u128>) -> io::Result<u128> {
+    match number {
+        Some(number) => Ok(number),
+        None => Err(ErrorKind::Other.into()),
+    }
 }
