@@ -1,5 +1,5 @@
 // Rows that are appended between questions.
-ghost use Rattle.std.specs.Prelude.{◌≡◌, ◌≤◌, ◌↔◌, true, None, IfOk, IfSome, OnErr, OnOk};
+ghost use Rattle.std.specs.Prelude.{◌≡◌, ◌≤◌, ◌↔◌, true, length, None, IfOk, IfSome, OnErr, OnOk};
 ghost use Rattle.residue_words.specs.Matrix.{IsCombination};
 ghost use Rattle.residue_words.specs.Residues.{IsPrime};
 ghost use Rattle.row_space.specs.Echelon.{HasRank};
@@ -7,7 +7,7 @@ ghost use Rattle.sparse_rows.specs.Stored.{IsSparse, spread};
 ghost use Rattle.sparse_rows.specs.declared.rows.TheConstants.{LARGEST_SIZE};
 ghost use Rattle.lead_rows.specs.Accumulator.{IsClear};
 ghost use Rattle.grow_form.specs.Growing.{AppendsRow, AreRowsOfForm, SpansRowsOf, without_rows};
-ghost use Rattle.grow_form.specs.Numbering.{AreKeptByNumbers, HasRoomFor, seen_rows};
+ghost use Rattle.grow_form.specs.Numbering.{AreKeptByNumbers, HasRoomFor, HaveCome, seen_matrix, seen_rows};
 
 use crate::numbering::Numbering;
 use crate::reduced_form::{rows_at_columns, settled_rows};
@@ -116,14 +116,7 @@ impl Grow {
         self.kept.is_sound();
         self.numbering.is_sound();
         self.numbering.note(cols)?;
-        self.numbering.is_sound();
-        let p = self.kept.modulus();
-        let row = self.numbering.row_by_numbers(self.alloc, cols, vals, &p)?;
-        // The call tells that the entries are residues.
-        row.is_sound();
-        let lead = self.kept.insert(row.cols(0), row.vals(0))?;
-        self.kept.is_sound();
-        Ok(lead.is_some())
+        insert_row(self.alloc, &mut self.kept, &self.numbering, cols, vals)
     }
 
     /// Whether the row that stands in these columns and values is a combination of the rows. The time is that of the entries
@@ -140,16 +133,17 @@ impl Grow {
         if !self.numbering.have_come(cols) {
             return Ok(false);
         }
-        let p = self.kept.modulus();
-        let row = self.numbering.row_by_numbers(self.alloc, cols, vals, &p)?;
-        // The call tells that the entries are residues.
-        row.is_sound();
         let mut sums = taken(self.alloc, &self.kept, &mut self.sums)?;
-        let rest = self
-            .kept
-            .rest_with(self.alloc, row.cols(0), row.vals(0), &mut sums);
+        let found = is_combination(
+            self.alloc,
+            &self.kept,
+            &self.numbering,
+            cols,
+            vals,
+            &mut sums,
+        );
         self.sums = Some(sums);
-        Ok(rest?.cols().is_empty())
+        found
     }
 
     /// The reduced echelon form of the rows: for a prime modulus the one form of all rows that were appended. The
@@ -205,6 +199,66 @@ fn make_room(
         *sums = None;
     }
     Ok(())
+}
+
+// Appends a row whose columns have come, and answers whether the rank rose. Where memory is wanted nothing changes.
+fn insert_row(
+    alloc: Global,
+    kept: &mut Leads,
+    numbering: &Numbering,
+    cols: &[u32],
+    vals: &[u64],
+) -> Result<bool, AllocError>
+    requires by_numbers { AreKeptByNumbers kept.old numbering.now }
+    requires sparse { IsSparse kept.old.modulus (length numbering.now.arrivals) cols.now vals.now }
+    requires come { HaveCome numbering.now cols.now }
+    ensures by_numbers { AreKeptByNumbers kept.new numbering.now }
+    ensures modulus { kept.new.modulus ≡ kept.old.modulus }
+    ensures width { kept.new.matrix.width ≡ kept.old.matrix.width }
+    ensures ok { IfOk result (AppendsRow (seen_rows kept.old numbering.now)
+        (seen_rows kept.new numbering.now)
+        (spread (length numbering.now.arrivals) cols.now vals.now)) }
+    ensures err { OnErr result (kept.new ≡ kept.old) }
+{
+    // The calls tell what the kept rows and the numbers promise.
+    kept.is_sound();
+    numbering.is_sound();
+    let p = kept.modulus();
+    let row = numbering.row_by_numbers(alloc, cols, vals, &p)?;
+    // The call tells that the entries are residues.
+    row.is_sound();
+    let lead = kept.insert(row.cols(0), row.vals(0))?;
+    kept.is_sound();
+    Ok(lead.is_some())
+}
+
+// Whether a row whose columns have come is a combination of the kept rows.
+fn is_combination(
+    alloc: Global,
+    kept: &Leads,
+    numbering: &Numbering,
+    cols: &[u32],
+    vals: &[u64],
+    sums: &mut Accumulator,
+) -> Result<bool, AllocError>
+    requires by_numbers { AreKeptByNumbers kept.now numbering.now }
+    requires sparse { IsSparse kept.now.modulus (length numbering.now.arrivals) cols.now vals.now }
+    requires come { HaveCome numbering.now cols.now }
+    requires clear { IsClear kept.now.modulus kept.now.matrix.width sums.old }
+    ensures clear { sums.new ≡ sums.old }
+    ensures found { IfOk result (λ found. (found ≡ true) ↔ IsCombination kept.now.modulus
+        (seen_matrix numbering.now kept.now.matrix)
+        (spread (length numbering.now.arrivals) cols.now vals.now)) }
+{
+    // The calls tell what the kept rows and the numbers promise.
+    kept.is_sound();
+    numbering.is_sound();
+    let p = kept.modulus();
+    let row = numbering.row_by_numbers(alloc, cols, vals, &p)?;
+    // The call tells that the entries are residues.
+    row.is_sound();
+    let rest = kept.rest_with(alloc, row.cols(0), row.vals(0), sums)?;
+    Ok(rest.cols().is_empty())
 }
 
 // The zero row for sums, as long as these rows: the one that is there, or a new one.

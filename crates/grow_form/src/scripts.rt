@@ -50,7 +50,7 @@ pub fn answer_script<S: Source>(
         if let ScriptLine::End = step {
             return Ok(answers);
         }
-        let Ok(()) = add_answer(&mut grow, &step, &mut answers) else {
+        let Ok(()) = add_answer(&mut grow, step, &mut answers) else {
             return Err(TextError::Memory);
         };
     }
@@ -82,13 +82,13 @@ fn read_step<S: Source>(
 // Does what a line asks for, and puts its answer behind the others, if it has one.
 fn add_answer(
     grow: &mut Grow,
-    line: &ScriptLine,
+    line: ScriptLine,
     answers: &mut Vec<Answer>,
 ) -> Result<(), AllocError>
-    requires { FitsRows grow.old line.now }
-    ensures { OnOk result (AddsAnswer grow.old grow.new line.now answers.old.items answers.new.items) }
+    requires { FitsRows grow.old line }
+    ensures { OnOk result (AddsAnswer grow.old grow.new line answers.old.items answers.new.items) }
 {
-    if let Some(answer) = answer_line(grow, line)? {
+    if let Some(answer) = answer_line(grow, &line)? {
         answers.push(answer)?;
     }
     Ok(())

@@ -41,32 +41,6 @@ loop-answers-preserved g c =
           (step_for A c.modulus-p.result c.width.result mid new (Ok c.in_ok-step.step) c.modulus-p.ensures.value c.width.ensures.value c.in_ok-step.ensures.did) c.in_default-step.not-End c.in-Ok-add_answer.ensures;
     }
 
-pub loop-answers-preserved-in-Ok-add_answer : goal.loop-answers-preserved-in-Ok-add_answer
-loop-answers-preserved-in-Ok-add_answer g c =
-    let A = c.args.a.now in
-    let old = input c.args.reader.now (g.S.Source.state c.args.source.now) in
-    let mid = input c.loop-answers.reader (g.S.Source.state c.loop-answers.source) in
-    let new = input c.read_step.new.reader (g.S.Source.state c.read_step.new.source) in
-    record {
-      modulus = c.modulus-p.ensures.value;
-      closed = c.read_step.ensures.closed;
-      is = answering_goes A c.loop-answers.grow c.loop-answers.answers.items old mid new c.loop-answers.invariant.is c.in_ok-step.step c.add_answer.new.grow c.add_answer.new.answers.items c.requires.width
-          (step_for A c.modulus-p.result c.width.result mid new (Ok c.in_ok-step.step) c.modulus-p.ensures.value c.width.ensures.value c.in_ok-step.ensures.did) c.in_default-step.not-End c.in-Ok-add_answer.ensures;
-    }
-
-pub loop-answers-preserved-in-Ok-add_answer-2 : goal.loop-answers-preserved-in-Ok-add_answer-2
-loop-answers-preserved-in-Ok-add_answer-2 g c =
-    let A = c.args.a.now in
-    let old = input c.args.reader.now (g.S.Source.state c.args.source.now) in
-    let mid = input c.loop-answers.reader (g.S.Source.state c.loop-answers.source) in
-    let new = input c.read_step.new.reader (g.S.Source.state c.read_step.new.source) in
-    record {
-      modulus = c.modulus-p.ensures.value;
-      closed = c.read_step.ensures.closed;
-      is = answering_goes A c.loop-answers.grow c.loop-answers.answers.items old mid new c.loop-answers.invariant.is c.in_ok-step.step c.add_answer.new.grow c.add_answer.new.answers.items c.requires.width
-          (step_for A c.modulus-p.result c.width.result mid new (Ok c.in_ok-step.step) c.modulus-p.ensures.value c.width.ensures.value c.in_ok-step.ensures.did) c.in_default-step.not-End c.in-Ok-add_answer.ensures;
-    }
-
 pub returns-in_err-step-clause-did : goal.returns-in_err-step-clause-did
 returns-in_err-step-clause-did g c =
     let A = c.args.a.now in
