@@ -158,3 +158,6 @@ pub extern "C" fn spasm_pivots(alloc: Global, a: &Given<'_>, pivots: &mut Places
         Err(_) => SPASM_NO_MEMORY,
     }
 }
+
+#[cfg(test)]
+mod tests;
