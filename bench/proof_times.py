@@ -3,9 +3,9 @@
 
 usage: bench/proof_times.py FOLDER..
 
-FOLDER is a crate's folder in which `rt lib --jobs 1` or `rt check --jobs 1` proved it from nothing (`rm -rf out` before), with nothing
-else running. The checker writes a file for each part of a proof as it ends with it, into out/incremental; the seconds between one file and
-the next are those of the latter.
+FOLDER is NAME.kept, in which `./build --check NAME` kept the proof of a crate that it proved from nothing (in ~/.cache/spasm, or where
+--work says), or the folder of a crate that `rt check --jobs 1` proved, with nothing else running. The checker writes a file for each part
+of a proof as it ends with it; the seconds between one file and the next are those of the latter.
 """
 
 from __future__ import annotations
@@ -27,7 +27,8 @@ def part_of(file: Path) -> str:
 
 
 def times_of(crate: Path) -> Counter[str]:
-    ended = sorted((file.stat().st_mtime, part_of(file)) for file in (crate / "out" / "incremental").rglob("*.oantt"))
+    own = crate / "out" / "incremental"
+    ended = sorted((file.stat().st_mtime, part_of(file)) for file in (own if own.is_dir() else crate).rglob("*.oantt"))
     times: Counter[str] = Counter()
     for (before, _), (after, part) in zip(ended, ended[1:]):
         if after - before < PAUSE:
