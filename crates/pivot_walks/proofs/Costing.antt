@@ -5,6 +5,7 @@ use Rattle.std.proofs.lemmas.Bool.{cases_eq, cond-true, cond-false, eq-eqb, ne_e
 use Rattle.std.proofs.lemmas.List.{take_more, take-append-drop, take-append-le}
 use Rattle.residue_words.specs.Matrix.{Matrix}
 use Rattle.residue_words.specs.declared.plain.Pair.{Pair}
+use Rattle.sparse_rows.specs.Rows.{AreDistinct}
 use Rattle.pivot_table.specs.History.{pair, row_weight, Reaches}
 use Rattle.pivot_table.specs.Order.{IsParted}
 use Rattle.pivot_table.specs.Order.IsParted.{nothing, left, right}
@@ -13,7 +14,7 @@ use Rattle.residue_words.proofs.Lists.{in_cases, in_head, in_tail, not_in_nil, p
 use Rattle.pivot_table.proofs.Orders.{part, parted_one}
 use Rattle.pivot_table.proofs.Reaching.{decide_reach}
 use Rattle.pivot_walks.specs.Cost.{total_weight, IsCost, CostIsOne, CostRises}
-use Rattle.pivot_walks.specs.MarkedColumns.{AreDistinct, Grows}
+use Rattle.pivot_walks.specs.MarkedColumns.{Grows}
 use Rattle.pivot_walks.specs.Spent.{weight_at, spent}
 use Rattle.pivot_walks.specs.Reached.{AreReached, PivotalAreMarked, AreFollowed}
 use Rattle.pivot_walks.proofs.Walking.{reaches_marked}

@@ -34,10 +34,6 @@ AreNone old new = (old.list ≡ []) × (new.list ≡ [])
 abbrev pub LosesLast : Marked → Marked → ℕ → Type 0
 LosesLast old new j = (old.list ≡ new.list ++ j ∷ []) × (j < old.width) × (¬ Contains new.list j)
 
--- no item stands twice
-abbrev pub AreDistinct : List ℕ → Type 0
-AreDistinct list = (k t : ℕ) → k < t → t < length list → slice_index list k ≢ slice_index list t
-
 -- each column stands above those before it
 abbrev pub AreAscending : List ℕ → Type 0
 AreAscending cols = (k t : ℕ) → k < t → t < length cols → slice_index cols k < slice_index cols t

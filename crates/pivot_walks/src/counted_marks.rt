@@ -1,8 +1,8 @@
 // Marked columns that are paid for by steps.
 ghost use Rattle.std.specs.Prelude.{◌≡◌, ◌<◌, ◌≤◌, ◌+◌, ◌++◌, ◌∷◌, [], length, slice_index, ℕ, IsTrue, ◌↔◌};
 ghost use Rattle.std.specs.List.{Contains};
-ghost use Rattle.sparse_rows.specs.Rows.{AreBelow};
-ghost use Rattle.pivot_walks.specs.MarkedColumns.{AllBetween, AreDistinct, Grows};
+ghost use Rattle.sparse_rows.specs.Rows.{AreBelow, AreDistinct};
+ghost use Rattle.pivot_walks.specs.MarkedColumns.{AllBetween, Grows};
 
 use crate::marked_columns::MarkedColumns;
 use crate::steps::Steps;

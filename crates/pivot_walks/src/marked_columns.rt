@@ -1,8 +1,8 @@
 // Marked columns.
 ghost use Rattle.std.specs.Prelude.{◌≡◌, ◌<◌, ◌≤◌, ◌+◌, ◌++◌, ◌∷◌, [], length, slice_index, IsTrue, ◌↔◌, IfOk, MatchOption};
 ghost use Rattle.std.specs.List.{Contains};
-ghost use Rattle.sparse_rows.specs.Rows.{AreBelow};
-ghost use Rattle.pivot_walks.specs.MarkedColumns.{AllBetween, AreDistinct, AreNone, Grows, LosesLast};
+ghost use Rattle.sparse_rows.specs.Rows.{AreBelow, AreDistinct};
+ghost use Rattle.pivot_walks.specs.MarkedColumns.{AllBetween, AreNone, Grows, LosesLast};
 
 use std::alloc::{AllocError, Global};
 use std::marker::Model;

@@ -242,11 +242,11 @@ occupied_stored {p} {n} {starts} {cs} {vs} s found o =
     }
 
 -- columns off which all entries are 0 have all stored columns
-pub columns_enough : {p n : ℕ} {starts cs vs : List ℕ} → IsStored p n starts cs vs → (columns : List ℕ) → AreEnough (stored_matrix n starts cs vs) columns →
-    (t : ℕ) → t < length cs → Contains columns (slice_index cs t)
-columns_enough {p} {n} {starts} {cs} {vs} s columns enough t l =
+pub columns_enough : {p n : ℕ} {starts cs vs : List ℕ} → IsStored p n starts cs vs → (columns : List ℕ) →
+    ((i j : ℕ) → i < length starts - 1 → j < n → entry (stored_matrix n starts cs vs) i j ≢ 0 → Contains columns j) → (t : ℕ) → t < length cs → Contains columns (slice_index cs t)
+columns_enough {p} {n} {starts} {cs} {vs} s columns all t l =
     let w = column_filled s t l in
-    enough.all w.0 (slice_index cs t) w.1 (columns_below s t l) w.2
+    all w.0 (slice_index cs t) w.1 (columns_below s t l) w.2
 
 -- the first rows of A and B side by side
 abbrev pub first_beside : Matrix → Matrix → ℕ → Matrix

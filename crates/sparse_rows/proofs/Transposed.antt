@@ -1,16 +1,18 @@
 -- Entries grouped by their columns are the rows of the transposed matrix.
-use Rattle.std.proofs.Common.{ℕ, zero, suc, ◌≡◌, ◌≢◌, ◌+◌, ◌-◌, ◌<◌, ◌≤◌, inl, inr, List, [], ◌∷◌, ◌++◌, length, map, replicate, take, drop, eqb, slice_index, sym, refl, ap, ap₂, subst, ◌∙◌, arith}
+use Rattle.std.proofs.Common.{ℕ, zero, suc, ◌≡◌, ◌≢◌, ◌+◌, ◌-◌, ◌<◌, ◌≤◌, inl, inr, List, [], ◌∷◌, ◌++◌, length, map, replicate, take, drop, eqb, slice_index, slice_index_or, slice_range, sym, refl, ap, ap₂, subst, ◌∙◌, arith}
 use Rattle.std.specs.List.{range_with_len}
 use Rattle.std.proofs.lemmas.Bool.{cases_eq, cases_lt, cond-true, cond-false, eq-eqb, ne_eqb}
-use Rattle.std.proofs.lemmas.List.{append-nil, length-append, length-replicate, length-take-le, take_all}
+use Rattle.std.proofs.lemmas.List.{append-nil, ext_get_or, get_or_append_left, get_or-append_right, get_or-map, get_or-replicate, length-append, length-map, length-replicate, length-take-le, take_all}
+use Rattle.std.proofs.lemmas.List.FromFn.{get_or-map-range_with_len, get_or-range_with_len, length-map-range_with_len, length-range_with_len}
 use Rattle.std.proofs.lemmas.List.Edits.{get_or-between}
-use Rattle.residue_words.specs.Matrix.{Matrix, entry, list_of}
-use Rattle.residue_words.proofs.Vectors.{list_of_equal}
-use Rattle.sparse_rows.specs.Rows.{transposed}
-use Rattle.sparse_rows.specs.Stored.{AreStarts, HoldsGroups, IsSparse, IsStored, entry_at, part, part_numbers, picked, spread, stored_matrix, stored_row}
+use Rattle.residue_words.specs.Matrix.{Matrix, entry, list_of, row}
+use Rattle.residue_words.proofs.Vectors.{list_of_equal, row_matrix_of}
+use Rattle.sparse_rows.specs.declared.rows.TheConstants.{LARGEST_SIZE}
+use Rattle.sparse_rows.specs.Rows.{selected, transposed}
+use Rattle.sparse_rows.specs.Stored.{AreBegun, AreStarts, HoldsParts, IsSparse, IsStored, count_of, entry_at, part, part_numbers, picked, spread, stored_matrix, stored_row}
 use Rattle.sparse_rows.proofs.Loops.{sized}
 use Rattle.sparse_rows.proofs.Spread.{Ascends, at_spread, columns_ascend, entry_beyond, entry_push_other, entry_push_same, entry_tail, map_range_equal, sparse_none, sparse_push, widen}
-use Rattle.sparse_rows.proofs.Stored.{length_part, row_stored, starts_below, value_parts}
+use Rattle.sparse_rows.proofs.Stored.{length_part, row_stored, starts_below, starts_rise, value_parts}
 
 -- what is picked of two lists one after the other
 picked_append : (k : ℕ) (ys ys' xs xs' : List ℕ) → length ys ≡ length xs → picked k (ys ++ ys') (xs ++ xs') ≡ picked k ys xs ++ picked k ys' xs'
@@ -118,6 +120,25 @@ length_part_numbers n total starts s (suc r) l =
       ap (slice_index starts) (let e : suc r ≡ r + 1 = omega arith in e),
     )
 
+-- the number of the part in which an item stands
+pub part_number_at : (n total : ℕ) (starts : List ℕ) → AreStarts n total starts → (r : ℕ) → r ≤ n → (i k : ℕ) → i < r → slice_index starts i ≤ k → k < slice_index starts (i + 1) →
+    slice_index (part_numbers r starts) k ≡ i
+part_number_at n total starts s zero l i k a b c = absurd (omega arith)
+part_number_at n total starts s (suc r) l i k a b c =
+    let here : ℕ = slice_index starts r in
+    let many : ℕ = slice_index starts (r + 1) - here in
+    let long : length (part_numbers r starts) ≡ here = length_part_numbers n total starts s r (omega arith) in
+    elim (cases_eq i r) [
+      | inl e ↦
+          let from : slice_index starts i ≡ here = ap (slice_index starts) e in
+          let to : slice_index starts (i + 1) ≡ slice_index starts (r + 1) = ap (λ t. slice_index starts (t + 1)) e in
+          get_or-append_right (part_numbers r starts) (replicate many r) here k 0 long (omega (arith, from)) ∙ get_or-replicate many (k - here) r 0 (omega (arith, from, to)) ∙ sym e
+      | inr d ↦
+          let later : i + 1 + (r - (i + 1)) ≡ r = omega arith in
+          get_or_append_left (part_numbers r starts) (replicate many r) 0 k (omega (arith, long, starts_rise s (r - (i + 1)) (i + 1) (omega arith), ap (slice_index starts) later))
+          ∙ part_number_at n total starts s r (omega arith) i k (omega arith) b c
+    ]
+
 module _ (p n : ℕ) (starts cs vs : List ℕ) (stored : IsStored p n starts cs vs) (k : ℕ) where
   -- the first r rows
   column_until : (r : ℕ) → r ≤ length starts - 1 →
@@ -157,49 +178,85 @@ module _ (p n : ℕ) (starts cs vs : List ℕ) (stored : IsStored p n starts cs 
       (subst (λ t. IsColumn p k h starts cs vs (picked k (take (slice_index starts h) cs) (part_numbers h starts)) (picked k (take (slice_index starts h) cs) t)) all_values
       (column_until h (omega arith))))
 
-module _ (p n : ℕ) (starts cs vs : List ℕ) (stored : IsStored p n starts cs vs) (starts' is ws : List ℕ) (parts : AreStarts n (length cs) starts')
-    (holds : HoldsGroups n cs (part_numbers (length starts - 1) starts) starts' is) (holds_values : HoldsGroups n cs vs starts' ws) (long : length is ≡ length cs) (long_values : length ws ≡ length cs) where
-  column : (k : ℕ) → k < n → IsColumn p k (length starts - 1) starts cs vs (part starts' is k) (part starts' ws k)
-  column k l = column_is p n starts cs vs stored k (part starts' is k) (part starts' ws k) (holds k l) (holds_values k l)
+-- part t begins where the part for its column does, and holds what is picked for that
+begun_part : {order keys starts begins : List ℕ} (xs ys : List ℕ) → AreBegun order keys starts begins → HoldsParts keys xs begins ys → (t : ℕ) → t < length order →
+    part starts ys t ≡ picked (slice_index order t) keys xs
+unfolding part
+begun_part {order} {keys} {starts} {begins} xs ys b holds t l =
+    let from : slice_index starts t ≡ slice_index begins (slice_index order t) = sym (b.begin t l) in
+    ap₂ (slice_range ys) from (b.end t l ∙ ap (λ x. x + count_of (slice_index order t) keys) from) ∙ holds (slice_index order t) (b.below t l)
 
-  pub transposed_stored : IsStored p (length starts - 1) starts' is ws
-  transposed_stored =
-      let many : length starts' - 1 ≡ n = omega (arith, parts.long) in
+module _ (p n : ℕ) (starts cs vs : List ℕ) (stored : IsStored p n starts cs vs) (order starts' begins is ws : List ℕ) (few : length order ≤ LARGEST_SIZE)
+    (below : (t : ℕ) → t < length order → slice_index order t < n) (begun : AreBegun order cs starts' begins)
+    (holds : HoldsParts cs (part_numbers (length starts - 1) starts) begins is) (holds_values : HoldsParts cs vs begins ws) (long : length is ≡ length cs) (long_values : length ws ≡ length cs) where
+  ordered_column : (t : ℕ) → t < length order → IsColumn p (slice_index order t) (length starts - 1) starts cs vs (part starts' is t) (part starts' ws t)
+  ordered_column t l =
+      column_is p n starts cs vs stored (slice_index order t) (part starts' is t) (part starts' ws t) (begun_part _ is begun holds t l) (begun_part vs ws begun holds_values t l)
+
+  ordered_stored : IsStored p (length starts - 1) starts' is ws
+  ordered_stored =
+      let many : length starts' - 1 ≡ length order = omega (arith, begun.parts.long) in
       record {
-        height_small = omega (arith, parts.long, stored.width_small);
+        height_small = omega (arith, begun.parts.long);
         width_small = omega (arith, stored.height_small);
         two_or_more = stored.two_or_more;
         in_range = stored.in_range;
-        parts = rw (many, long) parts;
+        parts = rw (many, long) begun.parts;
         long = long ∙ sym long_values;
-        each = λ k l. (column k (omega arith)).sparse;
+        each = λ t l. (ordered_column t (omega arith)).sparse;
       }
 
-  pub transposed_matrix : stored_matrix (length starts - 1) starts' is ws ≡ transposed (stored_matrix n starts cs vs)
+  ordered_matrix : stored_matrix (length starts - 1) starts' is ws ≡ selected (transposed (stored_matrix n starts cs vs)) order
   unfolding stored_row spread
-  transposed_matrix =
+  ordered_matrix =
       let h : ℕ = length starts - 1 in
       let A : Matrix = stored_matrix n starts cs vs in
-      let many : length starts' - 1 ≡ n = omega (arith, parts.long) in
+      let many : length starts' - 1 ≡ length order = omega (arith, begun.parts.long) in
       ap (λ t. sized t h (map (stored_row h starts' is ws) (range_with_len 0 t))) many
-      ∙ ap (sized n h) (map_range_equal (stored_row h starts' is ws) (λ k. list_of h (λ i. entry A i k)) 0 n (λ k a b.
-      list_of_equal h (entry_at (part starts' is k) (part starts' ws k)) (λ i. entry A i k) (λ i l.
-      (column k (omega arith)).entries i l ∙ sym (at_spread n (part starts cs i) (part starts vs i) k (omega arith))
-      ∙ sym (ap (λ r. slice_index r k) (row_stored n starts cs vs i l)))))
+      ∙ ap (sized (length order) h) (ext_get_or [] _ (map (row (transposed A)) order)
+      (length-map-range_with_len (stored_row h starts' is ws) 0 (length order) ∙ sym (length-map order (row (transposed A)))) (λ t b.
+      let l : t < length order = omega (arith, b, length-map-range_with_len (stored_row h starts' is ws) 0 (length order)) in
+      let k : ℕ = slice_index order t in
+      get_or-map-range_with_len (stored_row h starts' is ws) 0 (length order) t t [] l (omega arith)
+      ∙ list_of_equal h (entry_at (part starts' is t) (part starts' ws t)) (λ i. entry A i k) (λ i lt.
+      (ordered_column t l).entries i lt ∙ sym (at_spread n (part starts cs i) (part starts vs i) k (below t l))
+      ∙ sym (ap (λ r. slice_index r k) (row_stored n starts cs vs i lt)))
+      ∙ sym (row_matrix_of n h (λ j i. entry A i j) k (below t l))
+      ∙ sym (get_or-map (row (transposed A)) order t 0 [] l)))
 
--- both, of what a grouping gives
-pub transposed_grouped : (p n h : ℕ) (starts cs vs keys numbers values starts' is ws : List ℕ) → IsStored p n starts cs vs → h ≡ length starts - 1 → keys ≡ cs →
-    numbers ≡ part_numbers (length starts - 1) starts → values ≡ vs → AreStarts n (length keys) starts' → HoldsGroups n keys numbers starts' is → HoldsGroups n keys values starts' ws →
-    length is ≡ length keys → length ws ≡ length keys → IsStored p h starts' is ws × (stored_matrix h starts' is ws ≡ transposed (stored_matrix n starts cs vs))
-transposed_grouped p n h starts cs vs keys numbers values starts' is ws stored eh ek en ev parts holds holds_values long long_values =
-    let parts' : AreStarts n (length cs) starts' = subst (λ t. AreStarts n (length t) starts') ek parts in
-    let holds' : HoldsGroups n cs (part_numbers (length starts - 1) starts) starts' is = λ k l. holds k l ∙ ap₂ (picked k) ek en in
-    let holds_values' : HoldsGroups n cs vs starts' ws = λ k l. holds_values k l ∙ ap₂ (picked k) ek ev in
-    let e : length is ≡ length cs = long ∙ ap length ek in
-    let e_values : length ws ≡ length cs = long_values ∙ ap length ek in
-    rw eh (
-      transposed_stored p n starts cs vs stored starts' is ws parts' holds' holds_values' e e_values,
-      transposed_matrix p n starts cs vs stored starts' is ws parts' holds' holds_values' e e_values,
+-- the same of what placing gives
+pub begun_stored : (p n h : ℕ) (starts cs vs rows keys values order starts' begins made is ws : List ℕ) → IsStored p n starts cs vs → h ≡ length starts - 1 → rows ≡ starts → keys ≡ cs → values ≡ vs →
+    length order ≤ LARGEST_SIZE → ((t : ℕ) → t < length order → slice_index order t < n) → AreBegun order cs starts' begins → made ≡ starts' →
+    HoldsParts keys (part_numbers (length rows - 1) rows) begins is → HoldsParts keys values begins ws → length is ≡ length keys → length ws ≡ length keys →
+    IsStored p h made is ws × (stored_matrix h made is ws ≡ selected (transposed (stored_matrix n starts cs vs)) order)
+begun_stored p n h starts cs vs rows keys values order starts' begins made is ws stored eh er ek ev few below begun em holds holds_values long long_values =
+    let held : HoldsParts cs (part_numbers (length starts - 1) starts) begins is =
+    subst (λ t. HoldsParts t (part_numbers (length starts - 1) starts) begins is) ek (subst (λ t. HoldsParts keys (part_numbers (length t - 1) t) begins is) er holds) in
+    let held_values : HoldsParts cs vs begins ws = subst (λ t. HoldsParts t vs begins ws) ek (subst (λ t. HoldsParts keys t begins ws) ev holds_values) in
+    rw (eh, em) (
+      ordered_stored p n starts cs vs stored order starts' begins is ws few below begun held held_values (long ∙ ap length ek) (long_values ∙ ap length ek),
+      ordered_matrix p n starts cs vs stored order starts' begins is ws few below begun held held_values (long ∙ ap length ek) (long_values ∙ ap length ek),
+    )
+
+-- all rows of a matrix, in order, are the matrix
+pub all_selected : (A : Matrix) → length A.rows ≡ A.height → A ≡ selected A (range_with_len 0 A.height)
+all_selected A long = sym (ap₂ (λ h r. sized h A.width r) (length-range_with_len 0 A.height) (all_rows A.rows A.height long))
+  where
+    all_rows : (rows : List (List ℕ)) (n : ℕ) → length rows ≡ n → map (λ i. slice_index_or rows i []) (range_with_len 0 n) ≡ rows
+    all_rows rows n long = ext_get_or [] _ rows (length-map-range_with_len _ 0 n ∙ sym long) (λ i l.
+        get_or-map-range_with_len (λ k. slice_index_or rows k []) 0 n i i [] (omega (arith, length-map-range_with_len (λ k. slice_index_or rows k []) 0 n)) (omega arith))
+
+-- and of placing for all columns in order
+pub all_begun_stored : (p n h : ℕ) (starts cs vs rows keys values starts' begins made is ws : List ℕ) → IsStored p n starts cs vs → h ≡ length starts - 1 → rows ≡ starts → keys ≡ cs → values ≡ vs →
+    AreBegun (range_with_len 0 n) cs starts' begins → made ≡ starts' → HoldsParts keys (part_numbers (length rows - 1) rows) begins is → HoldsParts keys values begins ws →
+    length is ≡ length keys → length ws ≡ length keys → IsStored p h made is ws × (stored_matrix h made is ws ≡ transposed (stored_matrix n starts cs vs))
+all_begun_stored p n h starts cs vs rows keys values starts' begins made is ws stored eh er ek ev begun em holds holds_values long long_values =
+    let many : length (range_with_len 0 n) ≡ n = length-range_with_len 0 n in
+    let A : Matrix = stored_matrix n starts cs vs in
+    let made_so = begun_stored p n h starts cs vs rows keys values (range_with_len 0 n) starts' begins made is ws stored eh er ek ev (omega (arith, stored.width_small))
+    (λ t l. omega (arith, get_or-range_with_len 0 n t 0 (omega arith))) begun em holds holds_values long long_values in (
+      made_so.0,
+      made_so.1 ∙ sym (all_selected (transposed A) (length-map-range_with_len (λ j. list_of A.height (λ i. entry A i j)) 0 n)),
     )
 
 -- all columns are below the width

@@ -59,6 +59,10 @@ AreBelow n indices = (k : ℕ) → k < length indices → slice_index indices k 
 abbrev pub AreRising : List ℕ → Type 0
 AreRising xs = (k t : ℕ) → k < t → t < length xs → slice_index xs k < slice_index xs t
 
+-- no two of the numbers are equal
+abbrev pub AreDistinct : List ℕ → Type 0
+AreDistinct list = (k t : ℕ) → k < t → t < length list → slice_index list k ≢ slice_index list t
+
 -- the filled rows of A, ascending
 pub record AreFilled (A : Matrix) (rows : List ℕ) : Type 0 where
   pub rising : AreRising rows
@@ -70,6 +74,12 @@ pub record AreFilled (A : Matrix) (rows : List ℕ) : Type 0 where
 pub record AreEnough (A : Matrix) (columns : List ℕ) : Type 0 where
   pub rising : AreRising columns
   pub below : (k : ℕ) → k < length columns → slice_index columns k < A.width
+  pub all : (i j : ℕ) → i < A.height → j < A.width → entry A i j ≢ 0 → Contains columns j
+
+-- the same in any order, each once
+pub record AreEnoughInSomeOrder (A : Matrix) (columns : List ℕ) : Type 0 where
+  pub distinct : AreDistinct columns
+  pub below : AreBelow A.width columns
   pub all : (i j : ℕ) → i < A.height → j < A.width → entry A i j ≢ 0 → Contains columns j
 
 -- the columns in which some row of A has an entry, ascending

@@ -1,7 +1,6 @@
 // Parts of a list, one after another.
-ghost use Rattle.sparse_rows.specs.declared.rows.TheConstants.{LARGEST_SIZE};
-ghost use Rattle.std.specs.Prelude.{◌≡◌, ◌<◌, ◌≤◌, ◌+◌, ◌-◌, ◌^◌, ℕ, length, slice_index, slice_range, IfOk, OnErr, OnOk};
-ghost use Rattle.sparse_rows.specs.Stored.{AreJoined, AreStarts, part_numbers};
+ghost use Rattle.std.specs.Prelude.{◌≡◌, ◌<◌, ◌≤◌, ◌+◌, ◌^◌, ℕ, length, slice_index, slice_range, OnErr, OnOk};
+ghost use Rattle.sparse_rows.specs.Stored.{AreJoined};
 
 use std::alloc::{AllocError, Global};
 
@@ -15,21 +14,6 @@ pub(crate) fn part<'a, T>(items: &'a [T], starts: &[usize], i: usize) -> &'a [T]
     let from = starts[i];
     let to = starts[i + 1];
     &items[from..to]
-}
-
-// Of each item the number of its part.
-pub(crate) fn part_numbers(alloc: Global, starts: &[usize]) -> Result<Vec<u32>, AllocError>
-    requires few { length starts.now ≤ LARGEST_SIZE + 1 }
-    requires parts { AreStarts (length starts.now - 1)
-        (slice_index starts.now (length starts.now - 1)) starts.now }
-    ensures { IfOk result (λ numbers. numbers.items ≡ part_numbers (length starts.now - 1) starts.now) }
-{
-    let last = starts.len() - 1;
-    let mut numbers = Vec::with_capacity(alloc, starts[last])?;
-    for i in 0..last {
-        numbers.resize(starts[i + 1], i as u32)?;
-    }
-    Ok(numbers)
 }
 
 // Appends the starts of further parts, whose items come behind the first `by` items: all but the first, since it is where the

@@ -5,12 +5,12 @@ ghost use Rattle.std.specs.Prelude.{◌≡◌, ◌<◌, ◌≤◌, ◌+◌, ◌^
 ghost use Rattle.std.specs.Option.{MatchOption};
 ghost use Rattle.residue_words.specs.Matrix.{IsMatrix, row};
 ghost use Rattle.sparse_rows.specs.Cells.{AreEntries, IsWithin, matrix_of_cells, place_of, weight};
-ghost use Rattle.sparse_rows.specs.Rows.{above, AreBelow, AreEnough, AreOccupied, AreRising, AreZeroFrom, IsNextFilled, entry_count, matrix_by, narrowed, nonzeros, support, transposed, widened, with_zeros};
+ghost use Rattle.sparse_rows.specs.Rows.{above, AreBelow, AreEnough, AreEnoughInSomeOrder, AreOccupied, AreRising, AreZeroFrom, IsNextFilled, entry_count, matrix_by, narrowed, nonzeros, selected, support, transposed, widened, with_zeros};
 ghost use Rattle.sparse_rows.specs.Stored.{IsSparse, IsStored, spread, stored_matrix, with_row, with_sparse_row};
 
 use crate::column_lists::{named_columns, occurring, places_among};
-use crate::consecutive_parts::{append_starts, part, part_numbers};
-use crate::counting_sort::group;
+use crate::consecutive_parts::{append_starts, part};
+use crate::counting_sort::{all_starts, by_parts, starts_in_order};
 use crate::entry_room::{EntryRoom, write_behind};
 use crate::ordered_cells::{OrderedCells, RowParts};
 use crate::values_at_places::{Cell, columns, row_starts, values};
@@ -314,14 +314,37 @@ impl StoredRows {
         ensures modulus { IfOk result (λ rows. rows.modulus ≡ self.now.modulus) }
         ensures matrix { IfOk result (λ rows. rows.matrix ≡ transposed self.now.matrix) }
     {
-        let rows = part_numbers(alloc, &self.starts)?;
-        let grouped = group(alloc, self.width, &self.cols, &rows, &self.vals)?;
+        let parts = all_starts(alloc, self.width, &self.cols)?;
+        let turned = by_parts(alloc, &self.starts, &self.cols, &self.vals, parts)?;
         Ok(StoredRows {
             modulus: self.modulus,
             width: self.height(),
-            starts: grouped.starts,
-            cols: grouped.others,
-            vals: grouped.vals,
+            starts: turned.starts,
+            cols: turned.cols,
+            vals: turned.vals,
+        })
+    }
+
+    // These columns as rows, in this order, where all entries stand in them: in time proportional to the entries, the width and the
+    // height.
+    pub(crate) fn transpose_select(
+        &self,
+        alloc: Global,
+        columns: &[u32],
+    ) -> Result<StoredRows, AllocError>
+        requires many { length columns.now ≤ LARGEST_SIZE }
+        requires columns { AreEnoughInSomeOrder self.now.matrix columns.now }
+        ensures modulus { IfOk result (λ rows. rows.modulus ≡ self.now.modulus) }
+        ensures matrix { IfOk result (λ rows. rows.matrix ≡ selected (transposed self.now.matrix) columns.now) }
+    {
+        let parts = starts_in_order(alloc, self.width, columns, &self.cols)?;
+        let turned = by_parts(alloc, &self.starts, &self.cols, &self.vals, parts)?;
+        Ok(StoredRows {
+            modulus: self.modulus,
+            width: self.height(),
+            starts: turned.starts,
+            cols: turned.cols,
+            vals: turned.vals,
         })
     }
 

@@ -5,7 +5,7 @@ ghost use Rattle.residue_words.specs.Matrix.{IsVector, apply, entry, row};
 ghost use Rattle.residue_words.specs.Residues.{sum_below};
 ghost use Rattle.sparse_rows.specs.Columns.{GoTo};
 ghost use Rattle.sparse_rows.specs.Placed.{AgreeBelow, IsZeroBetween, HasRowAt};
-ghost use Rattle.sparse_rows.specs.Rows.{AreEnough, AreRising, beside, narrowed, selected, transposed, widened, with_zeros};
+ghost use Rattle.sparse_rows.specs.Rows.{AreEnough, AreEnoughInSomeOrder, AreRising, beside, narrowed, selected, transposed, widened, with_zeros};
 ghost use Rattle.sparse_rows.specs.Stored.{with_row};
 
 use crate::filled_in_either::FilledInEither;
@@ -77,6 +77,26 @@ impl Rows {
             every_row: false,
             rows: columns,
         })
+    }
+
+    /// The columns of these numbers as rows, in this order, where all entries stand in them: what transposing and then selecting give,
+    /// in time proportional to the entries, the width and the height. Where each row is stored and the columns aren't many more than
+    /// the entries, each entry is moved once.
+    pub fn transpose_select(&self, alloc: Global, columns: &[u32]) -> Result<Rows, AllocError>
+        requires many { length columns.now ≤ LARGEST_SIZE }
+        requires columns { AreEnoughInSomeOrder self.now.matrix columns.now }
+        ensures modulus { IfOk result (λ rows. rows.modulus ≡ self.now.modulus) }
+        ensures matrix { IfOk result (λ rows. rows.matrix ≡ selected (transposed self.now.matrix) columns.now) }
+    {
+        if self.every_row && stores_every_row(self.width(), self.entries() as usize) {
+            return Ok(Rows {
+                height: columns.len() as u32,
+                stored: self.stored.transpose_select(alloc, columns)?,
+                every_row: true,
+                rows: Vec::new(alloc),
+            });
+        }
+        self.transpose(alloc)?.select(alloc, columns)
     }
 
     /// The rows of this matrix, each continued by the row of `right`: in time by the entries, times a logarithm of the rows that

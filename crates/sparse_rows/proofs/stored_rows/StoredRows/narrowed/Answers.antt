@@ -15,7 +15,7 @@ places_among-requires-clause-few c =
 
 pub places_among-requires-clause-among : goal.places_among-requires-clause-among
 places_among-requires-clause-among c =
-    rw c.deref-2.ensures.value (columns_enough c.self.invariant c.args.columns.now (subst (λ (m : ResidueMatrix). AreEnough m.matrix c.args.columns.now) (sym c.self.view_is) c.requires))
+    rw c.deref-2.ensures.value (columns_enough c.self.invariant c.args.columns.now (subst (λ (m : ResidueMatrix). AreEnough m.matrix c.args.columns.now) (sym c.self.view_is) c.requires).all)
 
 pub invariant_of-result : goal.invariant_of-result
 invariant_of-result c =
