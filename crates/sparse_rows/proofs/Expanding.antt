@@ -460,6 +460,13 @@ turned_sound {p} {A} columns s o =
     is_matrix_of p (length columns) A.height (λ j i. entry (narrowed A columns) i j) (λ j i a b.
     omega (arith, entry_matrix_of A.height (length columns) (λ i k. entry A i (slice_index columns k)) i j b a, entry_residue p A s i (slice_index columns j) b (o.enough.below j a)))
 
+-- a column has at most as many entries as there are rows
+pub column_short : {p : ℕ} {A : Matrix} → IsMatrix p A → (j : ℕ) → j < A.width → length (support (row (transposed A) j)) ≤ A.height
+column_short {p} {A} m j l =
+    let turned : IsMatrix p (transposed A) = is_matrix_of p A.width A.height (λ j i. entry A i j) (λ j i a b. entry_residue p A m i j b a) in
+    let s : IsSparse p A.height (support (row (transposed A) j)) (nonzeros (row (transposed A) j)) = support_sparse (turned.each j l) in
+    rising_short (support (row (transposed A) j)) A.height s.rising s.below
+
 -- what a test for an empty list says
 pub empty_length : (n : ℕ) (b : Bool) → b ≡ eqb n 0 → b ≡ true → n ≡ 0
 empty_length n b e t = elim (cases_eq n 0) [ inl z ↦ z | inr d ↦ absurd (false≢true (sym (ne_eqb n 0 d) ∙ sym e ∙ t)) ]

@@ -1,15 +1,16 @@
 -- Rows with an entry, rows of zeros, and the entries row by row.
 use Rattle.std.proofs.Common.{ℕ, zero, suc, Option, None, Some, ◌≡◌, ◌≢◌, ◌+◌, ◌-◌, ◌<◌, ◌≤◌, ◌⊎◌, inl, inr, List, [], ◌∷◌, ◌++◌, length, map, replicate, slice_index, sym, refl, ap, ap₂, subst, ◌∙◌, arith}
-use Rattle.std.specs.List.{Contains, flat_map, range_with_len}
+use Rattle.std.specs.List.{All, Contains, flat_map, range_with_len}
 use Rattle.std.proofs.lemmas.Bool.{cases_eq, cases_lt}
-use Rattle.std.proofs.lemmas.List.{append-nil, append_assoc, flat_map_more, get_or_append_left, get_or_push, length_push, map-id, replicate_more}
+use Rattle.std.proofs.lemmas.List.{append-nil, append_assoc, flat_map_more, get_or_append_left, get_or_push, length_push, map-id, map_push, replicate_more}
+use Rattle.std.proofs.lemmas.List.Elements.{All-push}
 use Rattle.std.proofs.lemmas.List.FromFn.{map-range_with_len_more}
 use Rattle.std.proofs.lemmas.List.Edits.{get_or-between}
 use Rattle.residue_words.specs.Matrix.{IsMatrix, Matrix, entry, row, zeros}
 use Rattle.residue_words.proofs.Vectors.{at_zeros}
 use Rattle.sparse_rows.specs.Columns.{AreOccurring}
 use Rattle.sparse_rows.specs.Placed.{IsFirstFilled}
-use Rattle.sparse_rows.specs.Rows.{AreEnough, AreFilled, AreOccupied, AreRising, AreZeroFrom, IsFilled, IsNextFilled, IsZeroRow, nonzeros, row_triples, support, triples_of, with_zeros}
+use Rattle.sparse_rows.specs.Rows.{AreFilled, AreOccupied, AreRising, AreWeights, AreZeroFrom, IsFilled, IsNextFilled, IsZeroRow, nonzeros, row_triples, support, triples_of, with_zeros}
 use Rattle.sparse_rows.specs.Stored.{IsSparse, IsStored, entry_at, part, spread, stored_matrix, stored_row, with_row}
 use Rattle.sparse_rows.proofs.Loops.{beside_more, beside_row, length_zeros, sized}
 use Rattle.sparse_rows.proofs.Occurring.{contained, contains_at, contains_before, contains_last, rising_push}
@@ -105,6 +106,49 @@ filled_all A from rows h z = record {
     | inr s ↦ absurd (zero_unfilled A i (z i s l) f)
   ];
 }
+
+-- the filled rows below `from`, each behind how many entries it has
+pub record AreWeightsSoFar (A : Matrix) (from : ℕ) (weights : List (ℕ × ℕ)) : Type 0 where
+  pub filled : IsFilledSoFar A from (map (λ w. w.1) weights)
+  pub entries : All (λ w. w.0 ≡ length (support (row A w.1))) weights
+
+pub weights_none : (A : Matrix) → AreWeightsSoFar A 0 []
+weights_none A = record { filled = filled_none A; entries = λ k d l. absurd (omega arith) }
+
+-- the next one
+pub weights_more : (A : Matrix) (from i n : ℕ) (weights : List (ℕ × ℕ)) → AreWeightsSoFar A from weights → IsNextFilled A from i → n ≡ length (support (row A i)) →
+    AreWeightsSoFar A (i + 1) (weights ++ (n, i) ∷ [])
+weights_more A from i n weights h next e = record {
+  filled = subst (IsFilledSoFar A (i + 1)) (sym (map_push (λ (w : ℕ × ℕ). w.1) weights (n, i))) (filled_more A from i (map (λ w. w.1) weights) h.filled next);
+  entries = All-push (λ (w : ℕ × ℕ). w.0 ≡ length (support (row A w.1))) weights (n, i) h.entries e;
+}
+
+-- which may be the next row
+pub weights_here : (A : Matrix) (from n : ℕ) (weights : List (ℕ × ℕ)) → AreWeightsSoFar A from weights → from < A.height → n ≡ length (support (row A from)) → 0 < n →
+    AreWeightsSoFar A (from + 1) (weights ++ (n, from) ∷ [])
+weights_here A from n weights h l e some =
+    weights_more A from from n weights h record { low = omega arith; below = l; filled = omega arith; between = λ k a b. absurd (omega arith) } e
+
+-- or a row that isn't filled
+pub weights_skip : (A : Matrix) (from : ℕ) (weights : List (ℕ × ℕ)) → AreWeightsSoFar A from weights → from < A.height → length (support (row A from)) ≡ 0 →
+    AreWeightsSoFar A (from + 1) weights
+weights_skip A from weights h l e = record {
+  filled = record {
+    within = omega arith;
+    rising = h.filled.rising;
+    below = λ k b. omega (arith, h.filled.below k b);
+    filled = h.filled.filled;
+    all = λ i b f. elim (cases_eq i from) [
+      | inl q ↦ absurd (omega (arith, f, e, ap (λ t. length (support (row A t))) q))
+      | inr d ↦ h.filled.all i (omega arith) f
+    ];
+  };
+  entries = h.entries;
+}
+
+-- and all
+pub weights_all : (A : Matrix) (from : ℕ) (weights : List (ℕ × ℕ)) → AreWeightsSoFar A from weights → AreZeroFrom A from → AreWeights A weights
+weights_all A from weights h z = record { filled = filled_all A from (map (λ w. w.1) weights) h.filled z; entries = h.entries }
 
 -- the entries of the rows below n
 abbrev pub triples_until : Matrix → ℕ → List (ℕ × ℕ × ℕ)

@@ -1,17 +1,17 @@
 -- Entries grouped by their columns are the rows of the transposed matrix.
-use Rattle.std.proofs.Common.{ℕ, zero, suc, ◌≡◌, ◌≢◌, ◌+◌, ◌-◌, ◌<◌, ◌≤◌, inl, inr, List, [], ◌∷◌, ◌++◌, length, map, replicate, take, drop, eqb, slice_index, slice_index_or, slice_range, sym, refl, ap, ap₂, subst, ◌∙◌, arith}
+use Rattle.std.proofs.Common.{ℕ, zero, suc, ◌≡◌, ◌≢◌, ◌+◌, ◌-◌, ◌<◌, ◌≤◌, inl, inr, List, [], ◌∷◌, ◌++◌, length, map, replicate, take, drop, eqb, get_or, slice_index, slice_index_or, slice_range, sym, refl, ap, ap₂, subst, ◌∙◌, arith}
 use Rattle.std.specs.List.{range_with_len}
 use Rattle.std.proofs.lemmas.Bool.{cases_eq, cases_lt, cond-true, cond-false, eq-eqb, ne_eqb}
-use Rattle.std.proofs.lemmas.List.{append-nil, ext_get_or, get_or_append_left, get_or-append_right, get_or-map, get_or-replicate, length-append, length-map, length-replicate, length-take-le, take_all}
+use Rattle.std.proofs.lemmas.List.{append-nil, ext_get_or, get_or_append_left, get_or-append_right, get_or_default, get_or-map, get_or-replicate, length-append, length-map, length-replicate, length-take-le, take_all}
 use Rattle.std.proofs.lemmas.List.FromFn.{get_or-map-range_with_len, get_or-range_with_len, length-map-range_with_len, length-range_with_len}
 use Rattle.std.proofs.lemmas.List.Edits.{get_or-between}
 use Rattle.residue_words.specs.Matrix.{Matrix, entry, list_of, row}
-use Rattle.residue_words.proofs.Vectors.{list_of_equal, row_matrix_of}
+use Rattle.residue_words.proofs.Vectors.{at_list_of, length_list_of, list_of_equal, row_matrix_of}
 use Rattle.sparse_rows.specs.declared.rows.TheConstants.{LARGEST_SIZE}
-use Rattle.sparse_rows.specs.Rows.{selected, transposed}
+use Rattle.sparse_rows.specs.Rows.{selected, support, transposed}
 use Rattle.sparse_rows.specs.Stored.{AreBegun, AreStarts, HoldsParts, IsSparse, IsStored, count_of, entry_at, part, part_numbers, picked, spread, stored_matrix, stored_row}
 use Rattle.sparse_rows.proofs.Loops.{sized}
-use Rattle.sparse_rows.proofs.Spread.{Ascends, at_spread, columns_ascend, entry_beyond, entry_push_other, entry_push_same, entry_tail, map_range_equal, sparse_none, sparse_push, widen}
+use Rattle.sparse_rows.proofs.Spread.{Ascends, at_spread, columns_ascend, entry_beyond, entry_push_other, entry_push_same, entry_tail, map_range_equal, sparse_none, sparse_push, support_spread, widen}
 use Rattle.sparse_rows.proofs.Stored.{length_part, row_stored, starts_below, starts_rise, value_parts}
 
 -- what is picked of two lists one after the other
@@ -177,6 +177,40 @@ module _ (p n : ℕ) (starts cs vs : List ℕ) (stored : IsStored p n starts cs 
       rw (e, f) (subst (λ t. IsColumn p k h starts cs vs (picked k t (part_numbers h starts)) (picked k t vs)) all
       (subst (λ t. IsColumn p k h starts cs vs (picked k (take (slice_index starts h) cs) (part_numbers h starts)) (picked k (take (slice_index starts h) cs) t)) all_values
       (column_until h (omega arith))))
+
+-- as many are picked as have the key
+length_picked : (k : ℕ) (ys xs : List ℕ) → length ys ≡ length xs → length (picked k ys xs) ≡ count_of k ys
+length_picked k [] xs e = refl
+length_picked k (y ∷ ys) [] e = absurd (omega arith)
+length_picked k (y ∷ ys) (x ∷ xs) e = elim (cases_eq y k) [
+  | inl q ↦ ap length (cond-true (eqb y k) (x ∷ picked k ys xs) (picked k ys xs) (eq-eqb y k q))
+      ∙ omega (arith, length_picked k ys xs (omega arith), cond-true {A = ℕ} (eqb y k) 1 0 (eq-eqb y k q))
+  | inr d ↦ ap length (cond-false (eqb y k) (x ∷ picked k ys xs) (picked k ys xs) (ne_eqb y k d))
+      ∙ omega (arith, length_picked k ys xs (omega arith), cond-false {A = ℕ} (eqb y k) 1 0 (ne_eqb y k d))
+]
+
+-- so many entries has the column
+pub count_support : {p n : ℕ} {starts cs vs : List ℕ} → IsStored p n starts cs vs → (k : ℕ) → k < n → count_of k cs ≡ length (support (row (transposed (stored_matrix n starts cs vs)) k))
+unfolding stored_row spread
+count_support {p} {n} {starts} {cs} {vs} s k l =
+    let h : ℕ = length starts - 1 in
+    let A : Matrix = stored_matrix n starts cs vs in
+    let is : List ℕ = picked k cs (part_numbers h starts) in
+    let ws : List ℕ = picked k cs vs in
+    let column : IsColumn p k h starts cs vs is ws = column_is p n starts cs vs s k is ws refl refl in
+    let row_is : row (transposed A) k ≡ spread h is ws =
+    row_matrix_of n h (λ j i. entry A i j) k l
+    ∙ list_of_equal h (λ i. entry A i k) (entry_at is ws) (λ i b.
+    ap (λ r. slice_index r k) (row_stored n starts cs vs i b) ∙ at_spread n (part starts cs i) (part starts vs i) k l ∙ sym (column.entries i b)) in
+    let long : length cs ≡ length (part_numbers h starts) = sym (length_part_numbers h (length cs) starts s.parts h (omega arith) ∙ s.parts.last) in
+    sym (ap (λ v. length (support v)) row_is ∙ ap length (support_spread column.sparse) ∙ length_picked k cs (part_numbers h starts) long)
+
+-- so that is what was counted
+pub count_read : {p n : ℕ} {starts cs vs keys counts : List ℕ} {M : Matrix} (j c : ℕ) → IsStored p n starts cs vs → stored_matrix n starts cs vs ≡ M → keys ≡ cs →
+    counts ≡ list_of n (λ k. count_of k keys) → j < n → c ≡ get_or counts j c → c ≡ length (support (row (transposed M) j))
+count_read {p} {n} {starts} {cs} {vs} {keys} {counts} {M} j c s em ek ec l e =
+    e ∙ ap (λ xs. get_or xs j c) ec ∙ get_or_default (list_of n (λ k. count_of k keys)) j c 0 (omega (arith, length_list_of n (λ k. count_of k keys))) ∙ at_list_of n (λ k. count_of k keys) j l
+    ∙ ap (count_of j) ek ∙ count_support s j l ∙ ap (λ A. length (support (row (transposed A) j))) em
 
 -- part t begins where the part for its column does, and holds what is picked for that
 begun_part : {order keys starts begins : List ℕ} (xs ys : List ℕ) → AreBegun order keys starts begins → HoldsParts keys xs begins ys → (t : ℕ) → t < length order →

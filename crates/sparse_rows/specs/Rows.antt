@@ -70,6 +70,11 @@ pub record AreFilled (A : Matrix) (rows : List ℕ) : Type 0 where
   pub filled : (k : ℕ) → k < length rows → IsFilled A (slice_index rows k)
   pub all : (i : ℕ) → i < A.height → IsFilled A i → Contains rows i
 
+-- the filled rows of A, ascending, each behind how many entries it has
+pub record AreWeights (A : Matrix) (weights : List (ℕ × ℕ)) : Type 0 where
+  pub filled : AreFilled A (map (λ w. w.1) weights)
+  pub entries : All (λ w. w.0 ≡ length (support (row A w.1))) weights
+
 -- ascending columns of A, off which all entries are 0
 pub record AreEnough (A : Matrix) (columns : List ℕ) : Type 0 where
   pub rising : AreRising columns

@@ -10,6 +10,7 @@ ghost use Rattle.sparse_rows.specs.Stored.{IsSparse, with_row, with_sparse_row};
 
 mod from_entries;
 mod from_rows;
+mod weights;
 
 use crate::column_lists::{first_from, place_of};
 use crate::entry_room::EntryRoom;

@@ -5,12 +5,12 @@ ghost use Rattle.std.specs.Prelude.{◌≡◌, ◌<◌, ◌≤◌, ◌+◌, ◌^
 ghost use Rattle.std.specs.Option.{MatchOption};
 ghost use Rattle.residue_words.specs.Matrix.{IsMatrix, row};
 ghost use Rattle.sparse_rows.specs.Cells.{AreEntries, IsWithin, matrix_of_cells, place_of, weight};
-ghost use Rattle.sparse_rows.specs.Rows.{above, AreBelow, AreEnough, AreEnoughInSomeOrder, AreOccupied, AreRising, AreZeroFrom, IsNextFilled, entry_count, matrix_by, narrowed, nonzeros, selected, support, transposed, widened, with_zeros};
+ghost use Rattle.sparse_rows.specs.Rows.{above, AreBelow, AreEnough, AreEnoughInSomeOrder, AreOccupied, AreRising, AreWeights, AreZeroFrom, IsNextFilled, entry_count, matrix_by, narrowed, nonzeros, selected, support, transposed, widened, with_zeros};
 ghost use Rattle.sparse_rows.specs.Stored.{IsSparse, IsStored, spread, stored_matrix, with_row, with_sparse_row};
 
 use crate::column_lists::{named_columns, occurring, places_among};
 use crate::consecutive_parts::{append_starts, part};
-use crate::counting_sort::{all_starts, by_parts, starts_in_order};
+use crate::counting_sort::{all_starts, by_parts, counts, starts_in_order};
 use crate::entry_room::{EntryRoom, write_behind};
 use crate::ordered_cells::{OrderedCells, RowParts};
 use crate::values_at_places::{Cell, columns, row_starts, values};
@@ -267,6 +267,24 @@ impl StoredRows {
         ensures { IfOk result (λ columns. AreOccupied self.now.matrix columns.items) }
     {
         occurring(alloc, self.width, &self.cols)
+    }
+
+    // The columns in which some row has an entry, ascending, each behind how many have one: in time by the entries and the width, and
+    // 8 bytes a column.
+    pub(crate) fn column_weights(&self, alloc: Global) -> Result<Vec<(u32, u32)>, AllocError>
+        ensures { IfOk result (λ weights. AreWeights (transposed self.now.matrix) weights.items) }
+    {
+        // The contract of this call bounds how many rows have an entry in a column.
+        self.height();
+        let counts = counts(alloc, self.width, &self.cols)?;
+        let mut weights = Vec::new(alloc);
+        for j in 0..self.width {
+            let count = counts[j as usize];
+            if count != 0 {
+                weights.push((count as u32, j))?;
+            }
+        }
+        Ok(weights)
     }
 
     // These columns alone, where all entries stand in them: in time by the entries, times a logarithm of how many columns
