@@ -1,60 +1,16 @@
 -- The kept rows with their numbers, in any order.
-use Rattle.std.proofs.Common.{ℕ, ◌≡◌, ◌≢◌, ◌+◌, ◌<◌, List, [], ◌∷◌, ◌++◌, cond, eqb, length, slice_index, slice_index_or, inl, inr, sym, refl, ap, subst, ◌∙◌, arith, eq-eqb, ne_eqb, length-append}
+use Rattle.std.proofs.Common.{ℕ, ◌≡◌, ◌≢◌, ◌+◌, ◌<◌, List, [], ◌∷◌, ◌++◌, length, slice_index, slice_index_or, inl, inr, sym, refl, ap, subst, ◌∙◌, arith, length-append}
 use Rattle.std.specs.List.{swap}
 use Rattle.std.specs.List.Sorted.{IsPermutation, IsNonDecreasingBy}
 use Rattle.std.proofs.Math.ListN.{get_or-append}
 use Rattle.std.proofs.Math.Seq.{get_or-append_seam}
-use Rattle.std.proofs.lemmas.Bool.{cases_eq, cases_lt, cond-true, cond-false}
+use Rattle.std.proofs.lemmas.Bool.{cases_eq, cases_lt}
 use Rattle.std.proofs.lemmas.List.{get_or_default}
-use Rattle.std.proofs.lemmas.List.Edits.{Swapped, swapped_from_swap, length-swap}
+use Rattle.std.proofs.lemmas.List.Edits.{swapped_from_swap, length-swap}
 use Rattle.std.proofs.lemmas.List.Sorted.{IsPermutation-keeps}
+use Rattle.sparse_rows.proofs.Permuting.{at_turned, turned, turned_back, turned_below}
 use Rattle.lead_rows.specs.Leads.{KeptRows, IsSound}
 use Rattle.echelon_form.specs.Settling.{IsOrderOfLeads}
-
--- i, but a and b in each other's place
-turned : ℕ → ℕ → ℕ → ℕ
-turned a b i = cond (eqb i a) b (cond (eqb i b) a i)
-
-turned_first : (a b i : ℕ) → i ≡ a → turned a b i ≡ b
-unfolding turned
-turned_first a b i e = cond-true (eqb i a) b _ (eq-eqb i a e)
-
-turned_second : (a b i : ℕ) → i ≡ b → turned a b i ≡ a
-unfolding turned
-turned_second a b i e = elim (cases_eq i a) [
-  | inl f ↦ turned_first a b i f ∙ sym e ∙ f
-  | inr d ↦ cond-false (eqb i a) b _ (ne_eqb i a d) ∙ cond-true (eqb i b) a i (eq-eqb i b e)
-]
-
-turned_other : (a b i : ℕ) → i ≢ a → i ≢ b → turned a b i ≡ i
-unfolding turned
-turned_other a b i d f = cond-false (eqb i a) b _ (ne_eqb i a d) ∙ cond-false (eqb i b) a i (ne_eqb i b f)
-
--- twice is back
-turned_back : (a b i : ℕ) → turned a b (turned a b i) ≡ i
-turned_back a b i = elim (cases_eq i a) [
-  | inl e ↦ turned_second a b (turned a b i) (turned_first a b i e) ∙ sym e
-  | inr d ↦ elim (cases_eq i b) [
-    | inl f ↦ turned_first a b (turned a b i) (turned_second a b i f) ∙ sym f
-    | inr g ↦ ap (turned a b) (turned_other a b i d g) ∙ turned_other a b i d g
-  ]
-]
-
-turned_below : (n a b i : ℕ) → a < n → b < n → i < n → turned a b i < n
-turned_below n a b i la lb li = elim (cases_eq i a) [
-  | inl e ↦ omega (arith, turned_first a b i e)
-  | inr d ↦ elim (cases_eq i b) [ inl f ↦ omega (arith, turned_second a b i f) | inr g ↦ omega (arith, turned_other a b i d g) ]
-]
-
--- what is swapped stands at the turned place
-at_turned : (f g : ℕ → ℕ × ℕ) (a b : ℕ) → Swapped f g a b → (i : ℕ) → g i ≡ f (turned a b i)
-at_turned f g a b s i = elim (cases_eq i a) [
-  | inl e ↦ ap g e ∙ s.0 ∙ ap f (sym (turned_first a b i e))
-  | inr d ↦ elim (cases_eq i b) [
-    | inl e ↦ ap g e ∙ s.1 ∙ ap f (sym (turned_second a b i e))
-    | inr h ↦ s.2 i d h ∙ ap f (sym (turned_other a b i d h))
-  ]
-]
 
 abbrev none : ℕ × ℕ
 none = (0, 0)

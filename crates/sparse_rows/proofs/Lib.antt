@@ -11,6 +11,7 @@ pub mod Loops
 pub mod Marking
 pub mod Occurring
 pub mod Ordered
+pub mod Permuting
 pub mod Renaming
 pub mod Renumbering
 pub mod Spread

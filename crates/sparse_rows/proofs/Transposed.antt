@@ -11,7 +11,7 @@ use Rattle.sparse_rows.specs.declared.rows.TheConstants.{LARGEST_SIZE}
 use Rattle.sparse_rows.specs.Rows.{selected, support, transposed}
 use Rattle.sparse_rows.specs.Stored.{AreBegun, AreStarts, HoldsParts, IsSparse, IsStored, count_of, entry_at, part, part_numbers, picked, spread, stored_matrix, stored_row}
 use Rattle.sparse_rows.proofs.Loops.{sized}
-use Rattle.sparse_rows.proofs.Spread.{Ascends, at_spread, columns_ascend, entry_beyond, entry_push_other, entry_push_same, entry_tail, map_range_equal, sparse_none, sparse_push, support_spread, widen}
+use Rattle.sparse_rows.proofs.Spread.{Ascends, at_spread, columns_ascend, entry_beyond, entry_push_other, entry_push_same, entry_tail, sparse_none, sparse_push, support_spread, widen}
 use Rattle.sparse_rows.proofs.Stored.{length_part, row_stored, starts_below, starts_rise, value_parts}
 
 -- what is picked of two lists one after the other

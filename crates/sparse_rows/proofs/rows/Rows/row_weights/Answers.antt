@@ -1,5 +1,5 @@
 use Rattle.std.proofs.Common.{ap, arith, length}
-use Rattle.sparse_rows.proofs.FilledRows.{weights_all, weights_more, weights_none}
+use Rattle.sparse_rows.proofs.FilledRows.{weights_more}
 use Rattle.sparse_rows.proofs.Renaming.{rising_short}
 use Rattle.sparse_rows.proofs.rows.Rows.row_weights.Goals as goal
 
