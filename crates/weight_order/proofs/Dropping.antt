@@ -1,9 +1,9 @@
 -- Rows that are multiples of others can go.
-use Rattle.std.proofs.Common.{ℕ, suc, ◌≡◌, ◌+◌, ◌*◌, ◌%◌, ◌<◌, ◌≤◌, All, inl, inr, ⊎_elim, List, [], ◌∷◌, ◌++◌, length, map, slice_index, slice_index_or, take, sym, refl, ap, ap₂, subst, ◌∙◌, arith, mod-eq_of_lt, mul-one, one-mul, zero-mul}
+use Rattle.std.proofs.Common.{ℕ, suc, ◌≡◌, ◌+◌, ◌*◌, ◌%◌, ◌<◌, ◌≤◌, All, inl, inr, ⊎_elim, List, [], ◌∷◌, ◌++◌, length, slice_index, take, sym, refl, ap, subst, ◌∙◌, arith, mod-eq_of_lt, mul-one, one-mul, zero-mul}
 use Rattle.std.specs.List.{range_with_len}
 use Rattle.std.proofs.lemmas.Bool.{cases_eq}
-use Rattle.std.proofs.lemmas.List.{ext_get_or, get_or-take, get_or_append_left, get_or_default, get_or_push, length-take, length_push, take_more}
-use Rattle.std.proofs.lemmas.List.FromFn.{get_or-map-range_with_len, get_or-range_with_len, length-map-range_with_len, length-range_with_len}
+use Rattle.std.proofs.lemmas.List.{get_or-take, get_or_append_left, get_or_default, get_or_push, length-take, length_push, take_more}
+use Rattle.std.proofs.lemmas.List.FromFn.{get_or-range_with_len, length-range_with_len}
 use Rattle.residue_words.specs.Matrix.{Matrix, IsCombination, IsMatrix, IsVector, entry, row}
 use Rattle.residue_words.specs.Residues.{IsPrime}
 use Rattle.residue_words.proofs.Lists.{place_in}
@@ -16,6 +16,7 @@ use Rattle.sparse_rows.specs.Stored.{entry_at}
 use Rattle.sparse_rows.proofs.FilledRows.{filled_or_zero, zero_row}
 use Rattle.sparse_rows.proofs.Occurring.{rising_push}
 use Rattle.sparse_rows.proofs.Renaming.{rising_short}
+use Rattle.sparse_rows.proofs.Transposed.{all_selected}
 use Rattle.sparse_rows.proofs.Spread.{entry_head, entry_support, entry_tail, support_sparse}
 use Rattle.weight_order.specs.Keeping.{KeepsRank}
 use Rattle.weight_order.specs.Multiples.{AddsUnlessRepeated, AreRepresentatives, AreProportional, HasSpanningRows, IsMultiple, IsRepeated}
@@ -211,13 +212,6 @@ spanning_itself {R} m =
       matrix = all_selected R.matrix m.len;
       span = λ prime v. (λ c. c, λ c. c);
     }
-  where
-    all_rows : (rows : List (List ℕ)) (n : ℕ) → length rows ≡ n → map (λ i. slice_index_or rows i []) (range_with_len 0 n) ≡ rows
-    all_rows rows n long = ext_get_or [] _ rows (length-map-range_with_len _ 0 n ∙ sym long) (λ i l.
-        get_or-map-range_with_len (λ k. slice_index_or rows k []) 0 n i i [] (omega (arith, length-map-range_with_len (λ k. slice_index_or rows k []) 0 n)) (omega arith))
-
-    all_selected : (A : Matrix) → length A.rows ≡ A.height → A ≡ selected A (range_with_len 0 A.height)
-    all_selected A long = sym (ap₂ (λ h r. record { height = h; width = A.width; rows = r }) (length-range_with_len 0 A.height) (all_rows A.rows A.height long))
 
 -- such rows keep the rank
 pub spanning_keeps : {R T : ResidueMatrix} → HasSpanningRows R T → KeepsRank R T

@@ -50,3 +50,10 @@ selecting_keeps {R} {S} {order} two sound h modulus matrix = rw (modulus, matrix
   rank = λ prime r. (selecting_rank R.modulus R.matrix order r two sound (each_filled h)).1;
   least = omega (arith, no_more h);
 }
+
+-- the same rows of the transpose
+pub turning_keeps : {R S : ResidueMatrix} {order : List ℕ} → 2 ≤ R.modulus → IsMatrix R.modulus R.matrix → AreFilledInSomeOrder (transposed R.matrix) order → S.modulus ≡ R.modulus →
+    S.matrix ≡ selected (transposed R.matrix) order → KeepsRank R S
+turning_keeps {R} {S} {order} two sound h modulus matrix =
+    let turned : ResidueMatrix = record { modulus = R.modulus; matrix = transposed R.matrix } in
+    keeps_chained {R = turned} (transposing_keeps sound refl refl) (selecting_keeps {R = turned} two (transposed_matrix R.modulus R.matrix sound) h modulus matrix)

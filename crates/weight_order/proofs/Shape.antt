@@ -1,20 +1,21 @@
 -- Rows picked by weight, and their transpose.
-use Rattle.std.proofs.Common.{ℕ, ◌≡◌, ◌≢◌, ◌<◌, ◌≤◌, List, length, slice_index, sym, ap, subst, ◌∙◌, arith}
+use Rattle.std.proofs.Common.{ℕ, ◌≡◌, ◌≢◌, ◌<◌, ◌≤◌, List, length, map, slice_index, sym, ap, subst, ◌∙◌, arith}
 use Rattle.std.specs.List.{All}
-use Rattle.std.proofs.lemmas.List.{get_or_default}
+use Rattle.std.proofs.lemmas.List.{get_or_default, length-map}
 use Rattle.std.proofs.lemmas.List.Sorted.{All-permutation, length_permutation}
 use Rattle.residue_words.specs.Matrix.{Matrix, IsMatrix, entry, row}
 use Rattle.residue_words.proofs.Lists.{place_in}
 use Rattle.residue_words.proofs.Sums.{sum_equal}
 use Rattle.residue_words.proofs.Vectors.{entry_matrix_of}
 use Rattle.row_space.proofs.Spans.{rising_equal}
-use Rattle.sparse_rows.specs.Rows.{AreFilled, AreOccupied, IsFilled, selected, support, transposed}
+use Rattle.sparse_rows.specs.Rows.{AreEnough, AreEnoughInSomeOrder, AreFilled, AreOccupied, AreWeights, IsFilled, ResidueMatrix, selected, support, transposed}
+use Rattle.sparse_rows.proofs.Permuting.{enough_permuted}
 use Rattle.sparse_rows.proofs.Supports.{at_support, in_support, row_sparse}
-use Rattle.weight_order.specs.Keeping.{AreFilledInSomeOrder}
-use Rattle.weight_order.specs.Shape.{HasFewRisingRows, HasRarestFirst, HasRowsByWeight}
-use Rattle.weight_order.proofs.Keeping.{each_filled}
+use Rattle.weight_order.specs.Keeping.{AreFilledInSomeOrder, KeepsRank}
+use Rattle.weight_order.specs.Shape.{AreByWeight, HasColumnsByWeight, HasFewFilled, HasFewRisingRows, HasRarestFirst, HasRowsByWeight}
+use Rattle.weight_order.proofs.Keeping.{each_filled, keeps_chained, transposing_keeps}
 use Rattle.weight_order.proofs.Selecting.{row_selected, selected_matrix}
-use Rattle.weight_order.proofs.Transposing.{transposed_matrix, transposed_twice}
+use Rattle.weight_order.proofs.Transposing.{transposed_matrix}
 use Rattle.weight_order.proofs.Weights.{counted, picked_sum, weight_sum}
 
 -- a row is filled where it has an entry at some column
@@ -44,6 +45,25 @@ module _ {p : ℕ} {A : Matrix} (m : IsMatrix p A) where
     below = o.enough.below;
     filled = λ k l. let w = o.occupied k l in column_at w.0 (slice_index columns k) w.1 (o.enough.below k l) w.2;
     all = λ j b f. let w = entry_of_column j b f in o.enough.all w.0 j w.1 b w.2;
+  }
+
+  -- and the other way round
+  pub filled_enough : (columns : List ℕ) → AreFilled (transposed A) columns → AreEnough A columns
+  filled_enough columns f = record { rising = f.rising; below = f.below; all = λ i j l b d. f.all j b (column_at i j l b d) }
+
+  pub turned_occupied : (columns : List ℕ) → AreFilled (transposed A) columns → AreOccupied A columns
+  turned_occupied columns f =
+      record { enough = filled_enough columns f; occupied = λ k l. entry_of_column (slice_index columns k) (f.below k l) (f.filled k l) }
+
+  -- the filled rows are the occupied columns of the transpose
+  pub filled_occupied : (rows : List ℕ) → AreFilled A rows → AreOccupied (transposed A) rows
+  filled_occupied rows f = record {
+    enough = record { rising = f.rising; below = f.below; all = λ j i b l d. f.all i l (filled_at i j l (λ z. d (entry_turned i j l b ∙ z))) };
+    occupied = λ k l.
+        let i : ℕ = slice_index rows k in
+        let j : ℕ = slice_index (support (row A i)) 0 in
+        let b : j < A.width = (row_sparse m i (f.below k l)).below 0 (f.filled k l) in
+        (j, b, (λ z. at_support m i (f.below k l) 0 (f.filled k l) (sym (entry_turned i j (f.below k l) b) ∙ z)));
   }
 
 -- the filled rows are one list
@@ -81,10 +101,24 @@ module _ {p : ℕ} {B : Matrix} {order : List ℕ} (m : IsMatrix p B) (h : AreFi
         f.all j b (column_at picked_matrix t.0 j t.1 b (λ z. w.2 (sym (ap (λ i. entry B i j) t.2) ∙ sym (entry_picked t.0 j t.1) ∙ z)));
   }
 
+  -- they have entries in the same columns
+  picked_occupied : (columns : List ℕ) → AreOccupied B columns → AreOccupied (selected B order) columns
+  picked_occupied columns o = record {
+    enough = record {
+      rising = o.enough.rising;
+      below = o.enough.below;
+      all = λ k j l b d. o.enough.all (slice_index order k) j ((each_filled h).inside k 0 l) b (λ z. d (entry_picked k j l ∙ z));
+    };
+    occupied = λ k l.
+        let w = o.occupied k l in
+        let j : ℕ = slice_index columns k in
+        let t = place_in order w.0 ((each_filled h).all w.0 w.1 (filled_at m w.0 j w.1 w.2)) in
+        (t.0, t.1, (λ z. w.2 (sym (ap (λ i. entry B i j) t.2) ∙ sym (entry_picked t.0 j t.1) ∙ z)));
+  }
+
 -- rows that are filled, by weight, no more than the columns that have an entry
-pub few_rising : {p : ℕ} {B C : Matrix} {rows columns : List ℕ} → IsMatrix p B → AreFilled B rows → AreFilled (transposed B) columns → length rows ≤ length columns →
-    HasRowsByWeight B C → HasFewRisingRows C
-few_rising {p} {B} {C} {rows} {columns} m filled occupied less by = subst HasFewRisingRows (sym by.rows) record {
+few_rising : {p : ℕ} {B C : Matrix} {columns : List ℕ} → IsMatrix p B → AreOccupied B columns → HasFewFilled B (length columns) → HasRowsByWeight B C → HasFewRisingRows C
+few_rising {p} {B} {C} {columns} m occupied few by = subst HasFewRisingRows (sym by.rows) record {
   rising = record {
     filled = picked_filled m by.filled;
     rising = λ i k a b.
@@ -96,17 +130,47 @@ few_rising {p} {B} {C} {rows} {columns} m filled occupied less by = subst HasFew
   few = λ cs f. omega (
     arith,
     length_permutation by.filled.0 by.order by.filled.2,
-    filled_count B by.filled.0 rows by.filled.1 filled,
-    filled_count (transposed B) cs columns (columns_back m by.filled cs f) occupied,
+    few by.filled.0 by.filled.1,
+    filled_count (transposed B) cs columns (columns_back m by.filled cs f) (occupied_filled m columns occupied),
   );
 }
 
--- the same of the columns of A as rows
-pub few_columns : {p : ℕ} {A T C : Matrix} {rows columns : List ℕ} → IsMatrix p A → T ≡ transposed A → AreFilled A rows → AreOccupied A columns → length columns ≤ length rows →
-    HasRowsByWeight T C → HasFewRisingRows C
-few_columns {p} {A} {T} {C} {rows} {columns} m turned filled occupied less by =
-    few_rising (transposed_matrix p A m) (occupied_filled m columns occupied) (subst (λ M. AreFilled M rows) (sym (transposed_twice p A m)) filled) less
-    (subst (λ M. HasRowsByWeight M C) turned by)
+-- so they are columns by weight, if they keep the rank
+pub rows_are_columns : {R C : ResidueMatrix} {columns order : List ℕ} → IsMatrix R.modulus R.matrix → AreOccupied R.matrix columns → HasFewFilled R.matrix (length columns) →
+    AreFilledInSomeOrder R.matrix order × AreByWeight R.matrix order → KeepsRank R C → C.matrix ≡ selected R.matrix order → HasColumnsByWeight R C columns
+rows_are_columns {R} {C} {columns} {order} m occupied few h rank made = record {
+  rank = rank;
+  shape = few_rising m occupied few record { order = order; filled = h.0; by_weight = h.1; rows = made };
+  occupied = subst (λ M. AreOccupied M columns) (sym made) (picked_occupied m h.0 columns occupied);
+}
+
+-- the same of the columns as rows
+pub columns_are_rows : {R C : ResidueMatrix} {weights : List (ℕ × ℕ)} {rows order : List ℕ} → IsMatrix R.modulus R.matrix → AreWeights (transposed R.matrix) weights → AreFilled R.matrix rows →
+    length weights ≤ length rows → AreFilledInSomeOrder (transposed R.matrix) order × AreByWeight (transposed R.matrix) order → KeepsRank R C → C.matrix ≡ selected (transposed R.matrix) order →
+    HasColumnsByWeight R C rows
+columns_are_rows {R} {C} {weights} {rows} {order} m w filled few h rank made =
+    let turned : IsMatrix R.modulus (transposed R.matrix) = transposed_matrix R.modulus R.matrix m in
+    let occupied : AreOccupied (transposed R.matrix) rows = filled_occupied m rows filled in record {
+      rank = rank;
+      shape = few_rising turned occupied
+          (λ xs f. omega (arith, filled_count (transposed R.matrix) xs (map (λ w. w.1) weights) f w.filled, length-map weights (λ (w : ℕ × ℕ). w.1)))
+          record { order = order; filled = h.0; by_weight = h.1; rows = made };
+      occupied = subst (λ M. AreOccupied M rows) (sym made) (picked_occupied turned h.0 rows occupied);
+    }
+
+-- and of what the transpose gives
+pub turned_are_columns : {R T C : ResidueMatrix} {columns : List ℕ} → IsMatrix R.modulus R.matrix → T.modulus ≡ R.modulus → T.matrix ≡ transposed R.matrix →
+    HasColumnsByWeight T C columns → HasColumnsByWeight R C columns
+turned_are_columns {R} {T} {C} {columns} m modulus matrix h =
+    record { rank = keeps_chained {R = T} (transposing_keeps m modulus matrix) h.rank; shape = h.shape; occupied = h.occupied }
+
+-- so many rows are filled
+pub few_rows : (A : Matrix) (rows : List ℕ) (n : ℕ) → AreFilled A rows → length rows ≤ n → HasFewFilled A n
+few_rows A rows n filled less xs f = omega (arith, filled_count A xs rows f filled)
+
+-- and of the transpose
+pub few_turned : {p : ℕ} {A : Matrix} (rows columns : List ℕ) → IsMatrix p A → AreOccupied A columns → length columns ≤ length rows → HasFewFilled (transposed A) (length rows)
+few_turned {p} {A} rows columns m occupied less xs f = omega (arith, filled_count (transposed A) xs columns f (occupied_filled m columns occupied))
 
 -- columns that are rows of C, and their filled rows in some order
 module _ {p : ℕ} {C : Matrix} {order : List ℕ} (m : IsMatrix p C) (h : AreFilledInSomeOrder (transposed C) order) where
@@ -134,6 +198,10 @@ module _ {p : ℕ} {C : Matrix} {order : List ℕ} (m : IsMatrix p C) (h : AreFi
     tall = omega (arith, few.few h.0 h.1, length_permutation h.0 order h.2);
   }
 
-pub rarest_first_of : {p : ℕ} {C R S : Matrix} {order : List ℕ} → IsMatrix p C → HasFewRisingRows C → R ≡ transposed C → AreFilledInSomeOrder R order → S ≡ selected R order → HasRarestFirst S
-rarest_first_of {p} {C} {R} {S} {order} m few turned h rows =
-    subst HasRarestFirst (sym (rows ∙ ap (λ M. selected M order) turned)) (turned_rarest m (subst (λ M. AreFilledInSomeOrder M order) turned h) few)
+pub rarest_first_of : {p : ℕ} {C S : Matrix} {order : List ℕ} → IsMatrix p C → HasFewRisingRows C → AreFilledInSomeOrder (transposed C) order → S ≡ selected (transposed C) order →
+    HasRarestFirst S
+rarest_first_of {p} {C} {S} {order} m few h rows = subst HasRarestFirst (sym rows) (turned_rarest m h few)
+
+-- the columns of a matrix in the order of the rows of its transpose
+pub order_enough : {p : ℕ} {A : Matrix} {order : List ℕ} → IsMatrix p A → AreFilledInSomeOrder (transposed A) order → AreEnoughInSomeOrder A order
+order_enough {p} {A} {order} m h = enough_permuted h.0 order (filled_enough m h.0 h.1) h.2

@@ -1,9 +1,9 @@
 -- Rows from the last to the first have the same row space.
-use Rattle.std.proofs.Common.{◌≡◌, ◌≤◌, sym, ap, subst, ◌∙◌, arith}
+use Rattle.std.proofs.Common.{◌≡◌, ◌≤◌, sym, ap, subst, arith}
 use Rattle.residue_words.specs.Residues.{IsPrime}
 use Rattle.residue_words.specs.Matrix.{Matrix, IsMatrix}
 use Rattle.row_space.specs.Echelon.{SameSpan}
-use Rattle.sparse_rows.specs.Rows.{ResidueMatrix, selected}
+use Rattle.sparse_rows.specs.Rows.{ResidueMatrix}
 use Rattle.weight_order.specs.Turned.{HasFilledRows}
 use Rattle.weight_order.proofs.Selecting.{selected_matrix, selected_span}
 

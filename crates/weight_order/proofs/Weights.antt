@@ -1,20 +1,20 @@
 -- How many entries a row has, as a sum; and rows sorted by that.
-use Rattle.std.proofs.Common.{ℕ, zero, suc, ◌≡◌, ◌≢◌, ◌+◌, ◌-◌, ◌<◌, ◌≤◌, inl, inr, Ordering, Less, Equal, Greater, false, cond, eqb, List, [], ◌∷◌, length, map, slice_index, get_or, sym, refl, ap, ◌∙◌, arith}
+use Rattle.std.proofs.Common.{ℕ, zero, suc, ◌≡◌, ◌≢◌, ◌+◌, ◌-◌, ◌<◌, ◌≤◌, inl, inr, Ordering, Less, Equal, Greater, false, cond, eqb, List, [], ◌∷◌, length, map, slice_index, get_or, sym, refl, ap, subst, ◌∙◌, arith}
 use Rattle.std.specs.List.{All, Contains, sum_by}
 use Rattle.std.specs.List.Sorted.{IsPermutation, IsSorted}
 use Rattle.std.specs.Ordering.{MatchOrdering, is_lt, nat_cmp, ordering_then}
 use Rattle.std.proofs.lemmas.Bool.{cases_eq, cond-true, cond-false, eq-eqb, ne_eqb}
 use Rattle.std.proofs.lemmas.Cmp.{ranked}
 use Rattle.std.proofs.lemmas.List.{get_or-map, length-map}
-use Rattle.std.proofs.lemmas.List.Sorted.{sum_by-IsPermutation}
+use Rattle.std.proofs.lemmas.List.Sorted.{All-permutation, IsPermutation-map, sum_by-IsPermutation}
 use Rattle.std.proofs.lemmas.List.Sums.{sum_by-cons}
 use Rattle.residue_words.specs.Matrix.{Matrix, IsMatrix, entry, row}
 use Rattle.residue_words.specs.Residues.{sum_below}
 use Rattle.residue_words.proofs.Lists.{place_in}
 use Rattle.residue_words.proofs.Sums.{sum_none, sum_support}
 use Rattle.sparse_rows.specs.Rows.{AreRising, support, support_from}
-use Rattle.weight_order.specs.declared.filled_rows.WeighedRow.{WeighedRow}
-use Rattle.weight_order.specs.Shape.{AreByWeight}
+use Rattle.weight_order.specs.Keeping.{AreFilledInSomeOrder}
+use Rattle.weight_order.specs.Shape.{AreByWeight, IsRarestFirst}
 
 -- 1 for an entry, and 0 for none
 abbrev pub counted : ℕ → ℕ
@@ -68,9 +68,9 @@ picked_sum n v filled order up below all moved =
       | inr d ↦ inr (place_in filled j (all j l d))
     ]))
 
--- rows as they are compared
-abbrev by_fields : WeighedRow → WeighedRow → Ordering
-by_fields x y = ordering_then (nat_cmp x.weight y.weight) (nat_cmp x.row y.row)
+-- weights as they are compared
+abbrev by_fields : ℕ × ℕ → ℕ × ℕ → Ordering
+by_fields x y = ordering_then (nat_cmp x.0 y.0) (nat_cmp x.1 y.1)
 
 no_heavier : (a b : ℕ) (r : Ordering) → is_lt (ordering_then (nat_cmp b a) r) ≡ false → a ≤ b
 no_heavier a b r is = go (nat_cmp b a) (ranked b a (nat_cmp b a) refl) is
@@ -80,34 +80,40 @@ no_heavier a b r is = go (nat_cmp b a) (ranked b a (nat_cmp b a) refl) is
     go Equal m e = omega (arith, m)
     go Greater m e = omega (arith, m)
 
-abbrev no_row : WeighedRow
-no_row = record { weight = 0; row = 0 }
+abbrev no_weight : ℕ × ℕ
+no_weight = (0, 0)
 
-weights_rise : (list : List WeighedRow) → IsSorted by_fields list → (k n : ℕ) → k + n < length list → (get_or list k no_row).weight ≤ (get_or list (k + n) no_row).weight
-weights_rise list is k zero l = let same : k + zero ≡ k = omega arith in omega (arith, ap (λ t. (get_or list t no_row).weight) same)
+weights_rise : (list : List (ℕ × ℕ)) → IsSorted by_fields list → (k n : ℕ) → k + n < length list → (get_or list k no_weight).0 ≤ (get_or list (k + n) no_weight).0
+weights_rise list is k zero l = let same : k + zero ≡ k = omega arith in omega (arith, ap (λ t. (get_or list t no_weight).0) same)
 weights_rise list is k (suc n) l =
     let same : k + suc n ≡ k + n + 1 = omega arith in
-    let x : WeighedRow = get_or list (k + n) no_row in
-    let y : WeighedRow = get_or list (k + n + 1) no_row in
+    let x : ℕ × ℕ = get_or list (k + n) no_weight in
+    let y : ℕ × ℕ = get_or list (k + n + 1) no_weight in
     omega (
       arith,
       weights_rise list is k n (omega arith),
-      no_heavier x.weight y.weight (nat_cmp y.row x.row) (is (k + n) no_row (omega arith) (omega arith)),
-      ap (λ t. (get_or list t no_row).weight) same,
+      no_heavier x.0 y.0 (nat_cmp y.1 x.1) (is (k + n) no_weight (omega arith) (omega arith)),
+      ap (λ t. (get_or list t no_weight).0) same,
     )
 
 -- so the rows of a sorted list are by weight
-pub by_weight_of : (A : Matrix) (list : List WeighedRow) → IsSorted by_fields list → All (λ w. w.weight ≡ length (support (row A w.row))) list →
-    AreByWeight A (map (λ (w : WeighedRow). w.row) list)
+by_weight_of : (A : Matrix) (list : List (ℕ × ℕ)) → IsSorted by_fields list → All (λ w. w.0 ≡ length (support (row A w.1))) list → AreByWeight A (map (λ w. w.1) list)
 by_weight_of A list is weights k t less l =
-    let inside : t < length list = omega (arith, length-map list (λ (w : WeighedRow). w.row)) in
-    let at : (s : ℕ) → s < length list → length (support (row A (slice_index (map (λ (w : WeighedRow). w.row) list) s))) ≡ (get_or list s no_row).weight =
-    λ s b. ap (λ i. length (support (row A i))) (get_or-map (λ (w : WeighedRow). w.row) list s no_row 0 b) ∙ sym (weights s no_row b) in
+    let inside : t < length list = omega (arith, length-map list (λ (w : ℕ × ℕ). w.1)) in
+    let at : (s : ℕ) → s < length list → length (support (row A (slice_index (map (λ (w : ℕ × ℕ). w.1) list) s))) ≡ (get_or list s no_weight).0 =
+    λ s b. ap (λ i. length (support (row A i))) (get_or-map (λ (w : ℕ × ℕ). w.1) list s no_weight 0 b) ∙ sym (weights s no_weight b) in
     let same : k + (t - k) ≡ t = omega arith in
     omega (
       arith,
       at k (omega arith),
       at t inside,
       weights_rise list is k (t - k) (omega arith),
-      ap (λ s. (get_or list s no_row).weight) same,
+      ap (λ s. (get_or list s no_weight).0) same,
     )
+
+-- and the filled ones
+pub rarest_of : {weights sorted : List (ℕ × ℕ)} {order : List ℕ} → IsPermutation weights sorted → IsSorted by_fields sorted → order ≡ map (λ w. w.1) sorted → IsRarestFirst weights order
+rarest_of {weights} {sorted} {order} moved is e A h = subst (λ xs. AreFilledInSomeOrder A xs × AreByWeight A xs) (sym e) (
+  (map (λ w. w.1) weights, h.filled, IsPermutation-map (λ (w : ℕ × ℕ). w.1) weights sorted moved),
+  by_weight_of A sorted is (All-permutation (λ (w : ℕ × ℕ). w.0 ≡ length (support (row A w.1))) weights sorted moved h.entries),
+)

@@ -1,13 +1,17 @@
 -- Matrices whose rows or columns stand by how many entries they have.
 use Rattle.std.specs.Prelude.{◌≡◌, ◌<◌, ◌≤◌, ℕ, List, length, slice_index}
 use Rattle.residue_words.specs.Matrix.{Matrix, row}
-use Rattle.sparse_rows.specs.Rows.{AreFilled, IsFilled, selected, support, transposed}
-use Rattle.weight_order.specs.Keeping.{AreFilledInSomeOrder}
+use Rattle.sparse_rows.specs.Rows.{AreFilled, AreOccupied, AreWeights, IsFilled, ResidueMatrix, selected, support, transposed}
+use Rattle.weight_order.specs.Keeping.{AreFilledInSomeOrder, KeepsRank}
 
 -- no row that is named has fewer entries than one that is named before it
 abbrev pub AreByWeight : Matrix → List ℕ → Type 0
 AreByWeight A rows = (k t : ℕ) → k < t → t < length rows →
     length (support (row A (slice_index rows k))) ≤ length (support (row A (slice_index rows t)))
+
+-- where these are the weights of a matrix, the numbers name its filled rows, by weight
+abbrev pub IsRarestFirst : List (ℕ × ℕ) → List ℕ → Type 0
+IsRarestFirst weights order = (A : Matrix) → AreWeights A weights → AreFilledInSomeOrder A order × AreByWeight A order
 
 -- the rows of C are the filled rows of A, by weight
 pub record HasRowsByWeight (A C : Matrix) : Type 0 where
@@ -26,6 +30,16 @@ pub record HasRisingRows (A : Matrix) : Type 0 where
 pub record HasFewRisingRows (C : Matrix) : Type 0 where
   pub rising : HasRisingRows C
   pub few : (columns : List ℕ) → AreFilled (transposed C) columns → C.height ≤ length columns
+
+-- at most n rows of A have an entry
+abbrev pub HasFewFilled : Matrix → ℕ → Type 0
+HasFewFilled A n = (rows : List ℕ) → AreFilled A rows → length rows ≤ n
+
+-- the rows of C are columns by weight of a matrix that keeps the rank of R, and have entries in these columns alone
+pub record HasColumnsByWeight (R C : ResidueMatrix) (columns : List ℕ) : Type 0 where
+  pub rank : KeepsRank R C
+  pub shape : HasFewRisingRows C.matrix
+  pub occupied : AreOccupied C.matrix columns
 
 -- each row and each column of S has an entry; the columns are no more than the rows, and the rarest come first
 pub record HasRarestFirst (S : Matrix) : Type 0 where

@@ -4,17 +4,17 @@
 mod filled_rows;
 mod multiples;
 
-ghost use Rattle.std.specs.Prelude.{◌≡◌, IfOk};
-ghost use Rattle.sparse_rows.specs.Rows.{selected};
+ghost use Rattle.std.specs.Prelude.{◌≡◌, ◌≤◌, length, IfOk};
+ghost use Rattle.sparse_rows.specs.Rows.{AreFilled, AreOccupied, AreWeights, selected, transposed};
 ghost use Rattle.weight_order.specs.Example.{IsTurnedExample};
 ghost use Rattle.weight_order.specs.Keeping.{AreFilledInSomeOrder, KeepsRank};
 ghost use Rattle.weight_order.specs.Laws.{SelectingKeepsRank, SelectingKeepsSpan, TransposingKeepsRank};
 ghost use Rattle.weight_order.specs.Multiples.{HasSpanningRows};
-ghost use Rattle.weight_order.specs.Shape.{HasFewRisingRows, HasRarestFirst, HasRowsByWeight};
+ghost use Rattle.weight_order.specs.Shape.{HasColumnsByWeight, HasFewFilled, HasFewRisingRows, HasRarestFirst};
 ghost use Rattle.weight_order.specs.Turned.{HasFilledRows};
 
 pub use filled_rows::RowOrder;
-use filled_rows::rarest_first;
+use filled_rows::{numbers, rarest_first};
 use multiples::distinct;
 use sparse_rows::Rows;
 use std::alloc::{AllocError, Global};
@@ -41,7 +41,8 @@ pub fn last_first(alloc: Global, rows: &Rows) -> Result<Rows, AllocError>
 {
     // The contracts of these calls tell that the rows are a matrix of residues, and bound their number.
     rows.is_sound();
-    let order = RowOrder::LastFirst.of_filled(alloc, rows)?;
+    let mut order = rows.filled(alloc)?;
+    order.reverse();
     let turned = rows.select(alloc, &order)?;
     Ok(turned)
 }
@@ -84,45 +85,96 @@ pub fn example_is_turned()
     ensures { IsTurnedExample }
 {}
 
+// Columns as rows, and which of their columns have an entry, ascending.
+#[derive(Drop)]
+struct Turned {
+    columns: Rows,
+    occupied: Vec<u32>,
+}
+
 // What will be the columns, as rows: the columns that have an entry, the rarest first; or the rows, if fewer of them have one.
-fn columns_by_weight(alloc: Global, rows: &Rows) -> Result<Rows, AllocError>
-    ensures rank { IfOk result (KeepsRank rows.now) }
-    ensures shape { IfOk result (λ made. HasFewRisingRows made.matrix) }
+fn columns_by_weight(alloc: Global, rows: &Rows) -> Result<Turned, AllocError>
+    ensures { IfOk result (λ made. HasColumnsByWeight rows.now made.columns made.occupied.items) }
+{
+    if rows.is_wide() {
+        return columns_of_wide(alloc, rows);
+    }
+    // The contract of this call tells that the rows are a matrix of residues.
+    rows.is_sound();
+    let weights = rows.column_weights(alloc)?;
+    let filled = rows.filled(alloc)?;
+    if weights.len() > filled.len() {
+        return rows_as_columns(alloc, rows, numbers(alloc, &weights)?);
+    }
+    counted_columns(alloc, rows, weights, filled)
+}
+
+// The same, where the columns are many more than the entries, so that to count in each takes too long.
+fn columns_of_wide(alloc: Global, rows: &Rows) -> Result<Turned, AllocError>
+    ensures { IfOk result (λ made. HasColumnsByWeight rows.now made.columns made.occupied.items) }
+{
+    let occupied = rows.occupied(alloc)?;
+    let filled = rows.filled(alloc)?;
+    if occupied.len() > filled.len() {
+        return rows_as_columns(alloc, rows, occupied);
+    }
+    // The contract of this call tells that the rows are a matrix of residues.
+    rows.is_sound();
+    let columns = rows.transpose(alloc)?;
+    rows_as_columns(alloc, &columns, filled)
+}
+
+// The rows that have an entry, the rarest first, and which columns have one, which are as many or more.
+fn rows_as_columns(alloc: Global, rows: &Rows, occupied: Vec<u32>) -> Result<Turned, AllocError>
+    requires occupied { AreOccupied rows.now.matrix occupied.items }
+    requires few { HasFewFilled rows.now.matrix (length occupied.items) }
+    ensures { IfOk result (λ made. HasColumnsByWeight rows.now made.columns made.occupied.items) }
 {
     // The contract of this call tells that the rows are a matrix of residues.
     rows.is_sound();
-    if rows.occupied(alloc)?.len() > rows.filled(alloc)?.len() {
-        return with_rarest_first(alloc, rows);
-    }
-    let columns = rows.transpose(alloc)?;
-    with_rarest_first(alloc, &columns)
+    let order = rarest_first(alloc, rows.row_weights(alloc)?)?;
+    Ok(Turned {
+        columns: rows_in_order(alloc, rows, &order)?,
+        occupied,
+    })
 }
 
-// The rows that have an entry, the rarest first.
-fn with_rarest_first(alloc: Global, rows: &Rows) -> Result<Rows, AllocError>
-    ensures rank { IfOk result (KeepsRank rows.now) }
-    ensures rows { IfOk result (λ made. HasRowsByWeight rows.now.matrix made.matrix) }
+// The columns that have an entry, the rarest first, whose weights are given, and which rows have one, which are as many or more.
+fn counted_columns(
+    alloc: Global,
+    rows: &Rows,
+    weights: Vec<(u32, u32)>,
+    filled: Vec<u32>,
+) -> Result<Turned, AllocError>
+    requires weights { AreWeights (transposed rows.now.matrix) weights.items }
+    requires filled { AreFilled rows.now.matrix filled.items }
+    requires few { length weights.items ≤ length filled.items }
+    ensures { IfOk result (λ made. HasColumnsByWeight rows.now made.columns made.occupied.items) }
 {
-    let order = rarest_first(alloc, rows)?;
-    in_order(alloc, rows, &order)
+    // The contract of this call tells that the rows are a matrix of residues.
+    rows.is_sound();
+    let order = rarest_first(alloc, weights)?;
+    Ok(Turned {
+        columns: columns_in_order(alloc, rows, &order)?,
+        occupied: filled,
+    })
 }
 
 // The matrix with these columns, of which the rows that have an entry stand in the given order.
-fn from_columns(alloc: Global, columns: Rows, order: RowOrder) -> Result<Rows, AllocError>
-    requires { HasFewRisingRows columns.matrix }
-    ensures rank { IfOk result (KeepsRank columns) }
+fn from_columns(alloc: Global, turned: Turned, order: RowOrder) -> Result<Rows, AllocError>
+    requires shape { HasFewRisingRows turned.columns.matrix }
+    requires occupied { AreOccupied turned.columns.matrix turned.occupied.items }
+    ensures rank { IfOk result (KeepsRank turned.columns) }
     ensures shape { IfOk result (λ made. HasRarestFirst made.matrix) }
 {
     // The contract of this call tells that the columns are a matrix of residues.
-    columns.is_sound();
-    let rows = columns.transpose(alloc)?;
-    drop(columns);
-    let order = order.of_filled(alloc, &rows)?;
-    in_order(alloc, &rows, &order)
+    turned.columns.is_sound();
+    let order = order.of(turned.occupied);
+    columns_in_order(alloc, &turned.columns, &order)
 }
 
 // The rows that have an entry, in this order.
-fn in_order(alloc: Global, rows: &Rows, order: &[u32]) -> Result<Rows, AllocError>
+fn rows_in_order(alloc: Global, rows: &Rows, order: &[u32]) -> Result<Rows, AllocError>
     requires { AreFilledInSomeOrder rows.now.matrix order.now }
     ensures rank { IfOk result (KeepsRank rows.now) }
     ensures rows { IfOk result (λ made. made.matrix ≡ selected rows.now.matrix order.now) }
@@ -131,4 +183,16 @@ fn in_order(alloc: Global, rows: &Rows, order: &[u32]) -> Result<Rows, AllocErro
     rows.is_sound();
     let picked = rows.select(alloc, order)?;
     Ok(picked)
+}
+
+// The columns that have an entry as rows, in this order.
+fn columns_in_order(alloc: Global, rows: &Rows, order: &[u32]) -> Result<Rows, AllocError>
+    requires { AreFilledInSomeOrder (transposed rows.now.matrix) order.now }
+    ensures rank { IfOk result (KeepsRank rows.now) }
+    ensures rows { IfOk result (λ made. made.matrix ≡ selected (transposed rows.now.matrix) order.now) }
+{
+    // The contract of this call tells that the rows are a matrix of residues, and bounds the number of columns.
+    rows.is_sound();
+    let turned = rows.transpose_select(alloc, order)?;
+    Ok(turned)
 }

@@ -1,23 +1,16 @@
-use Rattle.std.proofs.Common.{arith}
-use Rattle.std.proofs.lemmas.Result.{IfOk-weaker}
-use Rattle.weight_order.proofs.Keeping.{keeps_chained, transposing_keeps}
-use Rattle.weight_order.proofs.Shape.{few_columns, few_rising, occupied_filled}
+use Rattle.std.proofs.Common.{ℕ, ◌≡◌, ◌∙◌, ap, arith, length, map, subst, sym}
+use Rattle.std.proofs.lemmas.List.{length-map}
+use Rattle.sparse_rows.specs.Rows.{AreOccupied}
+use Rattle.weight_order.proofs.Shape.{few_rows, turned_occupied}
 use Rattle.weight_order.proofs.columns_by_weight.Goals as goal
 
-pub returns-then-len-clause-shape : goal.returns-then-len-clause-shape
-returns-then-len-clause-shape c =
-    IfOk-weaker c.with_rarest_first.result _ _ (λ made.
-    few_rising c.is_sound.ensures.entries c.in_ok-filled.ensures (occupied_filled c.is_sound.ensures.entries c.in_ok-occupied.field-0.items c.in_ok-occupied.ensures)
-    (omega (arith, c.if-len.true, c.len.ensures, c.len-2.ensures)))
-    c.with_rarest_first.ensures.rows
+pub rows_as_columns-requires-clause-occupied : goal.rows_as_columns-requires-clause-occupied
+rows_as_columns-requires-clause-occupied c =
+    subst (AreOccupied c.args.rows.now.matrix) (sym (c.in_ok-numbers.ensures ∙ ap (map (λ (w : ℕ × ℕ). w.1)) c.deref.ensures.value))
+    (turned_occupied c.is_sound.ensures.entries _ c.in_ok-weights.ensures.filled)
 
-pub returns-clause-rank : goal.returns-clause-rank
-returns-clause-rank c =
-    IfOk-weaker c.with_rarest_first-2.result _ _ (λ made. keeps_chained (transposing_keeps c.is_sound.ensures.entries c.in_ok-columns.ensures.modulus c.in_ok-columns.ensures.matrix))
-    c.with_rarest_first-2.ensures.rank
-
-pub returns-clause-shape : goal.returns-clause-shape
-returns-clause-shape c =
-    IfOk-weaker c.with_rarest_first-2.result _ _ (λ made.
-    few_columns c.is_sound.ensures.entries c.in_ok-columns.ensures.matrix c.in_ok-filled.ensures c.in_ok-occupied.ensures (omega (arith, c.if-len.false, c.len.ensures, c.len-2.ensures)))
-    c.with_rarest_first-2.ensures.rows
+pub rows_as_columns-requires-clause-few : goal.rows_as_columns-requires-clause-few
+rows_as_columns-requires-clause-few c =
+    let many : length c.in_ok-numbers.field-0.items ≡ length c.in_ok-weights.weights.items =
+    ap length (c.in_ok-numbers.ensures ∙ ap (map (λ (w : ℕ × ℕ). w.1)) c.deref.ensures.value) ∙ length-map c.in_ok-weights.weights.items (λ (w : ℕ × ℕ). w.1) in
+    few_rows _ _ _ c.in_ok-filled.ensures (omega (arith, many, c.if-len.true, c.len.ensures, c.len-2.ensures))

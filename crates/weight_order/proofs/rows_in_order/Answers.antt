@@ -1,6 +1,6 @@
 use Rattle.std.proofs.Common.{arith}
 use Rattle.weight_order.proofs.Keeping.{each_filled, no_more, selecting_keeps}
-use Rattle.weight_order.proofs.in_order.Goals as goal
+use Rattle.weight_order.proofs.rows_in_order.Goals as goal
 
 pub select-requires-clause-many : goal.select-requires-clause-many
 select-requires-clause-many c = omega (arith, no_more c.requires, c.is_sound.ensures.height)

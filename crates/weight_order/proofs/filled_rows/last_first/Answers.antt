@@ -1,4 +1,0 @@
-use Rattle.weight_order.proofs.filled_rows.last_first.Goals as goal
-
-pub returns : goal.returns
-returns c = (c.in_ok-filled.filled.items, c.in_ok-filled.ensures, c.reverse.ensures.permutation)
