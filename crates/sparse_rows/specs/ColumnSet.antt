@@ -1,5 +1,5 @@
 -- Lists of which few items are not 0, and marks by bits.
-use Rattle.std.specs.Prelude.{◌≡◌, ◌≢◌, ◌<◌, ◌≤◌, ◌+◌, ◌*◌, ◌/◌, ◌%◌, ℕ, List, length, slice_index, slice_set}
+use Rattle.std.specs.Prelude.{◌≡◌, ◌≢◌, ◌<◌, ◌≤◌, ◌*◌, ◌/◌, ◌%◌, ℕ, List, length, slice_index, slice_set}
 use Rattle.std.specs.Int.{bit_at}
 use Rattle.residue_words.specs.Matrix.{list_of}
 
@@ -15,12 +15,6 @@ pub record TakesFirst (old new : List ℕ) (c v : ℕ) : Type 0 where
   pub before : (j : ℕ) → j < c → slice_index old j ≡ 0
   pub after : new ≡ slice_set old c 0
 
--- column j has the first mark
-pub record IsFirstMark (marks : List ℕ) (j : ℕ) : Type 0 where
-  pub inside : j < length marks
-  pub marked : slice_index marks j ≡ 1
-  pub before : (i : ℕ) → i < j → slice_index marks i ≡ 0
-
 -- bit j of words of 64 bits
 abbrev pub bit : List ℕ → ℕ → ℕ
 bit words j = bit_at (slice_index words (j / 64)) (j % 64)
@@ -35,12 +29,22 @@ pub record IsLowest (word k : ℕ) : Type 0 where
   pub one : bit_at word k ≡ 1
   pub before : (i : ℕ) → i < k → bit_at word i ≡ 0
 
--- n bits; above them a bit for each word that is not 0, and none in the words before `first`
+-- word w is the first that is not 0
+pub record IsFirstWord (words : List ℕ) (w : ℕ) : Type 0 where
+  pub inside : w < length words
+  pub some : slice_index words w ≢ 0
+  pub before : (v : ℕ) → v < w → slice_index words v ≡ 0
+
+-- a bit for each word that is not 0, and perhaps for some that are
+pub record AreTops (words tops : List ℕ) : Type 0 where
+  pub long : length words ≤ 64 * length tops
+  pub raised : (w : ℕ) → slice_index words w ≢ 0 → bit tops w ≡ 1
+  pub inside : (w : ℕ) → bit tops w ≡ 1 → w < length words
+
+-- n bits with those above them; the words before `first` are 0
 pub record IsMarks (n : ℕ) (words tops : List ℕ) (first : ℕ) : Type 0 where
   pub long : n ≤ 64 * length words
-  pub tops_long : length words ≤ 64 * length tops
-  pub short : length tops ≤ n + 1
   pub inside : (j : ℕ) → bit words j ≡ 1 → j < n
-  pub raised : (w : ℕ) → slice_index words w ≢ 0 → bit tops w ≡ 1
-  pub exact : (w : ℕ) → bit tops w ≡ 1 → slice_index words w ≢ 0
-  pub behind : (u : ℕ) → u < first → slice_index tops u ≡ 0
+  pub covered : AreTops words tops
+  pub present : first < length words
+  pub behind : (w : ℕ) → w < first → slice_index words w ≡ 0

@@ -12,13 +12,13 @@ pub index_mut-requires : goal.index_mut-requires
 index_mut-requires c = omega (arith, ap length c.self.view_is, length_list_of c.self.inside.count (bit c.self.inside.words.items), c.self.invariant.long)
 
 pub index_mut-requires-then-word-eq0 : goal.index_mut-requires-then-word-eq0
-index_mut-requires-then-word-eq0 c = omega (arith, ap length c.self.view_is, length_list_of c.self.inside.count (bit c.self.inside.words.items), c.self.invariant.long, c.self.invariant.tops_long)
+index_mut-requires-then-word-eq0 c = omega (arith, ap length c.self.view_is, length_list_of c.self.inside.count (bit c.self.inside.words.items), c.self.invariant.long, c.self.invariant.covered.long)
 
 pub invariant_of-self : goal.invariant_of-self
 invariant_of-self c =
     let column : c.args.j < c.self.inside.count = omega (arith, ap length c.self.view_is, length_list_of c.self.inside.count (bit c.self.inside.words.items)) in
     let inside : c.args.j / 64 < length c.self.inside.words.items = omega (arith, c.self.invariant.long) in
-    let top_in : c.args.j / 64 / 64 < length c.self.inside.tops.items = omega (arith, c.self.invariant.long, c.self.invariant.tops_long) in
+    let top_in : c.args.j / 64 / 64 < length c.self.inside.tops.items = omega (arith, c.self.invariant.long, c.self.invariant.covered.long) in
     mark_first c.self.invariant c.args.j _ _ _ column (c.index-word.ensures ∙ get_or_default c.self.inside.words.items _ _ 0 inside) (c.index_mut-then-word-eq0.ensures.value ∙ get_or_default c.self.inside.tops.items _ _ 0 top_in) (omega arith) (omega arith)
 
 pub invariant_of-self-else-word-eq0 : goal.invariant_of-self-else-word-eq0

@@ -1,4 +1,4 @@
-use Rattle.sparse_rows.proofs.Marking.{marks_length, no_marks_list, new_marks}
+use Rattle.sparse_rows.proofs.Marking.{marks_length, new_marks, no_marks_list}
 use Rattle.sparse_rows.proofs.column_set.ColumnSet.new.Goals as goal
 
 pub returns-clause-length : goal.returns-clause-length
@@ -8,4 +8,4 @@ pub returns-clause-none : goal.returns-clause-none
 returns-clause-none c = no_marks_list _ _ _ (c.in_ok-vec.ensures.items_if_clones_equal (λ y e. e))
 
 pub invariant_of-result : goal.invariant_of-result
-invariant_of-result c = new_marks _ _ _ _ (c.in_ok-vec.ensures.items_if_clones_equal (λ y e. e)) (c.in_ok-vec-2.ensures.items_if_clones_equal (λ y e. e))
+invariant_of-result c = new_marks _ _ _ (c.in_ok-vec.ensures.items_if_clones_equal (λ y e. e)) (c.in_ok-vec-2.ensures.items_if_clones_equal (λ y e. e))
