@@ -1,5 +1,5 @@
 -- Columns that get their places one after another.
-use Rattle.std.proofs.Common.{ℕ, ◌≡◌, ◌≢◌, ◌+◌, ◌<◌, ◌≤◌, ◌⊎◌, ◌++◌, List, [], ◌∷◌, length, replicate, slice_index, slice_set, inl, inr, sym, refl, ap, ◌∙◌, arith}
+use Rattle.std.proofs.Common.{ℕ, ◌≡◌, ◌≢◌, ◌+◌, ◌<◌, ◌≤◌, ◌⊎◌, ◌++◌, List, [], ◌∷◌, Option, Some, None, IfNone, IfSome, MatchOption, length, replicate, slice_index, slice_set, inl, inr, sym, refl, ap, subst, ◌∙◌, arith}
 use Rattle.std.specs.List.{Contains}
 use Rattle.std.proofs.lemmas.Bool.{cases_eq, cases_lt}
 use Rattle.std.proofs.lemmas.List.{length-set, length-replicate, get_or-replicate, get_or-set_same, get_or-set_other, get_or_append_left, get_or_push, length_push}
@@ -219,6 +219,12 @@ order_has {sorted} {places} {columns} o column m =
     let w = place_in sorted column m in
     let q = o.so_far.placed w.0 w.1 (o.all w.0 w.1) in
     contains_at columns (slice_index places w.0) column q.0 (q.1 ∙ w.2)
+
+-- so a place among the sorted ones gives the place
+pub order_match : {sorted places columns : List ℕ} → IsOrderOf sorted places columns → (column : ℕ) (found : Option ℕ) → IfNone found (¬ Contains sorted column) →
+    IfSome found (λ k. (at : ℕ) × IsPlaceOf sorted column at × (k ≡ slice_index places at)) → MatchOption found (¬ Contains columns column) (IsPlaceOf columns column)
+order_match o column None none some = λ m. none (order_from o column m)
+order_match {sorted} {places} {columns} o column (Some k) none some = subst (IsPlaceOf columns column) (sym some.2) (order_finds o column some.0 some.1)
 
 -- each is below what bounds the sorted ones
 pub order_below : {sorted places columns : List ℕ} {n : ℕ} → IsOrderOf sorted places columns → AreBelow n sorted → AreBelow n columns

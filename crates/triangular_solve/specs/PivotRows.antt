@@ -1,15 +1,16 @@
 -- The pivot rows on the columns in which they have an entry: how these columns are ordered, and what eliminating does to a row.
-use Rattle.std.specs.Prelude.{◌≡◌, ◌≢◌, ◌<◌, ◌≤◌, ◌+◌, ◌*◌, ◌%◌, ℕ, List, length, map, slice_index}
+use Rattle.std.specs.Prelude.{◌≡◌, ◌≢◌, ◌<◌, ◌≤◌, ◌+◌, ◌*◌, ◌%◌, ℕ, List, length, map, slice_index, Option, Vec, IfNone, IfSome}
+use Rattle.std.specs.declared.alloc.Global.{Global}
 use Rattle.std.specs.List.{Contains}
 use Rattle.residue_words.specs.Residues.{IsPrime, sum_below}
 use Rattle.residue_words.specs.Matrix.{Matrix, IsVector, entry, list_of, zeros}
 use Rattle.residue_words.specs.declared.plain.Pair.{Pair}
 use Rattle.row_space.specs.Factors.{row_at, col_at}
-use Rattle.sparse_rows.specs.Rows.{AreBelow, ResidueMatrix, ResidueRow, support}
+use Rattle.sparse_rows.specs.Rows.{AreBelow, AreRising, ResidueMatrix, ResidueRow, support}
 use Rattle.sparse_rows.specs.declared.rows.TheConstants.{LARGEST_SIZE}
 use Rattle.lead_rows.specs.Accumulator.{IsClear}
 use Rattle.lead_rows.specs.Scattered.{HaveDistinctColumns}
-use Rattle.triangular_solve.specs.AscendingColumns.{IsPlaceOf}
+use Rattle.triangular_solve.specs.AscendingColumns.{IsPlaceOf, IsTable}
 
 -- `places` has the place in the order of each of the sorted columns, as far as they are in it
 pub record IsOrdering (sorted places columns : List ℕ) : Type 0 where
@@ -23,6 +24,12 @@ pub record IsOrderOf (sorted places columns : List ℕ) : Type 0 where
   pub few : length sorted ≤ LARGEST_SIZE
   pub so_far : IsOrdering sorted places columns
   pub all : (t : ℕ) → t < length sorted → slice_index places t ≢ 4294967295
+
+-- places are found by a table of all columns, or else by the sorted ones
+pub record HasPlaces (columns : List ℕ) (table : Option (Vec ℕ Global)) (sorted places : List ℕ) : Type 0 where
+  pub few : length columns ≤ LARGEST_SIZE
+  pub right : IfSome table (λ t. IsTable columns t.items)
+  pub order : IfNone table (AreRising sorted × IsOrderOf sorted places columns)
 
 -- the columns of the pairs, in order, and then others, ascending
 pub record HasPivotsFirst (qs : List Pair) (columns : List ℕ) : Type 0 where

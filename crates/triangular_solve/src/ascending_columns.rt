@@ -1,9 +1,10 @@
 // Where ascending columns stand.
-ghost use Rattle.std.specs.Prelude.{◌≡◌, ◌≢◌, ◌<◌, ◌≤◌, length, slice_index, IfNone, IfOk, IfSome, MatchOption};
+ghost use Rattle.std.specs.Prelude.{ℕ, ◌≡◌, ◌≢◌, ◌<◌, ◌≤◌, length, slice_index, IfNone, IfOk, IfSome, MatchOption};
 ghost use Rattle.std.specs.List.{Contains};
 ghost use Rattle.sparse_rows.specs.Rows.{AreBelow, AreRising};
 ghost use Rattle.sparse_rows.specs.declared.rows.TheConstants.{LARGEST_SIZE};
-ghost use Rattle.triangular_solve.specs.AscendingColumns.{IsPlaceOf, IsTable};
+ghost use Rattle.lead_rows.specs.Scattered.{HaveDistinctColumns};
+ghost use Rattle.triangular_solve.specs.AscendingColumns.{HasTable, IsPlaceOf, IsTable};
 ghost use Rattle.triangular_solve.specs.declared.ascending_columns.TheConstants.{NONE};
 
 use std::alloc::{AllocError, Global};
@@ -67,6 +68,14 @@ impl AscendingColumns {
             None => search(&self.columns, column),
         }
     }
+
+    // The columns, and their table if they have one.
+    pub(crate) fn into_parts(self) -> (Vec<u32>, Option<Vec<u32>>)
+        ensures columns { result.0.items ≡ self }
+        ensures table { HasTable result.0.items result.1 }
+    {
+        (self.columns, self.table)
+    }
 }
 
 // The place of each column.
@@ -77,14 +86,26 @@ fn table_of(alloc: Global, width: u32, columns: &[u32]) -> Result<Vec<u32>, Allo
     ensures { IfOk result (λ table. IsTable columns.now table.items) }
 {
     let mut table = vec![in alloc; NONE; width as usize]?;
-    for k in 0..columns.len() {
-        table[columns[k] as usize] = k as u32;
-    }
+    number(&mut table, columns);
     Ok(table)
 }
 
+// Gives each of these columns its place in the table, in which no others have one.
+pub(crate) fn number(table: &mut [u32], columns: &[u32])
+    requires few { length columns.now ≤ LARGEST_SIZE }
+    requires distinct { HaveDistinctColumns columns.now }
+    requires below { AreBelow (length table.old) columns.now }
+    requires others { (c : ℕ) → c < length table.old → slice_index table.old c ≢ NONE →
+        Contains columns.now c }
+    ensures { IsTable columns.now table.new }
+{
+    for k in 0..columns.len() {
+        table[columns[k] as usize] = k as u32;
+    }
+}
+
 // The place that the table has for a column, if it has one.
-fn look_up(table: &[u32], column: u32) -> Option<u32>
+pub(crate) fn look_up(table: &[u32], column: u32) -> Option<u32>
     ensures none { IfNone result (column < length table.now → slice_index table.now column ≡ NONE) }
     ensures some { IfSome result (λ k. (column < length table.now) × (k ≢ NONE)) }
     ensures value { IfSome result (λ k. k ≡ slice_index table.now column) }
@@ -96,7 +117,7 @@ fn look_up(table: &[u32], column: u32) -> Option<u32>
 }
 
 // The place of a column among those that ascend, if it is there.
-fn search(columns: &[u32], column: u32) -> Option<u32>
+pub(crate) fn search(columns: &[u32], column: u32) -> Option<u32>
     requires rising { AreRising columns.now }
     requires few { length columns.now ≤ LARGEST_SIZE }
     ensures { MatchOption result (¬ Contains columns.now column) (IsPlaceOf columns.now column) }

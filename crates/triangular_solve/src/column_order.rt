@@ -1,5 +1,5 @@
 // The columns in which some pivot row has an entry, in an order of their own.
-ghost use Rattle.std.specs.Prelude.{◌≡◌, ◌≢◌, ◌<◌, ◌≤◌, ◌++◌, ◌∷◌, [], ℕ, List, length, slice_index, slice_set, IfOk, OnOk, MatchOption};
+ghost use Rattle.std.specs.Prelude.{◌≡◌, ◌≢◌, ◌<◌, ◌≤◌, ◌++◌, ◌∷◌, [], ℕ, List, length, slice_index, slice_set, IfNone, IfOk, IfSome, OnOk, MatchOption};
 ghost use Rattle.std.specs.List.{Contains};
 ghost use Rattle.residue_words.specs.Matrix.{IsVector, zeros};
 ghost use Rattle.residue_words.specs.declared.plain.Pair.{Pair as Place};
@@ -12,7 +12,7 @@ ghost use Rattle.lead_rows.specs.Accumulator.{IsAlike, IsClear};
 ghost use Rattle.triangular_solve.specs.PivotRows.{AppendsBefore, AreDisjointParts, HasPivotsFirst, IsOrdering, IsOrderOf, IsSplitRow, place_range};
 ghost use Rattle.lead_rows.specs.Scattered.{HaveDistinctColumns};
 
-use crate::ascending_columns::AscendingColumns;
+use crate::ascending_columns::{AscendingColumns, look_up, number, search};
 use lead_rows::Accumulator;
 use pivot_table::Pair;
 use sparse_rows::Sparse;
@@ -24,23 +24,27 @@ const NONE: u32 = u32::MAX;
 
 // Columns in an order, with a way from a column to its place: first the columns of pairs, in their order, then others, ascending.
 // Contracts see the columns in this order.
+//
+// It takes 4 bytes a column and as many for each column of the matrix, or where the matrix is far wider, 12 bytes a column.
 #[derive(Debug, Drop)]
 pub(crate) struct ColumnOrder {
-    sorted: AscendingColumns,
-    // The place of each of the sorted columns.
-    places: Vec<u32>,
     columns: Vec<u32>,
+    // The place of each column of the matrix, if it isn't far wider.
+    table: Option<Vec<u32>>,
+    // Else these columns sorted, and the place of each.
+    sorted: Vec<u32>,
+    places: Vec<u32>,
 }
 
 impl Model for ColumnOrder {
     ghost use Rattle.std.specs.Prelude.{List, ℕ};
-    ghost use Rattle.triangular_solve.specs.PivotRows.{IsOrderOf};
+    ghost use Rattle.triangular_solve.specs.PivotRows.{HasPlaces};
 
     ghost Value = { List ℕ };
 
     ghost view = { λ c. c.columns.items };
 
-    ghost invariant = { λ c. IsOrderOf c.sorted c.places.items c.columns.items };
+    ghost invariant = { λ c. HasPlaces c.columns.items c.table c.sorted.items c.places.items };
 }
 
 impl ColumnOrder {
@@ -66,11 +70,35 @@ impl ColumnOrder {
         let mut columns = Vec::with_capacity(alloc, sorted.columns().len())?;
         place_pivots(&sorted, pairs, &mut places, &mut columns)?;
         place_others(sorted.columns(), &mut places, &mut columns)?;
-        Ok(ColumnOrder {
+        Ok(ColumnOrder::by_places(alloc, sorted, places, columns))
+    }
+
+    // These columns, by the places of the sorted ones. A table of the sorted ones becomes one of places.
+    fn by_places(
+        alloc: Global,
+        sorted: AscendingColumns,
+        places: Vec<u32>,
+        columns: Vec<u32>,
+    ) -> ColumnOrder
+        requires order { IsOrderOf sorted places.items columns.items }
+        ensures { result ≡ columns.items }
+    {
+        let (sorted, table) = sorted.into_parts();
+        if let Some(mut table) = table {
+            number(&mut table, &columns);
+            return ColumnOrder {
+                columns,
+                table: Some(table),
+                sorted: Vec::new(alloc),
+                places: Vec::new(alloc),
+            };
+        }
+        ColumnOrder {
+            columns,
+            table: None,
             sorted,
             places,
-            columns,
-        })
+        }
     }
 
     // The law of the columns, for proofs: it does nothing.
@@ -89,12 +117,14 @@ impl ColumnOrder {
         self.columns.as_slice()
     }
 
-    // The place of a column, if it has one.
+    // The place of a column, if it has one: in one step by the table, else in time logarithmic in the columns.
     pub(crate) fn find(&self, column: u32) -> Option<u32>
         ensures { MatchOption result (¬ Contains self.now column) (IsPlaceOf self.now column) }
     {
-        let at = self.sorted.find(column)?;
-        Some(self.places[at as usize])
+        match &self.table {
+            Some(table) => look_up(table, column),
+            None => place_of(&self.sorted, &self.places, column),
+        }
     }
 
     // Splits the row that stands in these columns and values: its entries in the columns of this order become sums at their places,
@@ -157,6 +187,19 @@ impl ColumnOrder {
         append_before(passed, at, width, rest)?;
         Ok(())
     }
+}
+
+// The place that a column has by its place among the sorted ones.
+fn place_of(sorted: &[u32], places: &[u32], column: u32) -> Option<u32>
+    requires rising { AreRising sorted.now }
+    requires few { length sorted.now ≤ LARGEST_SIZE }
+    requires long { length places.now ≡ length sorted.now }
+    ensures none { IfNone result (¬ Contains sorted.now column) }
+    ensures some { IfSome result (λ k.
+        (at : ℕ) × IsPlaceOf sorted.now column at × (k ≡ slice_index places.now at)) }
+{
+    let at = search(sorted, column)?;
+    Some(places[at as usize])
 }
 
 // Appends the entries of a row from place `from` on whose columns are less than `end`, and answers the place of the next.

@@ -1,22 +1,30 @@
 use Rattle.std.proofs.Common.{ℕ, ◌≡◌, List, ap, arith, length, replicate, subst, sym, ◌∙◌}
 use Rattle.std.specs.List.{Contains}
+use Rattle.std.specs.Vec.{with_items}
+use Rattle.std.proofs.lemmas.List.{with_items_is}
 use Rattle.row_space.specs.Factors.{col_at}
 use Rattle.triangular_solve.specs.PivotRows.{IsOrderOf}
 use Rattle.triangular_solve.proofs.OrderingColumns.{order_below, order_has, ordering_none}
 use Rattle.triangular_solve.proofs.column_order.ColumnOrder.of.Goals as goal
-use Rattle.triangular_solve.proofs.column_order.ColumnOrder.of.Goals.{In_ok-place_others}
 
 pub place_pivots-requires-clause-pivotal : goal.place_pivots-requires-clause-pivotal
 place_pivots-requires-clause-pivotal c = λ k l. subst (λ (xs : List ℕ). Contains xs (col_at c.args.pairs.now k)) (sym c.in_ok-sorted.ensures) (c.requires.pivotal k l)
 
-order : (c : In_ok-place_others) → IsOrderOf c.args.columns.items c.place_others.new.places c.place_others.new.columns.items
-order c = subst (λ xs. IsOrderOf xs c.place_others.new.places c.place_others.new.columns.items) (c.columns-3.ensures.columns ∙ c.in_ok-sorted.ensures) c.in_ok-place_others.ensures.order
+pub by_places-requires : goal.by_places-requires
+by_places-requires c =
+    let kept : (with_items (with_items c.in_ok-places.places c.place_pivots.new.places) c.place_others.new.places).items ≡ c.place_others.new.places =
+    with_items_is (with_items c.in_ok-places.places c.place_pivots.new.places) c.place_others.new.places (omega (arith, c.place_others.auto.places, c.deref_mut-2.ensures.len)) in
+    record { order = subst (λ (ps : List ℕ). IsOrderOf c.in_ok-sorted.sorted ps c.place_others.new.columns.items) (sym kept) (subst (λ xs. IsOrderOf xs c.place_others.new.places c.place_others.new.columns.items) c.columns-3.ensures.columns c.in_ok-place_others.ensures.order) }
 
 pub returns-clause-below : goal.returns-clause-below
-returns-clause-below c = order_below (order c) c.requires.below
+returns-clause-below c =
+    let order = subst (λ xs. IsOrderOf xs c.place_others.new.places c.place_others.new.columns.items) (c.columns-3.ensures.columns ∙ c.in_ok-sorted.ensures) c.in_ok-place_others.ensures.order in
+    rw c.by_places.ensures (order_below order c.requires.below)
 
 pub returns-clause-all : goal.returns-clause-all
-returns-clause-all c = order_has (order c)
+returns-clause-all c =
+    let order = subst (λ xs. IsOrderOf xs c.place_others.new.places c.place_others.new.columns.items) (c.columns-3.ensures.columns ∙ c.in_ok-sorted.ensures) c.in_ok-place_others.ensures.order in
+    rw c.by_places.ensures (order_has order)
 
 pub place_pivots-requires-clause-ordering : goal.place_pivots-requires-clause-ordering
 place_pivots-requires-clause-ordering c =
@@ -38,7 +46,7 @@ pub place_others-requires-clause-rising : goal.place_others-requires-clause-risi
 place_others-requires-clause-rising c = rw c.columns-3.ensures.columns c.columns-3.ensures.rising
 
 pub returns-clause-first : goal.returns-clause-first
-returns-clause-first c = c.in_ok-place_others.ensures.first c.args.pairs.now c.in_ok-place_pivots.ensures.first c.in_ok-place_pivots.ensures.many
+returns-clause-first c = rw c.by_places.ensures (c.in_ok-place_others.ensures.first c.args.pairs.now c.in_ok-place_pivots.ensures.first c.in_ok-place_pivots.ensures.many)
 
 pub of-requires-clause-rising : goal.of-requires-clause-rising
 of-requires-clause-rising c = c.requires.rising
