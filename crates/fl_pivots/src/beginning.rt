@@ -17,7 +17,7 @@ pub(crate) struct Beginning {
 
 impl Beginning {
     // Where row i begins.
-    fn of(rows: &Rows, i: u32) -> Self
+    pub(crate) fn of(rows: &Rows, i: u32) -> Self
         requires row { i < rows.now.matrix.height }
         requires filled { IsFilled rows.now.matrix i }
         ensures { IsBeginning rows.now.matrix i result }

@@ -6,6 +6,7 @@
 #![tactic(auto)]
 
 mod beginning;
+mod sparsest;
 
 ghost use Rattle.std.specs.Prelude.{◌≡◌, [], IfOk, OnOk};
 ghost use Rattle.fl_pivots.specs.Beginnings.{AreBeginnings, AreSorted};
@@ -14,12 +15,25 @@ ghost use Rattle.pivot_table.specs.Leftmost.{IsLeftmost};
 use beginning::{Beginning, beginnings};
 use pivot_table::{Book, Pair};
 use sparse_rows::Rows;
+use sparsest::by_table;
 use std::alloc::{AllocError, Global};
 
 /// The leftmost pairs, by ascending columns: for each column at which a row begins, the row with the fewest entries among those
-/// that begin there, and of these the lowest. It takes time for sorting the rows that have an entry, 12 bytes for each of them
-/// and 8 bytes a pair; a great width costs nothing.
+/// that begin there, and of these the lowest. It takes time by the rows that have an entry and by the width, 8 bytes a column and
+/// 8 bytes a pair; where the matrix is wide (`Rows::is_wide`), time for sorting these rows and 12 bytes for each of them, so a
+/// great width costs nothing.
 pub fn leftmost<'a>(alloc: Global, rows: &'a Rows) -> Result<Book<'a>, AllocError>
+    ensures rows { IfOk result (λ book. book.rows ≡ rows.now) }
+    ensures pairs { IfOk result (λ book. IsLeftmost rows.now.matrix book.pairs) }
+{
+    if rows.is_wide() {
+        return by_sorting(alloc, rows);
+    }
+    by_table(alloc, rows)
+}
+
+// The leftmost pairs by sorting where the rows begin.
+fn by_sorting<'a>(alloc: Global, rows: &'a Rows) -> Result<Book<'a>, AllocError>
     ensures rows { IfOk result (λ book. book.rows ≡ rows.now) }
     ensures pairs { IfOk result (λ book. IsLeftmost rows.now.matrix book.pairs) }
 {

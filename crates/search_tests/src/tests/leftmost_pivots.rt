@@ -5,6 +5,28 @@ use residue_words::Modulus;
 use sparse_rows::Rows;
 use std::alloc::Global;
 
+// Seven rows: three that begin at column 2, two at column 0, one without an entry, and one that has the last.
+const SEVEN: &[(u32, u32, u64)] = &[
+    (0, 2, 1),
+    (0, 3, 1),
+    (0, 4, 1),
+    (1, 2, 3),
+    (1, 5, 1),
+    (2, 2, 1),
+    (2, 4, 6),
+    (4, 0, 1),
+    (4, 1, 1),
+    (5, 0, 2),
+    (6, 5, 1),
+];
+
+// Their leftmost pairs.
+const SEVEN_CHOSEN: &[Pair] = &[
+    Pair { row: 5, col: 0 },
+    Pair { row: 1, col: 2 },
+    Pair { row: 6, col: 5 },
+];
+
 // The height and width of a matrix, its entries, and the pairs that are chosen.
 const CHOSEN: &[(u32, u32, &[(u32, u32, u64)], &[Pair])] = &[
     (0, 0, &[], &[]),
@@ -55,6 +77,9 @@ const CHOSEN: &[(u32, u32, &[(u32, u32, u64)], &[Pair])] = &[
         ],
         &[Pair { row: 1, col: 1 }],
     ),
+    // The same rows in a narrow matrix, by a table, and in a wide one, by a sort.
+    (7, 6, SEVEN, SEVEN_CHOSEN),
+    (7, 1000, SEVEN, SEVEN_CHOSEN),
     // The widest matrix: rows that begin ever more to the left, and one without an entry.
     (
         4,

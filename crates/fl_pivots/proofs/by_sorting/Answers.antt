@@ -3,7 +3,7 @@ use Rattle.sparse_rows.specs.Rows.{ResidueMatrix}
 use Rattle.fl_pivots.specs.declared.beginning.Beginning.{Beginning}
 use Rattle.fl_pivots.specs.Beginnings.{AreBeginnings, AreSorted}
 use Rattle.fl_pivots.proofs.Listing.{listed_moved, sorted_of}
-use Rattle.fl_pivots.proofs.leftmost.Goals as goal
+use Rattle.fl_pivots.proofs.by_sorting.Goals as goal
 
 pub take_first-requires-clause-beginnings : goal.take_first-requires-clause-beginnings
 take_first-requires-clause-beginnings c =
