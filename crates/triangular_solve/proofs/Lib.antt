@@ -8,6 +8,7 @@ pub mod Listing
 pub mod OrderingColumns
 pub mod PivotReduction
 pub mod Placing
+pub mod PlacingEntries
 pub mod PlacingRows
 pub mod Queueing
 pub mod Rooms

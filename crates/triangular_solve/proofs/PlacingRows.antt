@@ -1,19 +1,19 @@
 -- The rows of triangular pairs, as they stand on the columns that they occupy.
-use Rattle.std.proofs.Common.{ℕ, ◌≡◌, ◌≢◌, ◌+◌, ◌*◌, ◌%◌, ◌<◌, ◌≤◌, List, [], ◌∷◌, ◌++◌, get_or, length, map, slice_index, take, inl, inr, sym, ap, ap₂, subst, ◌∙◌, arith}
+use Rattle.std.proofs.Common.{ℕ, ◌≡◌, ◌≢◌, ◌+◌, ◌*◌, ◌%◌, ◌<◌, ◌≤◌, List, [], ◌∷◌, ◌++◌, get_or, length, map, slice_index, take, inl, inr, sym, ap, ap₂, ◌∙◌, arith}
 use Rattle.std.specs.List.{Contains}
 use Rattle.std.proofs.lemmas.Bool.{cases_eq, cases_lt}
 use Rattle.std.proofs.lemmas.List.{get_or-map, get_or_append_left, get_or_push, length-map, length-take-le, length_push, map_push, take_more}
 use Rattle.residue_words.specs.declared.plain.Pair.{Pair}
 use Rattle.residue_words.specs.Residues.{IsPrime}
-use Rattle.residue_words.specs.Matrix.{Matrix, IsMatrix, IsVector, entry, row}
-use Rattle.residue_words.proofs.Vectors.{at_list_of, length_list_of, list_equal}
+use Rattle.residue_words.specs.Matrix.{Matrix, IsMatrix, entry, row}
+use Rattle.residue_words.proofs.Vectors.{at_list_of}
 use Rattle.row_space.specs.Factors.{row_at, col_at}
 use Rattle.row_space.proofs.Counting.{pigeonhole}
-use Rattle.sparse_rows.specs.Rows.{AreBelow, AreOccupied, ResidueMatrix, nonzeros, selected, support}
-use Rattle.sparse_rows.specs.Stored.{IsSparse, spread, with_row}
-use Rattle.sparse_rows.proofs.Spread.{spread_support, support_sparse}
+use Rattle.sparse_rows.specs.Rows.{AreBelow, AreOccupied, ResidueMatrix, nonzeros, selected}
+use Rattle.sparse_rows.specs.Stored.{with_row}
+use Rattle.sparse_rows.proofs.Spread.{support_sparse}
 use Rattle.pivot_table.specs.Order.{Triangular}
-use Rattle.triangular_solve.specs.PivotRows.{ArePivotRows, AreUpper, HasPivotsFirst, IsSplitRow, placed_rows, row_on, rows_on}
+use Rattle.triangular_solve.specs.PivotRows.{ArePivotRows, AreUpper, HasPivotsFirst, placed_rows, row_on, rows_on}
 use Rattle.triangular_solve.proofs.Eliminating.{AreInversesBelow, first_place}
 use Rattle.triangular_solve.proofs.JoinedRows.{support_value}
 use Rattle.triangular_solve.proofs.Listing.{no_pair}
@@ -57,14 +57,6 @@ rows_on_more A columns qs k w l e =
   where
     sized : ℕ → ℕ → List (List ℕ) → Matrix
     sized h w rs = record { height = h; width = w; rows = rs }
-
--- a row whose entries are split by its columns
-pub split_row : (A : Matrix) (columns : List ℕ) (i : ℕ) {n : ℕ} {cs vs inner outer : List ℕ} → length (row A i) ≡ n → cs ≡ support (row A i) → vs ≡ nonzeros (row A i) → IsSplitRow columns (spread n cs vs) inner outer → inner ≡ row_on A columns i
-split_row A columns i {n} {cs} {vs} {inner} {outer} long e f s =
-    list_equal (length columns) inner (row_on A columns i) s.long (length_list_of (length columns) (λ k. entry A i (slice_index columns k))) (λ k l.
-    s.inside k l
-    ∙ ap (λ w. slice_index w (slice_index columns k)) (ap₂ (spread n) e f ∙ spread_support n (row A i) long)
-    ∙ sym (at_list_of (length columns) (λ k. entry A i (slice_index columns k)) k l))
 
 -- an entry of the placed rows
 pub placed_entry : (A : Matrix) (columns : List ℕ) (qs : List Pair) (k i : ℕ) → k < length qs → i < length columns → entry (rows_on A columns qs) k i ≡ entry A (row_at qs k) (slice_index columns i)
@@ -120,8 +112,3 @@ inverses_more {A} {k} {inverses} {next} so_far i low inv e = record {
 
     here : slice_index next k ≡ i
     here = ap (λ xs. slice_index xs k) e ∙ get_or_push inverses i 0 k (so_far.many)
-
--- columns and values of a row are sparse, by other names of the modulus and the width
-pub row_sparse : {p q n m : ℕ} {w cs vs : List ℕ} → IsVector p n w → cs ≡ support w → vs ≡ nonzeros w → q ≡ p → m ≡ n → IsSparse q m cs vs
-row_sparse {p} {q} {n} {m} {w} {cs} {vs} vector e f g h =
-    subst (λ q. IsSparse q m cs vs) (sym g) (subst (λ m. IsSparse p m cs vs) (sym h) (subst (λ us. IsSparse p n us vs) (sym e) (subst (IsSparse p n (support w)) (sym f) (support_sparse vector))))

@@ -1,5 +1,5 @@
 -- The room in which a row is reduced, as the calls want it that split a row, eliminate and join what is left.
-use Rattle.std.proofs.Common.{ℕ, ◌≡◌, ◌<◌, ◌≤◌, ◌∙◌, List, ap, arith, inl, inr, length, slice_index, subst, sym}
+use Rattle.std.proofs.Common.{ℕ, ◌≡◌, ◌∙◌, List, ap, inl, inr, length, subst, sym}
 use Rattle.std.proofs.lemmas.Bool.{cases_lt}
 use Rattle.residue_words.specs.Matrix.{IsVector, zeros}
 use Rattle.sparse_rows.specs.Rows.{ResidueRow}

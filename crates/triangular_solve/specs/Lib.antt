@@ -2,6 +2,7 @@ pub mod AscendingColumns
 pub mod FlatRows
 pub mod Listing
 pub mod PivotRows
+pub mod PlacedEntries
 pub mod Queue
 pub mod Reduced
 pub mod ScatteredRows

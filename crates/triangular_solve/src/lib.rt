@@ -11,6 +11,7 @@ mod flat_estimate;
 mod flat_rows;
 mod flat_triangle;
 mod pivot_rows;
+mod placed_entries;
 mod queue;
 mod reduced;
 mod row_entries;

@@ -13,6 +13,7 @@ ghost use Rattle.triangular_solve.specs.PivotRows.{AreInverses, ArePivotRows, Ar
 ghost use Rattle.lead_rows.specs.Scattered.{HaveDistinctColumns};
 
 use crate::column_order::ColumnOrder;
+use crate::placed_entries::RowRoom;
 use lead_rows::Accumulator;
 use pivot_table::Pair;
 use sparse_rows::{Rows, Sparse};
@@ -206,7 +207,6 @@ fn place_rows(
     requires few { length pairs.now ≤ LARGEST_SIZE }
     requires inside { (k : ℕ) → k < length pairs.now → row_at pairs.now k < rows.now.matrix.height }
     requires distinct { HaveDistinctColumns order.now }
-    requires below { AreBelow rows.now.matrix.width order.now }
     ensures modulus { IfOk result (λ placed. placed.modulus ≡ rows.now.modulus) }
     ensures matrix { IfOk result (λ placed. placed.matrix ≡ rows_on rows.now.matrix order.now pairs.now) }
 {
@@ -214,45 +214,11 @@ fn place_rows(
     let width = order.columns().len() as u32;
     let entries = count_entries(rows, pairs);
     let mut placed = Rows::with_room(alloc, modulus, width, pairs.len() as u32, entries)?;
-    let mut sums = Accumulator::new(alloc, width, &modulus)?;
-    let mut passed = Sparse::new(alloc, rows.width(), modulus);
-    let mut row = Sparse::new(alloc, width, modulus);
+    let mut room = RowRoom::new(alloc);
     for k in 0..pairs.len() {
-        put_in_order(rows, pairs[k].row, order, &mut sums, &mut passed, &mut row)?;
-        placed.append(&row)?;
+        room.append_row(rows, pairs[k].row, order, &mut placed)?;
     }
     Ok(placed)
-}
-
-// Makes a row that of row i with its columns in this order. The sums and the passed row are room for it.
-fn put_in_order(
-    rows: &Rows,
-    i: u32,
-    order: &ColumnOrder,
-    sums: &mut Accumulator,
-    passed: &mut Sparse,
-    row: &mut Sparse,
-) -> Result<(), AllocError>
-    requires inside { i < rows.now.matrix.height }
-    requires distinct { HaveDistinctColumns order.now }
-    requires below { AreBelow rows.now.matrix.width order.now }
-    requires sums { (sums.old.modulus ≡ rows.now.modulus) × (length sums.old.row ≡ length order.now) }
-    requires passed { (passed.old.modulus ≡ rows.now.modulus)
-        × (length passed.old.row ≡ rows.now.matrix.width) }
-    requires row { (row.old.modulus ≡ rows.now.modulus) × (length row.old.row ≡ length order.now) }
-    ensures sums { OnOk result (IsAlike sums.old sums.new) }
-    ensures passed { OnOk result (IsAlike passed.old passed.new) }
-    ensures row { OnOk result (IsAlike row.old row.new) }
-    ensures ordered { OnOk result (row.new.row ≡ row_on rows.now.matrix order.now i) }
-{
-    sums.clear();
-    passed.clear();
-    row.clear();
-    // The call's contract tells that the rows are residues.
-    rows.is_sound();
-    order.split(rows.cols(i), rows.vals(i), sums, passed)?;
-    sums.drain(row)?;
-    Ok(())
 }
 
 // The inverses of the diagonal.

@@ -2,7 +2,7 @@ use Rattle.sparse_rows.specs.Rows.{AreOccupied, selected}
 use Rattle.residue_words.specs.declared.plain.Pair.{Pair}
 use Rattle.residue_words.specs.Matrix.{Matrix}
 use Rattle.std.proofs.lemmas.List.{length-map}
-use Rattle.std.proofs.Common.{◌≡◌, ◌∙◌, List, IfOk, ap, arith, length, map, slice_index, subst}
+use Rattle.std.proofs.Common.{◌∙◌, IfOk, ap, arith, length, subst}
 use Rattle.triangular_solve.proofs.pivot_rows.occupied_columns.Goals as goal
 
 pub select-requires-clause-many : goal.select-requires-clause-many

@@ -1,4 +1,4 @@
-use Rattle.std.proofs.Common.{◌≡◌, length, take}
+use Rattle.std.proofs.Common.{◌≡◌, take}
 use Rattle.triangular_solve.specs.PivotRows.{rows_on}
 use Rattle.triangular_solve.proofs.pivot_rows.place_rows.Given as goal
 
@@ -6,7 +6,4 @@ abbrev pub invariant-loop-k : goal.invariant-loop-k
 invariant-loop-k l = record {
   modulus : l.placed.modulus ≡ l.rows.modulus;
   matrix : l.placed.matrix ≡ rows_on l.rows.matrix l.order (take l.k l.pairs);
-  sums : (l.sums.modulus ≡ l.rows.modulus) × (length l.sums.row ≡ length l.order);
-  passed : (l.passed.modulus ≡ l.rows.modulus) × (length l.passed.row ≡ l.rows.matrix.width);
-  row : (l.row.modulus ≡ l.rows.modulus) × (length l.row.row ≡ length l.order);
 }
