@@ -5,6 +5,7 @@ pub mod Examples
 pub mod Flattening
 pub mod JoinedRows
 pub mod Listing
+pub mod MarkingColumns
 pub mod OrderingColumns
 pub mod PivotReduction
 pub mod Placing

@@ -33,10 +33,10 @@ triangular_short {A} {qs} tri = pigeonhole (length qs) A.width (col_at qs) (λ k
 ])
 
 -- the selected rows
-selected_height : (A : Matrix) (qs : List Pair) → (selected A (map (λ (q : Pair). q.row) qs)).height ≡ length qs
+pub selected_height : (A : Matrix) (qs : List Pair) → (selected A (map (λ (q : Pair). q.row) qs)).height ≡ length qs
 selected_height A qs = length-map qs (λ (q : Pair). q.row)
 
-selected_row : (A : Matrix) (qs : List Pair) (k : ℕ) → k < length qs → row (selected A (map (λ (q : Pair). q.row) qs)) k ≡ row A (row_at qs k)
+pub selected_row : (A : Matrix) (qs : List Pair) (k : ℕ) → k < length qs → row (selected A (map (λ (q : Pair). q.row) qs)) k ≡ row A (row_at qs k)
 selected_row A qs k l = get_or-map (row A) (map (λ (q : Pair). q.row) qs) k 0 [] (omega (arith, selected_height A qs))
 
 -- each entry of theirs stands in an occupied column

@@ -1,4 +1,5 @@
 pub mod AscendingColumns
+pub mod ColumnMarks
 pub mod FlatRows
 pub mod Listing
 pub mod PivotRows

@@ -6,6 +6,7 @@
 #![tactic(auto)]
 
 mod ascending_columns;
+mod column_marks;
 mod column_order;
 mod flat_estimate;
 mod flat_rows;

@@ -12,6 +12,7 @@ ghost use Rattle.lead_rows.specs.Accumulator.{IsAlike, IsClear};
 ghost use Rattle.triangular_solve.specs.PivotRows.{AreInverses, ArePivotRows, ArePlaced, AreColumnSums, AreUpper, Eliminates, HasPivotsFirst, IsEliminated, IsEliminating, row_on, rows_on};
 ghost use Rattle.lead_rows.specs.Scattered.{HaveDistinctColumns};
 
+use crate::column_marks::occupied_columns;
 use crate::column_order::ColumnOrder;
 use crate::placed_entries::RowRoom;
 use lead_rows::Accumulator;
@@ -43,7 +44,8 @@ impl Model for PivotRows {
 }
 
 impl PivotRows {
-    // The rows of these pairs, in time and memory by their entries.
+    // The rows of these pairs, in time by their entries, times a logarithm of how many a row has, and in memory by their entries and a
+    // bit a column.
     pub(crate) fn of(alloc: Global, rows: &Rows, pairs: &[Pair]) -> Result<Self, AllocError>
         requires { Triangular rows.now.matrix pairs.now }
         ensures { IfOk result (ArePivotRows rows.now pairs.now) }
@@ -162,28 +164,6 @@ impl PivotRows {
         }
         met
     }
-}
-
-// The columns in which some row of the pairs has an entry, ascending.
-fn occupied_columns(alloc: Global, rows: &Rows, pairs: &[Pair]) -> Result<Vec<u32>, AllocError>
-    requires few { length pairs.now ≤ LARGEST_SIZE }
-    requires inside { (k : ℕ) → k < length pairs.now → row_at pairs.now k < rows.now.matrix.height }
-    ensures { IfOk result (λ columns. AreOccupied
-        (selected rows.now.matrix (map (λ q. q.row) pairs.now)) columns.items) }
-{
-    rows.select(alloc, &row_numbers(alloc, pairs)?)?
-        .occupied(alloc)
-}
-
-// The rows of the pairs, by their numbers.
-fn row_numbers(alloc: Global, pairs: &[Pair]) -> Result<Vec<u32>, AllocError>
-    ensures { IfOk result (λ numbers. numbers.items ≡ map (λ q. q.row) pairs.now) }
-{
-    let mut numbers = Vec::with_capacity(alloc, pairs.len())?;
-    for pair in pairs {
-        numbers.push(pair.row)?;
-    }
-    Ok(numbers)
 }
 
 // How many entries the rows of the pairs have.

@@ -2,7 +2,7 @@ use Rattle.triangular_solve.proofs.Listing.{no_pair}
 use Rattle.residue_words.specs.declared.plain.Pair.{Pair}
 use Rattle.std.proofs.lemmas.List.{map_more, take_all}
 use Rattle.std.proofs.Common.{◌∙◌, [], ◌∷◌, ◌++◌, ap, map, sym, get_or}
-use Rattle.triangular_solve.proofs.pivot_rows.row_numbers.Goals as goal
+use Rattle.triangular_solve.proofs.column_marks.row_numbers.Goals as goal
 
 pub loop-pair-preserved : goal.loop-pair-preserved
 loop-pair-preserved c =

@@ -3,7 +3,7 @@ use Rattle.residue_words.specs.declared.plain.Pair.{Pair}
 use Rattle.residue_words.specs.Matrix.{Matrix}
 use Rattle.std.proofs.lemmas.List.{length-map}
 use Rattle.std.proofs.Common.{◌∙◌, IfOk, ap, arith, length, subst}
-use Rattle.triangular_solve.proofs.pivot_rows.occupied_columns.Goals as goal
+use Rattle.triangular_solve.proofs.column_marks.columns_of_copy.Goals as goal
 
 pub select-requires-clause-many : goal.select-requires-clause-many
 select-requires-clause-many c = omega (arith, ap length c.deref.ensures.value, ap length c.in_ok-row_numbers.ensures, length-map c.args.pairs.now (λ (p : Pair). p.row), c.requires.few)
