@@ -5,13 +5,13 @@ pub mod Examples
 pub mod Flattening
 pub mod JoinedRows
 pub mod Listing
+pub mod Marked
 pub mod MarkingColumns
 pub mod OrderingColumns
 pub mod PivotReduction
 pub mod Placing
 pub mod PlacingEntries
 pub mod PlacingRows
-pub mod Queueing
 pub mod Rooms
 pub mod SchurRows
 pub mod SplitRows

@@ -17,9 +17,10 @@ use Rattle.pivot_table.specs.History.{Grown, Nonzero}
 use Rattle.pivot_table.proofs.Growth.{pair_nonzero}
 use Rattle.pivot_table.proofs.Orders.{IsChain, chain_append, chain_triangular, grown_chain}
 use Rattle.pivot_table.proofs.Short.{columns_distinct}
-use Rattle.triangular_solve.specs.Listing.{AreSortedPivots, AreWaits, HasReady, TakesReady, column_count, entry_flag}
+use Rattle.triangular_solve.specs.Listing.{AreSortedPivots, AreWaits, HasReady, Queued, TakesReady, column_count, entry_flag}
 use Rattle.pivot_table.specs.Order.{AreInOrder, IsNext, IsReady, IsTriangularOrder}
 use Rattle.triangular_solve.specs.Triangle.{TriangularOrderIsOne}
+use Rattle.triangular_solve.proofs.Marked.{marked_inside}
 use Rattle.triangular_solve.proofs.Counting.{AreApart, apart_less, count_middle, counted_ready, flag_one, flag_zero, none_counted, ready_counted, some_ready}
 
 abbrev pub no_pair : Pair
@@ -110,9 +111,9 @@ next_all : (A : Matrix) (qs : List Pair) → AreNext A qs [] → AreInOrder A qs
 next_all A [] a = tt
 next_all A (q ∷ qs) a = (subst (IsNext A q) (append-nil qs) a.0, next_all A qs a.1)
 
--- `listed` has the first of the pairs in triangular order; `waits` has the counts of those that are left, and the heap each place of
--- a ready one
-pub record IsListing (A : Matrix) (pairs listed : List Pair) (waits heap : List ℕ) : Type 0 where
+-- `listed` has the first of the pairs in triangular order; `waits` has the counts of those that are left, and the queue each place
+-- of a ready one
+pub record IsListing (A : Matrix) (pairs listed : List Pair) (waits queue : List ℕ) : Type 0 where
   pub left : List Pair
   pub many : length listed + length left ≡ length pairs
   pub old : (p : Pair) → Contains listed p → Contains pairs p
@@ -122,13 +123,13 @@ pub record IsListing (A : Matrix) (pairs listed : List Pair) (waits heap : List 
   pub long : length waits ≡ length pairs
   pub counts : (k : ℕ) → k < length pairs → slice_index waits k ≡ column_count A left (col_at pairs k)
   pub gone : (p : Pair) → Contains listed p → column_count A left p.col ≡ 0
-  pub inside : (k : ℕ) → Contains heap k → k < length pairs
-  pub covers : (k : ℕ) → k < length pairs → Contains left (get_or pairs k no_pair) → slice_index waits k ≡ 1 → Contains heap k
+  pub room : length queue ≡ length pairs
+  pub covers : (k : ℕ) → k < length pairs → Contains left (get_or pairs k no_pair) → slice_index waits k ≡ 1 → Queued queue k
   pub next : AreNext A listed left
   pub chain : IsChain A listed
 
-pub listing_begins : {A : Matrix} {pairs : List Pair} {waits heap : List ℕ} → AreSortedPivots A pairs → AreWaits A pairs waits → HasReady waits heap → IsListing A pairs [] waits heap
-listing_begins {A} {pairs} {waits} {heap} pivots are ready = record {
+pub listing_begins : {A : Matrix} {pairs : List Pair} {waits queue : List ℕ} → AreSortedPivots A pairs → AreWaits A pairs waits → HasReady waits queue → IsListing A pairs [] waits queue
+listing_begins {A} {pairs} {waits} {queue} pivots are ready = record {
   left = pairs;
   many = omega arith;
   old = λ p m. absurd (not_in_nil p m);
@@ -138,13 +139,17 @@ listing_begins {A} {pairs} {waits} {heap} pivots are ready = record {
   long = are.many;
   counts = are.counts;
   gone = λ p m. absurd (not_in_nil p m);
-  inside = λ k m. omega (arith, ready.inside k m, are.many);
+  room = ready.room ∙ are.many;
   covers = λ k l m one. ready.covers k (omega (arith, are.many)) one;
   next = tt;
   chain = tt;
 }
 
-module _ {A : Matrix} {pairs listed : List Pair} {waits heap : List ℕ} (pivots : AreSortedPivots A pairs) (s : IsListing A pairs listed waits heap) where
+module _ {A : Matrix} {pairs listed : List Pair} {waits queue : List ℕ} (pivots : AreSortedPivots A pairs) (s : IsListing A pairs listed waits queue) where
+  -- what is queued is a place
+  pub queued_inside : (k : ℕ) → Queued queue k → k < length pairs
+  queued_inside k m = omega (arith, marked_inside queue k m, s.room)
+
   -- a place at which one pair waits is that of a pair that is left
   pub waits_left : (k : ℕ) → k < length pairs → slice_index waits k ≡ 1 → Contains s.left (get_or pairs k no_pair)
   waits_left k l one = ⊎_elim
@@ -152,11 +157,11 @@ module _ {A : Matrix} {pairs listed : List Pair} {waits heap : List ℕ} (pivots
       (λ m. m)
       (s.every (get_or pairs k no_pair) (Contains-get_or pairs k no_pair l))
 
-  -- while some are left, one waits at a place of the heap
-  pub some_waits : length listed < length pairs → (k : ℕ) × Contains heap k × (slice_index waits k ≡ 1)
+  -- while some are left, one waits at a place of the queue
+  pub some_waits : length listed < length pairs → (k : ℕ) × Queued queue k × (slice_index waits k ≡ 1)
   some_waits less = go s.left refl
     where
-      go : (left : List Pair) → left ≡ s.left → (k : ℕ) × Contains heap k × (slice_index waits k ≡ 1)
+      go : (left : List Pair) → left ≡ s.left → (k : ℕ) × Queued queue k × (slice_index waits k ≡ 1)
       go [] e = absurd (let n : length {A = Pair} [] ≡ length s.left = ap length e in omega (arith, s.many))
       go (w ∷ ws) e =
           let r = pivots.ready s.left w s.others (subst (λ (x : List Pair). Contains x w) e (in_head w ws)) in
@@ -167,15 +172,15 @@ module _ {A : Matrix} {pairs listed : List Pair} {waits heap : List ℕ} (pivots
           (t.0, s.covers t.0 t.1 (subst (Contains s.left) (sym t.2) r.1) waits_one, waits_one)
 
   -- the pair at place k is listed next
-  module _ (k : ℕ) (mid waits2 heap2 : List ℕ) (taken : TakesReady waits heap mid k)
+  module _ (k : ℕ) (mid waits2 queue2 : List ℕ) (taken : TakesReady waits queue mid k)
       (long2 : length waits2 ≡ length waits)
       (lowered : (d : ℕ) → d < length pairs → entry A (get_or pairs k no_pair).row (col_at pairs d) ≢ 0 → slice_index waits2 d + 1 ≡ slice_index waits d)
       (kept : (d : ℕ) → d < length pairs → entry A (get_or pairs k no_pair).row (col_at pairs d) ≡ 0 → slice_index waits2 d ≡ slice_index waits d)
-      (queued : (d : ℕ) → Contains mid d → Contains heap2 d)
-      (only : (d : ℕ) → Contains heap2 d → Contains mid d ⊎ (d < length pairs))
-      (pushed : (d : ℕ) → d < length pairs → entry A (get_or pairs k no_pair).row (col_at pairs d) ≢ 0 → slice_index waits2 d ≡ 1 → Contains heap2 d) where
+      (queued : (d : ℕ) → Queued mid d → Queued queue2 d)
+      (room2 : length queue2 ≡ length mid)
+      (pushed : (d : ℕ) → d < length pairs → entry A (get_or pairs k no_pair).row (col_at pairs d) ≢ 0 → slice_index waits2 d ≡ 1 → Queued queue2 d) where
     l : k < length pairs
-    l = s.inside k taken.here
+    l = queued_inside k taken.here
 
     abbrev q : Pair
     q = get_or pairs k no_pair
@@ -223,7 +228,7 @@ module _ {A : Matrix} {pairs listed : List Pair} {waits heap : List ℕ} (pivots
           ];
     }
 
-    covers_next : (d : ℕ) → d < length pairs → Contains (cut.0 ++ cut.1) (get_or pairs d no_pair) → slice_index waits2 d ≡ 1 → Contains heap2 d
+    covers_next : (d : ℕ) → d < length pairs → Contains (cut.0 ++ cut.1) (get_or pairs d no_pair) → slice_index waits2 d ≡ 1 → Queued queue2 d
     covers_next d ld i one_d = elim (cases_eq (entry A (get_or pairs k no_pair).row (col_at pairs d)) 0) [
       | inl z ↦ ⊎_elim
           (λ e. absurd (off.1 (get_or pairs d no_pair) i (ap (λ j. (get_or pairs j no_pair).col) e)))
@@ -232,7 +237,7 @@ module _ {A : Matrix} {pairs listed : List Pair} {waits heap : List ℕ} (pivots
       | inr n ↦ pushed d ld n one_d
     ]
 
-    pub listing_goes : IsListing A pairs (listed ++ get_or pairs k no_pair ∷ []) waits2 heap2
+    pub listing_goes : IsListing A pairs (listed ++ get_or pairs k no_pair ∷ []) waits2 queue2
     listing_goes = record {
       left = cut.0 ++ cut.1;
       many = omega (arith, s.many, ap length cut.2, length-append cut.0 (q ∷ cut.1), length-append cut.0 cut.1, length_push listed q);
@@ -252,7 +257,7 @@ module _ {A : Matrix} {pairs listed : List Pair} {waits heap : List ℕ} (pivots
           (λ o. omega (arith, s.gone p o, less p.col))
           (λ e. ap (λ (x : Pair). column_count A (cut.0 ++ cut.1) x.col) (sym e) ∙ omega (arith, count_here, less q.col, flag_one A q.row q.col nonzero.2))
           (Contains-push_cases listed q p i);
-      inside = λ d i. ⊎_elim (λ t. s.inside d (taken.kept d t)) (λ t. t) (only d i);
+      room = room2 ∙ taken.room ∙ s.room;
       covers = covers_next;
       next = next_push A listed q cut.0 cut.1 (subst (AreNext A listed) cut.2 s.next) next_here;
       chain = chain_append A listed (q ∷ []) s.chain (nonzero, (λ p i. absurd (not_in_nil p i)), tt)
@@ -267,9 +272,9 @@ module _ {A : Matrix} {pairs listed : List Pair} {waits heap : List ℕ} (pivots
     listing_shorter = omega (arith, s.many, ap length cut.2, length-append cut.0 (q ∷ cut.1))
 
 -- all are listed
-pub listing_ends : {A : Matrix} {pairs listed : List Pair} {waits heap : List ℕ} → AreSortedPivots A pairs → IsListing A pairs listed waits heap →
-    ((k : ℕ) → Contains heap k → slice_index waits k ≢ 1) → IsTriangularOrder A pairs listed
-listing_ends {A} {pairs} {listed} {waits} {heap} pivots s none = elim (cases_lt (length listed) (length pairs)) [
+pub listing_ends : {A : Matrix} {pairs listed : List Pair} {waits queue : List ℕ} → AreSortedPivots A pairs → IsListing A pairs listed waits queue →
+    ((k : ℕ) → Queued queue k → slice_index waits k ≢ 1) → IsTriangularOrder A pairs listed
+listing_ends {A} {pairs} {listed} {waits} {queue} pivots s none = elim (cases_lt (length listed) (length pairs)) [
   | inl less ↦ absurd (let t = some_waits pivots s less in none t.0 t.1 t.2)
   | inr ge ↦
       let nothing : s.left ≡ [] = empty s.left (omega (arith, s.many)) in

@@ -1,9 +1,8 @@
 -- Columns that are marked row by row, and taken one by one.
 use Rattle.std.proofs.Common.{ℕ, ◌≡◌, ◌≢◌, ◌⊎◌, ◌+◌, ◌<◌, List, [], ◌∷◌, ◌++◌, length, map, slice_index, slice_set, inl, inr, ⊎_elim, sym, ap, subst, ◌∙◌, arith}
-use Rattle.std.proofs.Math.ListN.{get_or-eq_default}
 use Rattle.std.specs.List.{Contains}
 use Rattle.std.proofs.lemmas.Bool.{cases_eq, cases_lt}
-use Rattle.std.proofs.lemmas.List.{get_or_append_left, get_or_push, get_or-set_same, get_or-set_other, length-set, length_push}
+use Rattle.std.proofs.lemmas.List.{get_or_append_left, get_or_push, get_or-set_other, length-set, length_push}
 use Rattle.std.proofs.lemmas.List.Elements.{Contains-append_left, Contains-push, Contains-push_cases}
 use Rattle.residue_words.specs.Matrix.{Matrix, IsMatrix, entry, row}
 use Rattle.residue_words.specs.declared.plain.Pair.{Pair}
@@ -13,14 +12,8 @@ use Rattle.sparse_rows.specs.ColumnSet.{AllZero, TakesFirst}
 use Rattle.sparse_rows.specs.Rows.{AreOccupied, AreRising, selected, support}
 use Rattle.sparse_rows.proofs.Supports.{in_support, of_support}
 use Rattle.triangular_solve.specs.ColumnMarks.{AreMarksOf, ListsMarks, MarksColumns}
+use Rattle.triangular_solve.proofs.Marked.{mark_stays, mark_there, marked_inside, none_marked, taken_kept, taken_others, taken_past, taken_there}
 use Rattle.triangular_solve.proofs.PlacingRows.{selected_height, selected_row}
-
--- what isn't 0 stands inside
-inside_of : (xs : List ℕ) (j : ℕ) → slice_index xs j ≢ 0 → j < length xs
-inside_of xs j ne = elim (cases_lt j (length xs)) [ inl l ↦ l | inr ge ↦ absurd (ne (get_or-eq_default xs 0 ge)) ]
-
-none_of : (xs : List ℕ) → AllZero xs → (j : ℕ) → ¬ (slice_index xs j ≢ 0)
-none_of xs zero' j ne = ne (zero' j (inside_of xs j ne))
 
 -- no column is marked, and one more
 pub marks_none : (old : List ℕ) → MarksColumns [] old old
@@ -34,28 +27,22 @@ marks_none old = record {
 pub marks_one_more : {columns old new : List ℕ} → MarksColumns columns old new → (c : ℕ) → c < length old → MarksColumns (columns ++ c ∷ []) old (slice_set new c 1)
 marks_one_more {columns} {old} {new} m c l = record {
   long = length-set new c 1 ∙ m.long;
-  kept = λ j ne. stays j (m.kept j ne);
-  these = λ j k. ⊎_elim (λ o. stays j (m.these j o)) (λ e. subst (λ (i : ℕ). slice_index (slice_set new c 1) i ≢ 0) e here) (Contains-push_cases columns c j k);
+  kept = λ j ne. mark_stays new c inside j (m.kept j ne);
+  these = λ j k. ⊎_elim (λ o. mark_stays new c inside j (m.these j o)) (λ e. subst (λ (i : ℕ). slice_index (slice_set new c 1) i ≢ 0) e (mark_there new c inside)) (Contains-push_cases columns c j k);
   only = λ j ne. elim (cases_eq j c) [
     | inl e ↦ inr (subst (Contains (columns ++ c ∷ [])) (sym e) (Contains-push columns c))
     | inr d ↦ ⊎_elim (λ o. inl o) (λ k. inr (Contains-append_left columns (c ∷ []) j k)) (m.only j (λ z. ne (get_or-set_other new c j 1 0 d ∙ z)))
   ];
 }
   where
-    here : slice_index (slice_set new c 1) c ≢ 0
-    here z = absurd (omega (arith, get_or-set_same new c 1 0 (omega (arith, m.long)), z))
-
-    stays : (j : ℕ) → slice_index new j ≢ 0 → slice_index (slice_set new c 1) j ≢ 0
-    stays j ne = elim (cases_eq j c) [
-      | inl e ↦ subst (λ (i : ℕ). slice_index (slice_set new c 1) i ≢ 0) (sym e) here
-      | inr d ↦ λ z. ne (sym (get_or-set_other new c j 1 0 d) ∙ z)
-    ]
+    inside : c < length new
+    inside = omega (arith, m.long)
 
 -- no row is marked, and one more
 pub row_marks_none : (A : Matrix) (qs : List Pair) (marks : List ℕ) → length marks ≡ A.width → AllZero marks → AreMarksOf A qs 0 marks
 row_marks_none A qs marks e zero' = record {
   long = e;
-  some = λ j ne. absurd (none_of marks zero' j ne);
+  some = λ j ne. absurd (none_marked marks zero' j ne);
   all = λ k j l. absurd (omega arith);
 }
 
@@ -96,31 +83,25 @@ pub one_taken : {marks left new columns : List ℕ} {c v : ℕ} → AreTaken mar
 one_taken {marks} {left} {new} {columns} {c} {v} t first = record {
   rising = λ k i less l. elim (cases_lt i (length columns)) [
     | inl lt ↦ omega (arith, t.rising k i less lt, before k (omega arith), before i lt)
-    | inr ge ↦ (let lk : k < length columns = omega (arith, many) in omega (arith, t.behind c k there lk, before k lk, last i (omega (arith, many))))
+    | inr ge ↦ (let lk : k < length columns = omega (arith, many) in omega (arith, t.behind c k (taken_there first) lk, before k lk, last i (omega (arith, many))))
   ];
   marked = λ k l. elim (cases_lt k (length columns)) [
     | inl lt ↦ subst (λ j. slice_index marks j ≢ 0) (sym (before k lt)) (t.marked k lt)
-    | inr ge ↦ subst (λ j. slice_index marks j ≢ 0) (sym (last k (omega (arith, many)))) (t.old c there)
+    | inr ge ↦ subst (λ j. slice_index marks j ≢ 0) (sym (last k (omega (arith, many)))) (t.old c (taken_there first))
   ];
-  old = λ j ne. t.old j (was j ne);
+  old = λ j ne. t.old j (taken_kept first j ne);
   behind = λ j k ne l. elim (cases_lt k (length columns)) [
-    | inl lt ↦ omega (arith, t.behind j k (was j ne) lt, before k lt)
-    | inr ge ↦ omega (arith, last k (omega (arith, many)), past j ne)
+    | inl lt ↦ omega (arith, t.behind j k (taken_kept first j ne) lt, before k lt)
+    | inr ge ↦ omega (arith, last k (omega (arith, many)), taken_past first j ne)
   ];
   every = λ j ne. ⊎_elim
       (λ k. inl (Contains-append_left columns (c ∷ []) j k))
-      (λ o. elim (cases_eq j c) [
-        | inl e ↦ inl (subst (Contains (columns ++ c ∷ [])) (sym e) (Contains-push columns c))
-        | inr d ↦ inr (λ z. o (sym (other j d) ∙ z))
-      ])
+      (λ o. ⊎_elim (λ e. inl (subst (Contains (columns ++ c ∷ [])) (sym e) (Contains-push columns c))) (λ l. inr l) (taken_others first j o))
       (t.every j ne);
 }
   where
     many : length (columns ++ c ∷ []) ≡ length columns + 1
     many = length_push columns c
-
-    there : slice_index left c ≢ 0
-    there z = first.nonzero (first.value ∙ z)
 
     before : (k : ℕ) → k < length columns → slice_index (columns ++ c ∷ []) k ≡ slice_index columns k
     before k l = get_or_append_left columns (c ∷ []) 0 k l
@@ -128,29 +109,11 @@ one_taken {marks} {left} {new} {columns} {c} {v} t first = record {
     last : (k : ℕ) → length columns ≡ k → slice_index (columns ++ c ∷ []) k ≡ c
     last k e = get_or_push columns c 0 k e
 
-    here : slice_index new c ≡ 0
-    here = ap (λ xs. slice_index xs c) first.after ∙ get_or-set_same left c 0 0 first.inside
-
-    other : (j : ℕ) → j ≢ c → slice_index new j ≡ slice_index left j
-    other j d = ap (λ xs. slice_index xs j) first.after ∙ get_or-set_other left c j 0 0 d
-
-    apart : (j : ℕ) → slice_index new j ≢ 0 → j ≢ c
-    apart j ne e = ne (ap (slice_index new) e ∙ here)
-
-    was : (j : ℕ) → slice_index new j ≢ 0 → slice_index left j ≢ 0
-    was j ne z = ne (other j (apart j ne) ∙ z)
-
-    past : (j : ℕ) → slice_index new j ≢ 0 → c < j
-    past j ne = elim (cases_lt c j) [
-      | inl l ↦ l
-      | inr ge ↦ elim (cases_eq j c) [ inl e ↦ absurd (apart j ne e) | inr d ↦ absurd (was j ne (first.before j (omega arith))) ]
-    ]
-
 pub all_taken : {marks left columns : List ℕ} → AreTaken marks left columns → AllZero left → ListsMarks marks columns
 all_taken {marks} {left} {columns} t zero' = record {
   rising = t.rising;
   marked = t.marked;
-  all = λ j ne. ⊎_elim (λ k. k) (λ o. absurd (none_of left zero' j o)) (t.every j ne);
+  all = λ j ne. ⊎_elim (λ k. k) (λ o. absurd (none_marked left zero' j o)) (t.every j ne);
 }
 
 -- the columns of the rows of all pairs
@@ -158,7 +121,7 @@ pub marked_occupied : {A : Matrix} {qs : List Pair} {marks columns : List ℕ} �
 marked_occupied {A} {qs} {marks} {columns} are lists = record {
   enough = record {
     rising = lists.rising;
-    below = λ k l. omega (arith, inside_of marks (slice_index columns k) (lists.marked k l), are.long);
+    below = λ k l. omega (arith, marked_inside marks (slice_index columns k) (lists.marked k l), are.long);
     all = λ i j l lj ne.
         let li : i < length qs = omega (arith, selected_height A qs) in
         lists.all j (are.all i j li (λ z. ne (ap (λ w. slice_index w j) (selected_row A qs i li) ∙ z)));

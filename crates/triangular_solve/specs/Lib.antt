@@ -4,7 +4,6 @@ pub mod FlatRows
 pub mod Listing
 pub mod PivotRows
 pub mod PlacedEntries
-pub mod Queue
 pub mod Reduced
 pub mod ScatteredRows
 pub mod Triangle

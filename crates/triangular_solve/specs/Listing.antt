@@ -1,6 +1,6 @@
 -- How the triangular order is found: how many of the pairs that are left have an entry in each pivotal column, and
 -- which columns have just one.
-use Rattle.std.specs.Prelude.{◌≡◌, ◌<◌, ◌≤◌, ◌+◌, ◌⊎◌, ◌==◌, if◌then◌else◌, ℕ, List, [], ◌∷◌, length, map, slice_index}
+use Rattle.std.specs.Prelude.{◌≡◌, ◌≢◌, ◌<◌, ◌≤◌, ◌+◌, ◌⊎◌, ◌==◌, if◌then◌else◌, ℕ, List, [], ◌∷◌, length, map, slice_index}
 use Rattle.std.specs.List.{Contains}
 use Rattle.residue_words.specs.Matrix.{Matrix, entry}
 use Rattle.residue_words.specs.declared.plain.Pair.{Pair}
@@ -41,15 +41,20 @@ EachPlaceOf columns cols P = (k : ℕ) → k < length columns → Contains cols 
 abbrev pub EachOtherPlace : (columns cols : List ℕ) → (ℕ → Type 0) → Type 0
 EachOtherPlace columns cols P = (k : ℕ) → k < length columns → ¬ Contains cols (slice_index columns k) → P k
 
--- the queue has places only, and each at which one pair waits
+-- the place is marked in the queue
+abbrev pub Queued : List ℕ → ℕ → Type 0
+Queued queue k = slice_index queue k ≢ 0
+
+-- the queue is as long, and each place is marked at which one pair waits
 pub record HasReady (waits queue : List ℕ) : Type 0 where
-  pub inside : (k : ℕ) → Contains queue k → k < length waits
-  pub covers : (k : ℕ) → k < length waits → slice_index waits k ≡ 1 → Contains queue k
+  pub room : length queue ≡ length waits
+  pub covers : (k : ℕ) → k < length waits → slice_index waits k ≡ 1 → Queued queue k
 
 -- of the places in the queue at which one pair waits the least, k, was taken
 pub record TakesReady (waits old new : List ℕ) (k : ℕ) : Type 0 where
-  pub here : Contains old k
+  pub room : length new ≡ length old
+  pub here : Queued old k
   pub ready : slice_index waits k ≡ 1
-  pub least : (d : ℕ) → Contains old d → slice_index waits d ≡ 1 → k ≤ d
-  pub kept : (d : ℕ) → Contains new d → Contains old d
-  pub others : (d : ℕ) → Contains old d → slice_index waits d ≡ 1 → (d ≡ k) ⊎ Contains new d
+  pub least : (d : ℕ) → Queued old d → slice_index waits d ≡ 1 → k ≤ d
+  pub kept : (d : ℕ) → Queued new d → Queued old d
+  pub others : (d : ℕ) → Queued old d → slice_index waits d ≡ 1 → (d ≡ k) ⊎ Queued new d

@@ -13,7 +13,6 @@ mod flat_rows;
 mod flat_triangle;
 mod pivot_rows;
 mod placed_entries;
-mod queue;
 mod reduced;
 mod row_entries;
 mod scattered_rows;

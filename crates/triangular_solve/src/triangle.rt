@@ -1,13 +1,12 @@
 // Pivots in triangular order.
-ghost use Rattle.std.specs.Prelude.{◌≡◌, ◌≢◌, ◌<◌, ◌≤◌, ◌+◌, ◌-◌, ◌⊎◌, ℕ, length, map, slice_index, slice_set, IfOk, IfSome, IfNone, OnOk};
-ghost use Rattle.std.specs.List.{Contains};
+ghost use Rattle.std.specs.Prelude.{◌≡◌, ◌≢◌, ◌<◌, ◌≤◌, ◌+◌, ◌-◌, ℕ, length, map, slice_index, slice_set, IfOk, IfSome, IfNone, OnOk};
 ghost use Rattle.std.specs.List.Sorted.{IsPermutation};
 ghost use Rattle.residue_words.specs.Residues.{IsPrime};
 ghost use Rattle.sparse_rows.specs.Rows.{AreRising};
 ghost use Rattle.sparse_rows.specs.Stored.{IsSparse, spread};
 ghost use Rattle.sparse_rows.specs.declared.rows.TheConstants.{LARGEST_SIZE};
 ghost use Rattle.pivot_table.specs.Order.{IsTriangularOrder, Triangular};
-ghost use Rattle.triangular_solve.specs.Listing.{AreSortedPivots, AreWaits, EachOtherPlace, EachPlaceOf, HasReady, TakesReady};
+ghost use Rattle.triangular_solve.specs.Listing.{AreSortedPivots, AreWaits, EachOtherPlace, EachPlaceOf, HasReady, Queued, TakesReady};
 ghost use Rattle.triangular_solve.specs.PivotRows.{ArePivotRows};
 ghost use Rattle.lead_rows.specs.Accumulator.{IsAlike};
 ghost use Rattle.triangular_solve.specs.Reduced.{FitsReduced, FitsRest, HasSizesOf, IsReduced, IsSchurRow, reduction_of, workspace_of};
@@ -15,12 +14,11 @@ ghost use Rattle.triangular_solve.specs.Triangle.{TriangularOrderIsOne};
 
 use crate::ascending_columns::AscendingColumns;
 use crate::pivot_rows::PivotRows;
-use crate::queue::Queue;
 use crate::reduced::Reduced;
 use crate::row_entries::RowEntries;
 use crate::work::Work;
 use pivot_table::{Book, Pair};
-use sparse_rows::{Rows, Sparse};
+use sparse_rows::{ColumnSet, Rows, Sparse};
 use std::alloc::{AllocError, Global};
 use std::marker::Model;
 
@@ -50,9 +48,9 @@ impl<'a> Model for Triangle<'a> {
 }
 
 impl<'a> Triangle<'a> {
-    /// The pairs of a book, in time proportional to the entries of their rows and to the pairs times a logarithm; where the
-    /// matrix is wider than 64 columns a pair, each entry costs a logarithm too. It takes memory for the pairs and for the
-    /// entries of their rows, and for the columns where there are no more than that.
+    /// The pairs of a book, in time proportional to the entries of their rows, times a logarithm of how many a row has, and to the
+    /// pairs times a logarithm; where the matrix is wider than 64 columns a pair, each entry costs a logarithm too. It takes memory
+    /// for the pairs and for the entries of their rows, and for the columns where there are no more than that.
     pub fn of(alloc: Global, book: &Book<'a>) -> Result<Self, AllocError>
         ensures rows { IfOk result (λ t. t.rows ≡ book.now.rows) }
         ensures order { IfOk result (λ t. IsTriangularOrder book.now.rows.matrix book.now.pairs t.pairs) }
@@ -247,15 +245,15 @@ fn raise(waits: &mut [u32], columns: &AscendingColumns, cols: &[u32])
     }
 }
 
-// The places at which one pair waits.
-fn queue_ready(alloc: Global, waits: &[u32]) -> Result<Queue, AllocError>
+// Marks at the places at which one pair waits.
+fn queue_ready(alloc: Global, waits: &[u32]) -> Result<ColumnSet, AllocError>
     requires { length waits.now ≤ LARGEST_SIZE }
     ensures { IfOk result (HasReady waits.now) }
 {
-    let mut queue = Queue::new(alloc);
+    let mut queue = ColumnSet::new(alloc, waits.len() as u32)?;
     for place in 0..waits.len() {
         if waits[place] == 1 {
-            queue.push(place as u32)?;
+            queue.mark(place as u32);
         }
     }
     Ok(queue)
@@ -263,10 +261,10 @@ fn queue_ready(alloc: Global, waits: &[u32]) -> Result<Queue, AllocError>
 
 // Takes the least place at which one pair waits, and drops those before it. In fact there are none, but the test is cheaper than
 // to keep account of it.
-fn next_ready(waits: &[u32], queue: &mut Queue) -> Option<u32>
-    requires { (k : ℕ) → Contains queue.old k → k < length waits.now }
+fn next_ready(waits: &[u32], queue: &mut ColumnSet) -> Option<u32>
+    requires { length queue.old ≡ length waits.now }
     ensures some { IfSome result (TakesReady waits.now queue.old queue.new) }
-    ensures none { IfNone result ((k : ℕ) → Contains queue.old k → slice_index waits.now k ≢ 1) }
+    ensures none { IfNone result ((k : ℕ) → Queued queue.old k → slice_index waits.now k ≢ 1) }
 {
     while let Some(place) = queue.pop() {
         if waits[place as usize] == 1 {
@@ -277,49 +275,44 @@ fn next_ready(waits: &[u32], queue: &mut Queue) -> Option<u32>
 }
 
 // One less at the place of each of these columns that is pivotal, and the places at which one is left onto the queue.
-fn lower(
-    waits: &mut [u32],
-    columns: &AscendingColumns,
-    cols: &[u32],
-    queue: &mut Queue,
-) -> Result<(), AllocError>
+fn lower(waits: &mut [u32], columns: &AscendingColumns, cols: &[u32], queue: &mut ColumnSet)
     requires many { length waits.old ≡ length columns.now }
+    requires room { length queue.old ≡ length columns.now }
     requires pivotal { AreRising columns.now }
     requires rising { AreRising cols.now }
     requires some { EachPlaceOf columns.now cols.now (λ k. 0 < slice_index waits.old k) }
 
-    ensures lowered { OnOk result (EachPlaceOf columns.now cols.now
-        (λ k. slice_index waits.new k + 1 ≡ slice_index waits.old k)) }
-    ensures kept { OnOk result (EachOtherPlace columns.now cols.now
-        (λ k. slice_index waits.new k ≡ slice_index waits.old k)) }
+    ensures lowered { EachPlaceOf columns.now cols.now
+        (λ k. slice_index waits.new k + 1 ≡ slice_index waits.old k) }
+    ensures kept { EachOtherPlace columns.now cols.now
+        (λ k. slice_index waits.new k ≡ slice_index waits.old k) }
 
-    ensures pushed { OnOk result (EachPlaceOf columns.now cols.now
-        (λ k. slice_index waits.new k ≡ 1 → Contains queue.new k)) }
-    ensures queued { (k : ℕ) → Contains queue.old k → Contains queue.new k }
-    ensures only { (k : ℕ) → Contains queue.new k → Contains queue.old k ⊎ (k < length columns.now) }
+    ensures room { length queue.new ≡ length queue.old }
+    ensures pushed { EachPlaceOf columns.now cols.now
+        (λ k. slice_index waits.new k ≡ 1 → Queued queue.new k) }
+    ensures queued { (k : ℕ) → Queued queue.old k → Queued queue.new k }
 {
     for column in cols {
         if let Some(place) = columns.find(*column) {
-            lower_at(waits, place, queue)?;
+            lower_at(waits, place, queue);
         }
     }
-    Ok(())
 }
 
 // One less at a place, which comes onto the queue where one is left.
-fn lower_at(waits: &mut [u32], place: u32, queue: &mut Queue) -> Result<(), AllocError>
+fn lower_at(waits: &mut [u32], place: u32, queue: &mut ColumnSet)
     requires place { place < length waits.old }
+    requires room { place < length queue.old }
     requires some { 0 < slice_index waits.old place }
     ensures waits { waits.new ≡ slice_set waits.old place (slice_index waits.old place - 1) }
-    ensures pushed { OnOk result (slice_index waits.new place ≡ 1 → Contains queue.new place) }
-    ensures queued { (k : ℕ) → Contains queue.old k → Contains queue.new k }
-    ensures only { (k : ℕ) → Contains queue.new k → Contains queue.old k ⊎ (k ≡ place) }
+    ensures room { length queue.new ≡ length queue.old }
+    ensures pushed { slice_index waits.new place ≡ 1 → Queued queue.new place }
+    ensures queued { (k : ℕ) → Queued queue.old k → Queued queue.new k }
 {
     waits[place as usize] -= 1;
     if waits[place as usize] == 1 {
-        return queue.push(place);
+        queue.mark(place);
     }
-    Ok(())
 }
 
 // The pairs in triangular order.
@@ -329,7 +322,7 @@ fn list_all(
     pairs: &[Pair],
     columns: &AscendingColumns,
     waits: &mut [u32],
-    queue: &mut Queue,
+    queue: &mut ColumnSet,
 ) -> Result<Vec<Pair>, AllocError>
     requires pivots { AreSortedPivots rows.now.matrix pairs.now }
     requires columns { columns.now ≡ map (λ p. p.col) pairs.now }
@@ -342,7 +335,7 @@ fn list_all(
     let mut order = Vec::with_capacity(alloc, pairs.len())?;
     while let Some(place) = next_ready(waits, queue) {
         let pair = pairs[place as usize];
-        lower(waits, columns, rows.cols(pair.row), queue)?;
+        lower(waits, columns, rows.cols(pair.row), queue);
         order.push(pair)?;
     }
     Ok(order)

@@ -1,5 +1,5 @@
 use Rattle.sparse_rows.specs.Rows.{AreRising}
-use Rattle.std.proofs.Common.{ℕ, List, ◌≡◌, ◌≢◌, ◌<◌, length, get_or, inl, inr, ⊎_elim, slice_index, subst, sym, ap, ◌∙◌, arith}
+use Rattle.std.proofs.Common.{ℕ, List, ◌≡◌, ◌≢◌, ◌<◌, length, get_or, slice_index, subst, sym, ap, ◌∙◌, arith}
 use Rattle.std.specs.List.{Contains}
 use Rattle.std.proofs.lemmas.List.{length-map, length_push}
 use Rattle.std.proofs.lemmas.List.Elements.{Contains-get_or}
@@ -9,18 +9,18 @@ use Rattle.row_space.specs.Factors.{col_at}
 use Rattle.sparse_rows.proofs.Supports.{in_support, of_support}
 use Rattle.triangular_solve.specs.Listing.{column_count}
 use Rattle.triangular_solve.proofs.Counting.{count_some}
-use Rattle.triangular_solve.proofs.Listing.{listing_begins, listing_ends, listing_goes, no_pair, waits_left}
+use Rattle.triangular_solve.proofs.Listing.{listing_begins, listing_ends, listing_goes, no_pair, queued_inside, waits_left}
 use Rattle.triangular_solve.proofs.triangle.list_all.Goals as goal
 
 pub loop-place-init : goal.loop-place-init
 loop-place-init c = rw c.in_ok-order.ensures.items (listing_begins c.requires.pivots c.requires.waits c.requires.ready)
 
 pub next_ready-requires : goal.next_ready-requires
-next_ready-requires c = λ k m. omega (arith, c.loop-place.invariant.inside k m, c.loop-place.invariant.long)
+next_ready-requires c = c.loop-place.invariant.room ∙ sym c.loop-place.invariant.long
 
 pub cols-requires : goal.cols-requires
 cols-requires c =
-    let inside = c.loop-place.invariant.inside c.in-Some.place c.in-Some.ensures.some.here in
+    let inside = queued_inside c.requires.pivots c.loop-place.invariant c.in-Some.place c.in-Some.ensures.some.here in
     (c.requires.pivots.nonzero _ (Contains-get_or c.args.pairs.now c.in-Some.place no_pair inside)).0
 
 pub lower-requires-clause-some : goal.lower-requires-clause-some
@@ -30,7 +30,7 @@ lower-requires-clause-some c = λ k lk t.
     let place = c.in-Some.place in
     let inv = c.loop-place.invariant in
     let some = c.in-Some.ensures.some in
-    let lp = inv.inside place some.here in
+    let lp = queued_inside c.requires.pivots inv place some.here in
     let q = get_or pairs place no_pair in
     let m = waits_left c.requires.pivots inv place lp some.ready in
     let kp : k < length pairs = omega (arith, lk, ap length c.requires.columns, length-map pairs (λ (p : Pair). p.col)) in
@@ -47,7 +47,7 @@ loop-place-preserved c =
     let place = c.in-Some.place in
     let inv = c.loop-place.invariant in
     let some = c.in-Some.ensures.some in
-    let lp = inv.inside place some.here in
+    let lp = queued_inside c.requires.pivots inv place some.here in
     let q = get_or pairs place no_pair in
     let nq = (c.requires.pivots.nonzero q (Contains-get_or pairs place no_pair lp)).0 in
     let many : length columns ≡ length pairs = ap length c.requires.columns ∙ length-map pairs (λ (p : Pair). p.col) in
@@ -58,17 +58,17 @@ loop-place-preserved c =
     of_support c.is_sound.ensures.entries q.row nq (slice_index columns d) (subst (λ (xs : List ℕ). Contains xs (slice_index columns d)) c.cols.ensures.support t) (ap (entry A q.row) (col d) ∙ z) in
     rw c.in_ok-push.ensures.items (listing_goes c.requires.pivots inv place c.next_ready.new.queue c.lower.new.waits c.lower.new.queue some
     c.lower.auto.waits
-    (λ d l n. c.in_ok-lower.ensures.lowered d (omega arith) (has d n))
-    (λ d l z. c.in_ok-lower.ensures.kept d (omega arith) (off d z))
+    (λ d l n. c.lower.ensures.lowered d (omega arith) (has d n))
+    (λ d l z. c.lower.ensures.kept d (omega arith) (off d z))
     c.lower.ensures.queued
-    (λ d m. ⊎_elim (λ t. inl t) (λ l. inr (omega arith)) (c.lower.ensures.only d m))
-    (λ d l n one. c.in_ok-lower.ensures.pushed d (omega arith) (has d n) one))
+    c.lower.ensures.room
+    (λ d l n one. c.lower.ensures.pushed d (omega arith) (has d n) one))
 
 pub returns : goal.returns
 returns c = listing_ends c.requires.pivots c.loop-place.invariant c.in_default.ensures.none
 
 pub bounds-pairs-place : goal.bounds-pairs-place
-bounds-pairs-place c = c.loop-place.invariant.inside c.in-Some.place c.in-Some.ensures.some.here
+bounds-pairs-place c = queued_inside c.requires.pivots c.loop-place.invariant c.in-Some.place c.in-Some.ensures.some.here
 
 pub lower-requires-clause-rising : goal.lower-requires-clause-rising
 lower-requires-clause-rising c = c.cols.ensures.ascending
@@ -83,5 +83,8 @@ pub loop-place-smaller : goal.loop-place-smaller
 loop-place-smaller c =
     let inv = c.loop-place.invariant in
     let some = c.in-Some.ensures.some in
-    let left = waits_left c.requires.pivots inv c.in-Some.place (inv.inside c.in-Some.place some.here) some.ready in
+    let left = waits_left c.requires.pivots inv c.in-Some.place (queued_inside c.requires.pivots inv c.in-Some.place some.here) some.ready in
     omega (arith, ap length c.in_ok-push.ensures.items, length_push c.loop-place.order.items (get_or c.args.pairs.now c.in-Some.place no_pair), inv.many, left.1)
+
+pub lower-requires-clause-room : goal.lower-requires-clause-room
+lower-requires-clause-room c = c.in-Some.ensures.some.room ∙ c.loop-place.invariant.room ∙ sym (ap length c.requires.columns ∙ length-map c.args.pairs.now (λ (p : Pair). p.col))

@@ -1,14 +1,14 @@
-use Rattle.std.proofs.Common.{ℕ, List, ◌≡◌, ◌-◌, ◌<◌, ◌∙◌, length, slice_index, slice_set, subst, ap, sym, ⊎_elim, inl, inr, arith}
-use Rattle.std.specs.List.{Contains}
+use Rattle.std.proofs.Common.{ℕ, List, ◌≡◌, ◌-◌, ◌∙◌, slice_index, slice_set, subst, ap, sym, ⊎_elim, inl, inr, arith}
 use Rattle.std.proofs.lemmas.Bool.{cases_eq}
 use Rattle.std.proofs.lemmas.List.{get_or-set_other}
 use Rattle.residue_words.proofs.Lists.{contains_at}
+use Rattle.triangular_solve.specs.Listing.{Queued}
 use Rattle.triangular_solve.proofs.Changing.{changed_at, changed_comes, changed_passes, place_is, touched_all, touched_cases, unchanged_yet}
 use Rattle.triangular_solve.proofs.triangle.lower.Goals as goal
-use Rattle.triangular_solve.proofs.triangle.lower.Goals.{in-Some+in_ok-lower_at, in_default}
+use Rattle.triangular_solve.proofs.triangle.lower.Goals.{in-Some, in_default}
 
-pub returns-in_err-lower_at-clause-only : goal.returns-in_err-lower_at-clause-only
-returns-in_err-lower_at-clause-only c = λ k m. ⊎_elim (c.loop-column.invariant.only k) (λ e. inr (subst (λ j. j < length c.args.columns.now) (sym e) c.in-Some.ensures.0)) (c.lower_at.ensures.only k m)
+pub lower_at-requires-clause-room : goal.lower_at-requires-clause-room
+lower_at-requires-clause-room c = omega (arith, c.in-Some.ensures.0, c.loop-column.invariant.room, c.requires.room)
 
 pub lower_at-requires-clause-some : goal.lower_at-requires-clause-some
 lower_at-requires-clause-some c =
@@ -26,7 +26,7 @@ loop-column-preserved c =
     let l = c.loop-column-test.true in
     let inv = c.loop-column.invariant in
     elim c.match-find.branch [
-      | in-Some+in_ok-lower_at w ↦
+      | in-Some w ↦
           let place = w.in-Some.place in
           let inside = w.in-Some.ensures.0 in
           let at = w.in-Some.ensures.1 in
@@ -37,9 +37,9 @@ loop-column-preserved c =
             changed = rw new (changed_comes cols l columns inv.changed c.requires.rising c.requires.pivotal place inside at (slice_index c.loop-column.waits place - 1)
                 (omega (arith, c.loop-column.auto.waits, c.requires.many, inside)) (omega arith));
             queued = λ k m. w.lower_at.ensures.queued k (inv.queued k m);
-            only = λ k m. ⊎_elim (inv.only k) (λ e. inr (subst (λ j. j < length columns) (sym e) inside)) (w.lower_at.ensures.only k m);
+            room = w.lower_at.ensures.room ∙ inv.room;
             pushed = λ k lk t one. elim (cases_eq k place) [
-              | inl e ↦ subst (Contains w.lower_at.new.queue) (sym e) (w.in_ok-lower_at.ensures.pushed (subst (λ j. slice_index w.lower_at.new.waits j ≡ 1) e one))
+              | inl e ↦ subst (λ j. Queued w.lower_at.new.queue j) (sym e) (w.lower_at.ensures.pushed (subst (λ j. slice_index w.lower_at.new.waits j ≡ 1) e one))
               | inr ne ↦
                   let was : slice_index c.loop-column.waits k ≡ 1 =
                   sym (get_or-set_other c.loop-column.waits place k (slice_index c.loop-column.waits place - 1) 0 ne) ∙ sym (ap (λ (xs : List ℕ). slice_index xs k) new) ∙ one in
@@ -52,7 +52,7 @@ loop-column-preserved c =
       | in_default w ↦ rw (w.waits-is, w.queue-is) record {
         changed = changed_passes cols l columns inv.changed w.in_default.ensures;
         queued = inv.queued;
-        only = inv.only;
+        room = inv.room;
         pushed = λ k lk t one. ⊎_elim
             (λ old. inv.pushed k lk old one)
             (λ e. absurd (w.in_default.ensures (contains_at columns k (slice_index cols c.loop-column.column-index) lk (sym e))))
