@@ -10,6 +10,7 @@ use Rattle.residue_words.proofs.Vectors.{entry_matrix_of}
 use Rattle.row_space.proofs.Spans.{rising_equal}
 use Rattle.sparse_rows.specs.Rows.{AreEnough, AreEnoughInSomeOrder, AreFilled, AreOccupied, AreWeights, IsFilled, ResidueMatrix, selected, support, transposed}
 use Rattle.sparse_rows.proofs.Permuting.{enough_permuted}
+use Rattle.sparse_rows.proofs.Renaming.{rising_short}
 use Rattle.sparse_rows.proofs.Supports.{at_support, in_support, row_sparse}
 use Rattle.weight_order.specs.Keeping.{AreFilledInSomeOrder, KeepsRank}
 use Rattle.weight_order.specs.Shape.{AreByWeight, HasColumnsByWeight, HasFewFilled, HasFewRisingRows, HasRarestFirst, HasRowsByWeight}
@@ -205,3 +206,8 @@ rarest_first_of {p} {C} {S} {order} m few h rows = subst HasRarestFirst (sym row
 -- the columns of a matrix in the order of the rows of its transpose
 pub order_enough : {p : ℕ} {A : Matrix} {order : List ℕ} → IsMatrix p A → AreFilledInSomeOrder (transposed A) order → AreEnoughInSomeOrder A order
 order_enough {p} {A} {order} m h = enough_permuted h.0 order (filled_enough m h.0 h.1) h.2
+
+-- columns that are rows have no more filled rows than these are
+pub few_columns : {p : ℕ} {C : Matrix} {columns : List ℕ} → IsMatrix p C → AreOccupied C columns → HasFewRisingRows C → HasFewFilled C (length columns)
+few_columns {p} {C} {columns} m occupied few rows f =
+    omega (arith, few.few columns (occupied_filled m columns occupied), rising_short rows C.height f.rising f.below)

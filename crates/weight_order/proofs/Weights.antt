@@ -1,5 +1,5 @@
 -- How many entries a row has, as a sum; and rows sorted by that.
-use Rattle.std.proofs.Common.{ℕ, zero, suc, ◌≡◌, ◌≢◌, ◌+◌, ◌-◌, ◌<◌, ◌≤◌, inl, inr, Ordering, Less, Equal, Greater, false, cond, eqb, List, [], ◌∷◌, length, map, slice_index, get_or, sym, refl, ap, subst, ◌∙◌, arith}
+use Rattle.std.proofs.Common.{ℕ, zero, suc, ◌≡◌, ◌≢◌, ◌+◌, ◌-◌, ◌/◌, ◌^◌, ◌<◌, ◌≤◌, inl, inr, Ordering, Less, Equal, Greater, false, cond, eqb, List, [], ◌∷◌, length, map, slice_index, get_or, sym, refl, ap, subst, ◌∙◌, arith}
 use Rattle.std.specs.List.{All, Contains, sum_by}
 use Rattle.std.specs.List.Sorted.{IsPermutation, IsSorted}
 use Rattle.std.specs.Ordering.{MatchOrdering, is_lt, nat_cmp, ordering_then}
@@ -12,9 +12,9 @@ use Rattle.residue_words.specs.Matrix.{Matrix, IsMatrix, entry, row}
 use Rattle.residue_words.specs.Residues.{sum_below}
 use Rattle.residue_words.proofs.Lists.{place_in}
 use Rattle.residue_words.proofs.Sums.{sum_none, sum_support}
-use Rattle.sparse_rows.specs.Rows.{AreRising, support, support_from}
+use Rattle.sparse_rows.specs.Rows.{AreFilled, AreRising, support, support_from}
 use Rattle.weight_order.specs.Keeping.{AreFilledInSomeOrder}
-use Rattle.weight_order.specs.Shape.{AreByWeight, IsRarestFirst}
+use Rattle.weight_order.specs.Shape.{AreByWeight, ArePlacedWeights, IsRarestFirst}
 
 -- 1 for an entry, and 0 for none
 abbrev pub counted : ℕ → ℕ
@@ -116,4 +116,38 @@ pub rarest_of : {weights sorted : List (ℕ × ℕ)} {order : List ℕ} → IsPe
 rarest_of {weights} {sorted} {order} moved is e A h = subst (λ xs. AreFilledInSomeOrder A xs × AreByWeight A xs) (sym e) (
   (map (λ w. w.1) weights, h.filled, IsPermutation-map (λ (w : ℕ × ℕ). w.1) weights sorted moved),
   by_weight_of A sorted is (All-permutation (λ (w : ℕ × ℕ). w.0 ≡ length (support (row A w.1))) weights sorted moved h.entries),
+)
+
+-- weights that stand in the upper halves of words
+placed_weights : (A : Matrix) (weights placed : List (ℕ × ℕ)) → ArePlacedWeights weights placed → All (λ w. w.0 ≡ length (support (row A w.1))) weights →
+    All (λ w. w.0 / 2 ^ 32 ≡ length (support (row A w.1))) placed
+placed_weights A weights placed same all k d l =
+    let many : length placed ≡ length weights = sym (length-map placed (λ (w : ℕ × ℕ). w.1)) ∙ ap length same.numbers ∙ length-map weights (λ (w : ℕ × ℕ). w.1) in
+    let inside : k < length weights = omega (arith, many) in
+    let weight : (get_or placed k d).0 / 2 ^ 32 ≡ (get_or weights k d).0 =
+    sym (get_or-map (λ (w : ℕ × ℕ). w.0 / 2 ^ 32) placed k d 0 l) ∙ ap (λ xs. get_or xs k 0) same.begun ∙ get_or-map (λ (w : ℕ × ℕ). w.0) weights k d 0 inside in
+    let number : (get_or placed k d).1 ≡ (get_or weights k d).1 =
+    sym (get_or-map (λ (w : ℕ × ℕ). w.1) placed k d 0 l) ∙ ap (λ xs. get_or xs k 0) same.numbers ∙ get_or-map (λ (w : ℕ × ℕ). w.1) weights k d 0 inside in
+    weight ∙ all k d inside ∙ ap (λ i. length (support (row A i))) (sym number)
+
+-- so the rows of a list sorted by words that begin with the weights are by weight
+by_placed_weight : (A : Matrix) (list : List (ℕ × ℕ)) → IsSorted by_fields list → All (λ w. w.0 / 2 ^ 32 ≡ length (support (row A w.1))) list → AreByWeight A (map (λ w. w.1) list)
+by_placed_weight A list is weights k t less l =
+    let inside : t < length list = omega (arith, length-map list (λ (w : ℕ × ℕ). w.1)) in
+    let at : (s : ℕ) → s < length list → length (support (row A (slice_index (map (λ (w : ℕ × ℕ). w.1) list) s))) ≡ (get_or list s no_weight).0 / 2 ^ 32 =
+    λ s b. ap (λ i. length (support (row A i))) (get_or-map (λ (w : ℕ × ℕ). w.1) list s no_weight 0 b) ∙ sym (weights s no_weight b) in
+    let same : k + (t - k) ≡ t = omega arith in
+    omega (
+      arith,
+      at k (omega arith),
+      at t inside,
+      weights_rise list is k (t - k) (omega arith),
+      ap (λ s. (get_or list s no_weight).0) same,
+    )
+
+-- and the filled ones
+pub rarest_of_placed : {weights placed sorted : List (ℕ × ℕ)} {order : List ℕ} → ArePlacedWeights weights placed → IsPermutation placed sorted → IsSorted by_fields sorted → order ≡ map (λ w. w.1) sorted → IsRarestFirst weights order
+rarest_of_placed {weights} {placed} {sorted} {order} same moved is e A h = subst (λ xs. AreFilledInSomeOrder A xs × AreByWeight A xs) (sym e) (
+  (map (λ w. w.1) placed, subst (AreFilled A) (sym same.numbers) h.filled, IsPermutation-map (λ (w : ℕ × ℕ). w.1) placed sorted moved),
+  by_placed_weight A sorted is (All-permutation (λ (w : ℕ × ℕ). w.0 / 2 ^ 32 ≡ length (support (row A w.1))) placed sorted moved (placed_weights A weights placed same h.entries)),
 )

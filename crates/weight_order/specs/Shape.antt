@@ -1,5 +1,5 @@
 -- Matrices whose rows or columns stand by how many entries they have.
-use Rattle.std.specs.Prelude.{◌≡◌, ◌<◌, ◌≤◌, ℕ, List, length, slice_index}
+use Rattle.std.specs.Prelude.{◌≡◌, ◌<◌, ◌≤◌, ◌/◌, ◌^◌, ℕ, List, length, map, slice_index}
 use Rattle.residue_words.specs.Matrix.{Matrix, row}
 use Rattle.sparse_rows.specs.Rows.{AreFilled, AreOccupied, AreWeights, IsFilled, ResidueMatrix, selected, support, transposed}
 use Rattle.weight_order.specs.Keeping.{AreFilledInSomeOrder, KeepsRank}
@@ -12,6 +12,11 @@ AreByWeight A rows = (k t : ℕ) → k < t → t < length rows →
 -- where these are the weights of a matrix, the numbers name its filled rows, by weight
 abbrev pub IsRarestFirst : List (ℕ × ℕ) → List ℕ → Type 0
 IsRarestFirst weights order = (A : Matrix) → AreWeights A weights → AreFilledInSomeOrder A order × AreByWeight A order
+
+-- the same numbers in the same order, whose first words begin with the weights
+pub record ArePlacedWeights (weights placed : List (ℕ × ℕ)) : Type 0 where
+  pub numbers : map (λ w. w.1) placed ≡ map (λ w. w.1) weights
+  pub begun : map (λ w. w.0 / 2 ^ 32) placed ≡ map (λ w. w.0) weights
 
 -- the rows of C are the filled rows of A, by weight
 pub record HasRowsByWeight (A C : Matrix) : Type 0 where
