@@ -72,3 +72,11 @@ ranked_most {R} {n} {most} {total} r whole few small sum = record {
 -- the rank of a matrix in another order
 pub rank_kept : {R S : ResidueMatrix} {r : ℕ} → KeepsRank R S → (IsPrime S.modulus → HasRank S.modulus S.matrix r) → IsPrime R.modulus → HasRank R.modulus R.matrix r
 rank_kept {R} {S} {r} kept rank prime = kept.rank prime r (subst (λ p. IsPrime p → HasRank p S.matrix r) kept.modulus rank prime)
+
+-- the rank of a matrix that keeps that of R, bounded by the sizes of R
+pub bounded_kept : {R S : ResidueMatrix} {r : ℕ} → KeepsRank R S → IsBoundedRank S r → IsBoundedRank R r
+bounded_kept {R} {S} {r} kept bounded = record {
+  rank = rank_kept kept bounded.rank;
+  at_most_height = omega (arith, kept.least, bounded.at_most_height, bounded.at_most_width);
+  at_most_width = omega (arith, kept.least, bounded.at_most_height, bounded.at_most_width);
+}

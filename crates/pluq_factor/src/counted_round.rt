@@ -6,8 +6,19 @@ use crate::eliminating::Eliminating;
 use crate::measured::Measured;
 use crate::occupancy::Occupancy;
 use crate::plan::{FewPivots, few_pivots};
-use crate::rest::Rest;
+use crate::policy::leaves_much;
+use crate::rest::{Rest, rest_of};
+use crate::round::Round;
 use std::alloc::{AllocError, Global};
+
+// How a round goes about its matrix.
+#[derive(Clone, Copy, Debug)]
+pub(crate) struct Manner {
+    // Whether it searches for pivots beside the leftmost ones.
+    pub(crate) searches: bool,
+    // Whether it is given up if its pivots leave so much that another order is worth trying.
+    pub(crate) gives_up: bool,
+}
 
 // How many pivots a round has found, what they leave, and whether the next round searches.
 #[derive(Debug, Drop)]
@@ -17,28 +28,29 @@ pub(crate) struct CountedRound {
     pub(crate) searches: bool,
 }
 
-// One round, by a search if there is to be one; None if there is no pivot.
+// One round; None if there is no pivot, or it is given up.
 pub(crate) fn count_round<C: Eliminating>(
     crew: &C,
     alloc: Global,
     matrix: &Measured,
-    searches: bool,
+    manner: Manner,
     workers: u32,
 ) -> Result<Option<CountedRound>, AllocError>
     requires able { C.can_work }
     requires some { 1 ≤ workers }
     ensures { IfOk result (λ r. IfSome r (IsCountedRound matrix.now.rows)) }
 {
-    let pivots = few_pivots(alloc, &matrix.rows, searches)?;
-    counted_by(crew, alloc, &pivots, &matrix.occupancy, workers)
+    let pivots = few_pivots(alloc, &matrix.rows, manner.searches)?;
+    counted_by(crew, alloc, &pivots, &matrix.occupancy, manner, workers)
 }
 
-// The round of these pivots of a matrix of this occupancy; None if there are none.
+// The round of these pivots of a matrix of this occupancy; None if there are none, or it is given up.
 fn counted_by<C: Eliminating>(
     crew: &C,
     alloc: Global,
     pivots: &FewPivots,
     occupancy: &Occupancy,
+    manner: Manner,
     workers: u32,
 ) -> Result<Option<CountedRound>, AllocError>
     requires able { C.can_work }
@@ -52,7 +64,11 @@ fn counted_by<C: Eliminating>(
         return Ok(None);
     }
     let count = pivots.triangle.pairs().len() as u32;
-    let rest = Rest::of(crew, alloc, &pivots.triangle, occupancy, workers)?;
+    let round = Round::of(alloc, &pivots.triangle, occupancy, workers)?;
+    if manner.gives_up && leaves_much(&round, pivots.searches) {
+        return Ok(None);
+    }
+    let rest = rest_of(crew, alloc, &round, workers)?;
     Ok(Some(CountedRound {
         count,
         rest,

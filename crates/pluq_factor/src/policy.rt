@@ -16,6 +16,10 @@ const ROUND_SHARE: u64 = 5;
 // With so many rows a column, half of the rows at least are combinations of others: then it pays to look for multiples.
 const ROWS_A_COLUMN: u64 = 2;
 
+// If a search for pivots was worth its time, they may leave so many times the entries of the matrix before another order of its columns is
+// worth trying: boundary maps of complexes in their own order leave up to 4 times as many, or 7 and more if this order helps.
+const MOST_LEFT: u64 = 4;
+
 // Of what pivots leave not more entries than these are stored, 3 GB, if a dense basis takes less.
 const MOST_STORED: u64 = 1 << 28;
 
@@ -49,6 +53,21 @@ pub(crate) fn is_dense(matrix: &Occupancy) -> bool {
 // Whether rows that are multiples of others are worth looking for.
 pub(crate) fn may_repeat(matrix: &Occupancy) -> bool {
     matrix.columns.saturating_mul(ROWS_A_COLUMN) <= matrix.rows
+}
+
+// Whether pivots leave so much that another order of the columns is worth trying. If no search was worth its time, this is so if they leave
+// more entries than the matrix has in many more rows than columns, as of boundary maps whose cells stand in no order: random matrices leave
+// about as many rows as columns.
+pub(crate) fn leaves_much(round: &Round, is_searched: bool) -> bool {
+    let Some(mean) = round.mean else {
+        return false;
+    };
+    let left = mean.saturating_mul(round.rows);
+    if is_searched {
+        round.entries.saturating_mul(MOST_LEFT) < left
+    } else {
+        round.entries < left && round.columns.saturating_mul(ROWS_A_COLUMN) <= round.rows
+    }
 }
 
 // Whether samples of what pivots leave of these rows are worth their time. A chunk of a basis stores all of its rows, so those without

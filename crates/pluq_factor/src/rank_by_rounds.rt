@@ -5,7 +5,7 @@ ghost use Rattle.row_space.specs.Echelon.{HasRank};
 ghost use Rattle.weight_order.specs.Keeping.{KeepsRank};
 ghost use Rattle.pluq_factor.specs.Counted.{IsBoundedRank};
 
-use crate::counted_round::{CountedRound, count_round};
+use crate::counted_round::{CountedRound, Manner, count_round};
 use crate::eliminating::Eliminating;
 use crate::measured::Measured;
 use crate::occupancy::Occupancy;
@@ -15,17 +15,24 @@ use crate::rest::Rest;
 use dense_finish::finish_right;
 use sparse_rows::Rows;
 use std::alloc::{AllocError, Global};
-use weight_order::{RowOrder, by_weight, without_multiples};
+use weight_order::{RowOrder, by_front, by_weight, without_multiples};
 
 // So many rounds at most, whatever they leave.
 const MOST_ROUNDS: u32 = 64;
+
+// The first round is given up for another order if it leaves much.
+const FIRST: Manner = Manner {
+    searches: true,
+    gives_up: true,
+};
 
 /// The rank of a matrix modulo a prime, by a plan of at least one worker; modulo another number, some number that is no more than its
 /// height and width.
 ///
 /// If the plan has no round the matrix is eliminated densely. Else there are as many rounds as pay, up to 64: each puts what is left in
 /// order of weight (`weight_order::by_weight`), which also turns it so that it isn't wide, takes the leftmost pivots and those that a
-/// search finds within three steps an entry, counts them, and keeps the complement alone. After a search that found none or was
+/// search finds within three steps an entry, counts them, and keeps the complement alone. If the first round would leave much more than the
+/// matrix has, it begins anew in the order of a front (`weight_order::by_front`). After a search that found none or was
 /// broken off no later round searches. Of what is left with two rows a column or more, rows that are multiples of others are dropped
 /// (`weight_order::without_multiples`). The rounds end when nothing is left, or when a fifth of what is left isn't 0: that is
 /// eliminated densely, or taken chunk by chunk into a dense basis if this takes less memory. A matrix of some size that is a tenth
@@ -72,16 +79,15 @@ fn rank_in_order<C: Eliminating>(
         let Measured { rows, .. } = matrix;
         return dense_rank(crew, alloc, rows, workers);
     }
-    rank_from(crew, alloc, matrix, true, workers, MOST_ROUNDS)
+    rank_from(crew, alloc, matrix, FIRST, workers, MOST_ROUNDS)
 }
 
-// The rank by so many rounds and the finish, the first of them with a search if there is to be one. The matrix is given up before the
-// next round begins.
+// The rank by so many rounds and the finish, the first of them in this manner. The matrix is given up before the next round begins.
 fn rank_from<C: Eliminating>(
     crew: &C,
     alloc: Global,
     matrix: Measured,
-    searches: bool,
+    manner: Manner,
     workers: u32,
     rounds: u32,
 ) -> Result<u32, AllocError>
@@ -94,7 +100,12 @@ fn rank_from<C: Eliminating>(
     if rounds == 0 || is_dense(&matrix.occupancy) {
         return finished_rank(crew, alloc, matrix, workers);
     }
-    let Some(round) = count_round(crew, alloc, &matrix, searches, workers)? else {
+    let Some(round) = count_round(crew, alloc, &matrix, manner, workers)? else {
+        if manner.gives_up {
+            let again = in_front_order(alloc, matrix)?;
+            let rank = rank_from(crew, alloc, again, later(true), workers, rounds - 1)?;
+            return Ok(rank);
+        }
         return finished_rank(crew, alloc, matrix, workers);
     };
     let most = matrix.rows.height().min(matrix.rows.width());
@@ -108,10 +119,27 @@ fn rank_from<C: Eliminating>(
         Rest::Basis(basis) => Ok(with_count(count, basis.height(), most)),
         Rest::Stored(rows) => {
             let rest = in_order(alloc, rows)?;
-            let below = rank_from(crew, alloc, rest, searches, workers, rounds - 1)?;
+            let below = rank_from(crew, alloc, rest, later(searches), workers, rounds - 1)?;
             Ok(with_count(count, below, most))
         }
     }
+}
+
+// The manner of a later round.
+fn later(searches: bool) -> Manner {
+    Manner {
+        searches,
+        gives_up: false,
+    }
+}
+
+// The matrix in the order in which a front comes to its columns and rows.
+fn in_front_order(alloc: Global, matrix: Measured) -> Result<Measured, AllocError>
+    ensures { IfOk result (λ m. KeepsRank matrix.rows m.rows) }
+{
+    let ordered = by_front(alloc, &matrix.rows)?;
+    drop(matrix);
+    Measured::of(alloc, ordered)
 }
 
 // The pivots and the rank of what they leave, together, of a matrix whose rank is at most `most`.

@@ -39,7 +39,7 @@ impl Rest {
 }
 
 // What the pivots of a round leave, in the way that the policy tells.
-fn rest_of<C: Eliminating>(
+pub(crate) fn rest_of<C: Eliminating>(
     crew: &C,
     alloc: Global,
     round: &Round,

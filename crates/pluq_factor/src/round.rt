@@ -11,6 +11,8 @@ use triangular_solve::Triangle;
 #[derive(Debug, Drop)]
 pub(crate) struct Round<'t, 'a> {
     pub(crate) reducer: RowReducer<'t, 'a>,
+    // How many entries the matrix has.
+    pub(crate) entries: u64,
     // How many rows and columns are left that have an entry before the round.
     pub(crate) rows: u64,
     pub(crate) columns: u64,
@@ -33,6 +35,7 @@ impl<'t, 'a> Round<'t, 'a> {
         let mean = sampled_mean(alloc, &reducer)?;
         Ok(Round {
             reducer,
+            entries: occupancy.entries,
             rows: occupancy.rows.saturating_sub(pivots),
             columns: occupancy.columns.saturating_sub(pivots),
             mean,

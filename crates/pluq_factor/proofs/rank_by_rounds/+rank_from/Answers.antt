@@ -3,7 +3,7 @@ use Rattle.std.specs.Option.{IfSome}
 use Rattle.row_space.specs.Echelon.{HasRank}
 use Rattle.pluq_factor.specs.Counted.{IsCountedRound}
 use Rattle.pluq_factor.specs.declared.counted_round.CountedRound.{CountedRound}
-use Rattle.pluq_factor.proofs.Ranking.{counted_few, rank_kept, ranked_basis, ranked_most, ranked_stored}
+use Rattle.pluq_factor.proofs.Ranking.{bounded_kept, counted_few, rank_kept, ranked_basis, ranked_most, ranked_stored}
 use Rattle.pluq_factor.proofs.rank_by_rounds.+rank_from.Goals as goal
 
 pub with_count-requires : goal.with_count-requires
@@ -31,3 +31,6 @@ returns-in_ok-below-in-Stored g t c =
     ranked_most {R = R} {most = c.min-most.result} {total = c.with_count-in-Stored.result} c.in_ok-below-in-Stored.below
     (ranked_stored c.round_rank.ensures round c.in-Stored.is (rank_kept c.in_ok-rest-in-Stored.ensures c.in_ok-below-in-Stored.ensures.rank)) (counted_few round)
     (omega (arith, c.min-most.ensures, c.height.ensures.value, c.width.ensures.value)) c.with_count-in-Stored.ensures
+
+pub returns-then-manner : goal.returns-then-manner
+returns-then-manner g t c = bounded_kept c.in_ok-again.ensures c.in_ok-rank.ensures
