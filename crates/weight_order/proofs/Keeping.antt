@@ -12,6 +12,10 @@ use Rattle.weight_order.specs.Laws.{HasEachFilled}
 use Rattle.weight_order.proofs.Selecting.{selected_matrix, selecting_rank}
 use Rattle.weight_order.proofs.Transposing.{transposed_matrix, transposing}
 
+-- a matrix keeps its own rank
+pub keeps_itself : {R : ResidueMatrix} → IsMatrix R.modulus R.matrix → KeepsRank R R
+keeps_itself {R} sound = record { modulus = refl; sound = sound; rank = λ prime r rank. rank; least = omega arith }
+
 -- what keeps the rank of S, which keeps that of R, keeps that of R
 pub keeps_chained : {Q R S : ResidueMatrix} → KeepsRank Q R → KeepsRank R S → KeepsRank Q S
 keeps_chained {Q} {R} {S} a b = record {

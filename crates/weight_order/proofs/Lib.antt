@@ -1,6 +1,7 @@
 pub mod Dropping
 pub mod Example
 pub mod Keeping
+pub mod Rearranging
 pub mod Selecting
 pub mod Shape
 pub mod Transposing

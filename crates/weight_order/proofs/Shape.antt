@@ -1,5 +1,5 @@
 -- Rows picked by weight, and their transpose.
-use Rattle.std.proofs.Common.{ℕ, ◌≡◌, ◌≢◌, ◌<◌, ◌≤◌, List, length, map, slice_index, sym, ap, subst, ◌∙◌, arith}
+use Rattle.std.proofs.Common.{ℕ, ◌≡◌, ◌≢◌, ◌<◌, ◌≤◌, List, length, map, slice_index, sym, refl, ap, subst, ◌∙◌, arith}
 use Rattle.std.specs.List.{All}
 use Rattle.std.proofs.lemmas.List.{get_or_default, length-map}
 use Rattle.std.proofs.lemmas.List.Sorted.{All-permutation, length_permutation}
@@ -8,13 +8,13 @@ use Rattle.residue_words.proofs.Lists.{place_in}
 use Rattle.residue_words.proofs.Sums.{sum_equal}
 use Rattle.residue_words.proofs.Vectors.{entry_matrix_of}
 use Rattle.row_space.proofs.Spans.{rising_equal}
-use Rattle.sparse_rows.specs.Rows.{AreEnough, AreEnoughInSomeOrder, AreFilled, AreOccupied, AreWeights, IsFilled, ResidueMatrix, selected, support, transposed}
+use Rattle.sparse_rows.specs.Rows.{AreEnough, AreEnoughInSomeOrder, AreFilled, AreOccupied, AreWeights, IsFilled, ResidueMatrix, narrowed, selected, support, transposed}
 use Rattle.sparse_rows.proofs.Permuting.{enough_permuted}
-use Rattle.sparse_rows.proofs.Renaming.{rising_short}
 use Rattle.sparse_rows.proofs.Supports.{at_support, in_support, row_sparse}
 use Rattle.weight_order.specs.Keeping.{AreFilledInSomeOrder, KeepsRank}
 use Rattle.weight_order.specs.Shape.{AreByWeight, HasColumnsByWeight, HasFewFilled, HasFewRisingRows, HasRarestFirst, HasRowsByWeight}
-use Rattle.weight_order.proofs.Keeping.{each_filled, keeps_chained, transposing_keeps}
+use Rattle.weight_order.proofs.Keeping.{each_filled, keeps_chained, transposing_keeps, turning_keeps}
+use Rattle.weight_order.proofs.Rearranging.{narrowed_turned}
 use Rattle.weight_order.proofs.Selecting.{row_selected, selected_matrix}
 use Rattle.weight_order.proofs.Transposing.{transposed_matrix}
 use Rattle.weight_order.proofs.Weights.{counted, picked_sum, weight_sum}
@@ -207,7 +207,18 @@ rarest_first_of {p} {C} {S} {order} m few h rows = subst HasRarestFirst (sym row
 pub order_enough : {p : ℕ} {A : Matrix} {order : List ℕ} → IsMatrix p A → AreFilledInSomeOrder (transposed A) order → AreEnoughInSomeOrder A order
 order_enough {p} {A} {order} m h = enough_permuted h.0 order (filled_enough m h.0 h.1) h.2
 
--- columns that are rows have no more filled rows than these are
-pub few_columns : {p : ℕ} {C : Matrix} {columns : List ℕ} → IsMatrix p C → AreOccupied C columns → HasFewRisingRows C → HasFewFilled C (length columns)
-few_columns {p} {C} {columns} m occupied few rows f =
-    omega (arith, few.few columns (occupied_filled m columns occupied), rising_short rows C.height f.rising f.below)
+-- rows in some order with their columns by weight keep the rank, and have the rarest first
+pub rearranged_is : {R S : ResidueMatrix} {weights : List (ℕ × ℕ)} {columns order : List ℕ} → 2 ≤ R.modulus → IsMatrix R.modulus R.matrix → AreWeights (transposed R.matrix) weights →
+    AreFilledInSomeOrder R.matrix order → length weights ≤ length order → AreFilledInSomeOrder (transposed R.matrix) columns × AreByWeight (transposed R.matrix) columns →
+    S.modulus ≡ R.modulus → S.matrix ≡ selected (narrowed R.matrix columns) order → KeepsRank R S × HasRarestFirst S.matrix
+rearranged_is {R} {S} {weights} {columns} {order} two m w rows few h modulus matrix =
+    let C : ResidueMatrix = record { modulus = R.modulus; matrix = selected (transposed R.matrix) columns } in
+    let less : length weights ≤ length rows.0 = omega (arith, length_permutation rows.0 order rows.2) in
+    let by : HasColumnsByWeight R C rows.0 = columns_are_rows {C = C} m w rows.1 less h (turning_keeps {S = C} two m h.0 refl refl) refl in
+    let mc : IsMatrix R.modulus C.matrix = by.rank.sound in
+    let there : AreFilledInSomeOrder (transposed C.matrix) order = (rows.0, occupied_filled mc rows.0 by.occupied, rows.2) in
+    let is : S.matrix ≡ selected (transposed C.matrix) order =
+    matrix ∙ ap (λ M. selected M order) (sym (narrowed_turned R.matrix columns (order_enough m h.0).below)) in (
+      keeps_chained {R = C} by.rank (turning_keeps {R = C} two mc there modulus is),
+      rarest_first_of mc by.shape there is,
+    )

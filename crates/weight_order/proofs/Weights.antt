@@ -69,7 +69,7 @@ picked_sum n v filled order up below all moved =
     ]))
 
 -- weights as they are compared
-abbrev by_fields : ℕ × ℕ → ℕ × ℕ → Ordering
+abbrev pub by_fields : ℕ × ℕ → ℕ × ℕ → Ordering
 by_fields x y = ordering_then (nat_cmp x.0 y.0) (nat_cmp x.1 y.1)
 
 no_heavier : (a b : ℕ) (r : Ordering) → is_lt (ordering_then (nat_cmp b a) r) ≡ false → a ≤ b
@@ -83,7 +83,7 @@ no_heavier a b r is = go (nat_cmp b a) (ranked b a (nat_cmp b a) refl) is
 abbrev no_weight : ℕ × ℕ
 no_weight = (0, 0)
 
-weights_rise : (list : List (ℕ × ℕ)) → IsSorted by_fields list → (k n : ℕ) → k + n < length list → (get_or list k no_weight).0 ≤ (get_or list (k + n) no_weight).0
+pub weights_rise : (list : List (ℕ × ℕ)) → IsSorted by_fields list → (k n : ℕ) → k + n < length list → (get_or list k no_weight).0 ≤ (get_or list (k + n) no_weight).0
 weights_rise list is k zero l = let same : k + zero ≡ k = omega arith in omega (arith, ap (λ t. (get_or list t no_weight).0) same)
 weights_rise list is k (suc n) l =
     let same : k + suc n ≡ k + n + 1 = omega arith in

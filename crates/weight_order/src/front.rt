@@ -17,21 +17,21 @@ pub(crate) struct FrontPlaces {
 }
 
 impl FrontPlaces {
-    // The places in a matrix that is given by its columns, each with an entry.
+    // The places in a matrix.
     //
     // Columns are settled one after another. A row all of whose columns but one are settled closes: this column is its pivot, and is settled
     // next. If no row can close, a column is made free: of the rows with the fewest open columns, the one that would leave the fewest
     // entries is taken, and of its open columns the one that brings most other rows as near. So pivots stand in triangular order, and what
     // they leave stays sparse, since the front grows where it is. This is the inactivation of decoders (Shokrollahi and Luby, Raptor codes,
     // 2011), and the coreduction of complexes (Mrozek and Batko, Coreduction homology algorithm, 2009). The time is that of the entries.
-    pub(crate) fn of(alloc: Global, columns: &Rows) -> Result<FrontPlaces, AllocError> {
-        let rows = columns.transpose(alloc)?;
-        let mut front = Front::new(alloc, &rows)?;
+    pub(crate) fn of(alloc: Global, rows: &Rows) -> Result<FrontPlaces, AllocError> {
+        let columns = rows.transpose(alloc)?;
+        let mut front = Front::new(alloc, rows)?;
         for _ in 0..columns.height() {
-            let Some(next) = front.next_column(&rows, columns) else {
+            let Some(next) = front.next_column(rows, &columns) else {
                 break;
             };
-            front.settle(columns, next)?;
+            front.settle(&columns, next)?;
         }
         Ok(FrontPlaces {
             columns: places_back(alloc, columns.height(), &front.settled)?,

@@ -3,12 +3,13 @@
 
 mod filled_rows;
 mod front;
+mod in_order;
 mod multiples;
 mod open_rows;
 mod waiting_rows;
 
 ghost use Rattle.std.specs.Prelude.{◌≡◌, ◌≤◌, length, IfOk};
-ghost use Rattle.sparse_rows.specs.Rows.{AreFilled, AreOccupied, AreWeights, selected, transposed};
+ghost use Rattle.sparse_rows.specs.Rows.{AreOccupied, AreWeights, selected, transposed};
 ghost use Rattle.weight_order.specs.Example.{IsTurnedExample};
 ghost use Rattle.weight_order.specs.Keeping.{AreFilledInSomeOrder, KeepsRank};
 ghost use Rattle.weight_order.specs.Laws.{SelectingKeepsRank, SelectingKeepsSpan, TransposingKeepsRank};
@@ -19,6 +20,7 @@ ghost use Rattle.weight_order.specs.Turned.{HasFilledRows};
 pub use filled_rows::RowOrder;
 use filled_rows::{by_places, numbers, rarest_first, rarest_first_by};
 use front::FrontPlaces;
+use in_order::rearranged;
 use multiples::distinct;
 use sparse_rows::Rows;
 use std::alloc::{AllocError, Global};
@@ -29,32 +31,33 @@ use std::alloc::{AllocError, Global};
 ///
 /// Few rows are changed by pivots in rare columns, so that what they leave stays sparse (Markowitz, The elimination form of the
 /// inverse and its application to linear programming, 1957). It takes time by the entries, times a logarithm of the rows and
-/// columns that have one; and memory for two such matrices beside the given one, or three if it has many more rows or columns than
-/// entries. Rows and columns without an entry cost nothing then.
+/// columns that have one; and memory for one such matrix beside the given one, two if it is transposed, or three if it has many more
+/// rows or columns than entries. Rows and columns without an entry cost nothing then.
 pub fn by_weight(alloc: Global, rows: &Rows, order: RowOrder) -> Result<Rows, AllocError>
     ensures rank { IfOk result (KeepsRank rows.now) }
     ensures shape { IfOk result (λ made. HasRarestFirst made.matrix) }
 {
-    let columns = columns_by_weight(alloc, rows)?;
-    from_columns(alloc, columns, order)
+    if rows.is_wide() {
+        let columns = columns_of_wide(alloc, rows)?;
+        return from_columns(alloc, columns, order);
+    }
+    by_counted_weight(alloc, rows, order)
 }
 
 /// What `by_weight` makes, with the columns of equal weight and the rows in the order in which a front that grows over the matrix comes to
 /// them, which doesn't hang on their numbers: a row all of whose columns but one are settled settles the last one, and if there is none, a
 /// column is made free near the front. Boundary maps of complexes, in whatever order their cells stand, so have about as many leftmost
-/// pivots as their rank is, and what these leave stays sparse; but the front costs more than `by_weight`.
+/// pivots as their rank is, and what these leave stays sparse; but the front costs more than the weights.
 ///
 /// This is the inactivation of decoders (Shokrollahi and Luby, Raptor codes, 2011), and the coreduction of complexes (Mrozek and Batko,
-/// Coreduction homology algorithm, 2009). Beside what `by_weight` takes, it takes time by the entries, up to 64 rows for each of the columns of
-/// a row that has one made free, and memory for two more such matrices, 20 bytes a row and 13 a column.
+/// Coreduction homology algorithm, 2009). Beside what `by_weight` takes, it takes time by the entries and, for each column that is made free,
+/// 64 rows of each column of one row; and memory for two such matrices, 24 bytes a row and 13 a column.
 pub fn by_front(alloc: Global, rows: &Rows) -> Result<Rows, AllocError>
     ensures rank { IfOk result (KeepsRank rows.now) }
     ensures shape { IfOk result (λ made. HasRarestFirst made.matrix) }
 {
-    let turned = columns_by_weight(alloc, rows)?;
-    let places = FrontPlaces::of(alloc, &turned.columns)?;
-    let placed = in_places(alloc, turned, &places.columns)?;
-    from_front(alloc, placed, &places.rows)
+    let ordered = by_weight(alloc, rows, RowOrder::Kept)?;
+    in_front_order(alloc, ordered)
 }
 
 /// The rows that have an entry, from the last to the first. They have the same row space.
@@ -107,6 +110,64 @@ pub fn example_is_turned()
     ensures { IsTurnedExample }
 {}
 
+// The matrix by weight, where the columns aren't many more than the entries: the entries in each are counted.
+fn by_counted_weight(alloc: Global, rows: &Rows, order: RowOrder) -> Result<Rows, AllocError>
+    ensures rank { IfOk result (KeepsRank rows.now) }
+    ensures shape { IfOk result (λ made. HasRarestFirst made.matrix) }
+{
+    // The contract of this call tells that the rows are a matrix of residues.
+    rows.is_sound();
+    let weights = rows.column_weights(alloc)?;
+    let filled = rows.filled(alloc)?;
+    if weights.len() > filled.len() {
+        let columns = rows_as_columns(alloc, rows, numbers(alloc, &weights)?)?;
+        return from_columns(alloc, columns, order);
+    }
+    with_rarest_first(alloc, rows, weights, order.of(filled), &[])
+}
+
+// A matrix by weight in the order of a front.
+fn in_front_order(alloc: Global, rows: Rows) -> Result<Rows, AllocError>
+    requires { HasRarestFirst rows.matrix }
+    ensures rank { IfOk result (KeepsRank rows) }
+    ensures shape { IfOk result (λ made. HasRarestFirst made.matrix) }
+{
+    // The contract of this call tells that the rows are a matrix of residues.
+    rows.is_sound();
+    let places = FrontPlaces::of(alloc, &rows)?;
+    let weights = rows.column_weights(alloc)?;
+    let filled = rows.filled(alloc)?;
+    // In fact there are no more columns, but the test is shorter than what would tell it.
+    if filled.len() < weights.len() {
+        return Ok(rows);
+    }
+    let order = by_places(alloc, filled, &places.rows)?;
+    let made = with_rarest_first(alloc, &rows, weights, order, &places.columns)?;
+    Ok(made)
+}
+
+// The columns that have an entry, the rarest first, whose weights are given, those of equal weight by their places; and the rows that have
+// one, which are as many or more.
+fn with_rarest_first(
+    alloc: Global,
+    rows: &Rows,
+    weights: Vec<(u32, u32)>,
+    order: Vec<u32>,
+    places: &[u32],
+) -> Result<Rows, AllocError>
+    requires weights { AreWeights (transposed rows.now.matrix) weights.items }
+    requires order { AreFilledInSomeOrder rows.now.matrix order.items }
+    requires few { length weights.items ≤ length order.items }
+    ensures rank { IfOk result (KeepsRank rows.now) }
+    ensures shape { IfOk result (λ made. HasRarestFirst made.matrix) }
+{
+    // The contract of this call tells that the rows are a matrix of residues, and bounds its sizes.
+    rows.is_sound();
+    let columns = rarest_first_by(alloc, &weights, places)?;
+    let made = rearranged(alloc, rows, &order, &columns)?;
+    Ok(made)
+}
+
 // Columns as rows, and which of their columns have an entry, ascending.
 #[derive(Drop)]
 struct Turned {
@@ -114,24 +175,8 @@ struct Turned {
     occupied: Vec<u32>,
 }
 
-// What will be the columns, as rows: the columns that have an entry, the rarest first; or the rows, if fewer of them have one.
-fn columns_by_weight(alloc: Global, rows: &Rows) -> Result<Turned, AllocError>
-    ensures { IfOk result (λ made. HasColumnsByWeight rows.now made.columns made.occupied.items) }
-{
-    if rows.is_wide() {
-        return columns_of_wide(alloc, rows);
-    }
-    // The contract of this call tells that the rows are a matrix of residues.
-    rows.is_sound();
-    let weights = rows.column_weights(alloc)?;
-    let filled = rows.filled(alloc)?;
-    if weights.len() > filled.len() {
-        return rows_as_columns(alloc, rows, numbers(alloc, &weights)?);
-    }
-    counted_columns(alloc, rows, weights, filled)
-}
-
-// The same, where the columns are many more than the entries, so that to count in each takes too long.
+// What will be the columns, as rows, where the columns are many more than the entries, so that to count in each takes too long: those
+// that have an entry, the rarest first; or the rows, if fewer of them have one.
 fn columns_of_wide(alloc: Global, rows: &Rows) -> Result<Turned, AllocError>
     ensures { IfOk result (λ made. HasColumnsByWeight rows.now made.columns made.occupied.items) }
 {
@@ -161,27 +206,6 @@ fn rows_as_columns(alloc: Global, rows: &Rows, occupied: Vec<u32>) -> Result<Tur
     })
 }
 
-// The columns that have an entry, the rarest first, whose weights are given, and which rows have one, which are as many or more.
-fn counted_columns(
-    alloc: Global,
-    rows: &Rows,
-    weights: Vec<(u32, u32)>,
-    filled: Vec<u32>,
-) -> Result<Turned, AllocError>
-    requires weights { AreWeights (transposed rows.now.matrix) weights.items }
-    requires filled { AreFilled rows.now.matrix filled.items }
-    requires few { length weights.items ≤ length filled.items }
-    ensures { IfOk result (λ made. HasColumnsByWeight rows.now made.columns made.occupied.items) }
-{
-    // The contract of this call tells that the rows are a matrix of residues.
-    rows.is_sound();
-    let order = rarest_first(alloc, weights)?;
-    Ok(Turned {
-        columns: columns_in_order(alloc, rows, &order)?,
-        occupied: filled,
-    })
-}
-
 // The matrix with these columns, of which the rows that have an entry stand in the given order.
 fn from_columns(alloc: Global, turned: Turned, order: RowOrder) -> Result<Rows, AllocError>
     requires shape { HasFewRisingRows turned.columns.matrix }
@@ -192,35 +216,6 @@ fn from_columns(alloc: Global, turned: Turned, order: RowOrder) -> Result<Rows, 
     // The contract of this call tells that the columns are a matrix of residues.
     turned.columns.is_sound();
     let order = order.of(turned.occupied);
-    columns_in_order(alloc, &turned.columns, &order)
-}
-
-// Columns by weight, those of equal weight by their places.
-fn in_places(alloc: Global, turned: Turned, places: &[u32]) -> Result<Turned, AllocError>
-    requires shape { HasFewRisingRows turned.columns.matrix }
-    requires occupied { AreOccupied turned.columns.matrix turned.occupied.items }
-    ensures { IfOk result (λ made. HasColumnsByWeight turned.columns made.columns made.occupied.items) }
-{
-    // The contract of this call tells that the columns are a matrix of residues.
-    turned.columns.is_sound();
-    let weights = turned.columns.row_weights(alloc)?;
-    let order = rarest_first_by(alloc, &weights, places)?;
-    Ok(Turned {
-        columns: rows_in_order(alloc, &turned.columns, &order)?,
-        occupied: turned.occupied,
-    })
-}
-
-// The matrix with these columns, of which the rows that have an entry stand by their places.
-fn from_front(alloc: Global, turned: Turned, places: &[u32]) -> Result<Rows, AllocError>
-    requires shape { HasFewRisingRows turned.columns.matrix }
-    requires occupied { AreOccupied turned.columns.matrix turned.occupied.items }
-    ensures rank { IfOk result (KeepsRank turned.columns) }
-    ensures shape { IfOk result (λ made. HasRarestFirst made.matrix) }
-{
-    // The contract of this call tells that the columns are a matrix of residues.
-    turned.columns.is_sound();
-    let order = by_places(alloc, turned.occupied, places)?;
     columns_in_order(alloc, &turned.columns, &order)
 }
 
