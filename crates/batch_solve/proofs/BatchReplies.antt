@@ -7,8 +7,7 @@ use Rattle.std.proofs.lemmas.List.Elements.{All-cons, All-nil}
 use Rattle.residue_words.specs.Residues.{IsPrime}
 use Rattle.residue_words.specs.Matrix.{Matrix, IsMatrix, row}
 use Rattle.row_space.proofs.Solvable.{refuted}
-use Rattle.sparse_rows.specs.Rows.{ResidueMatrix}
-use Rattle.sparse_rows.specs.declared.rows.TheConstants.{LARGEST_SIZE}
+use Rattle.sparse_rows.specs.Rows.{ResidueMatrix, LARGEST_SIZE}
 use Rattle.sms_text.specs.Written.{text_of}
 use Rattle.kernel_solve.specs.declared.prepared.Reply.{Reply}
 use Rattle.kernel_solve.specs.declared.prepared.Reply.TheVariants.{Solution, Refuted}

@@ -3,8 +3,7 @@ use Rattle.std.proofs.Common.{ℕ, zero, suc, Bool, true, false, ◌≡◌, ◌�
 use Rattle.std.specs.Prelude.{◌==◌, ◌&&◌, nat_lt, if◌then◌else◌, All}
 use Rattle.std.proofs.lemmas.Bool.Decides.{nat_tests}
 use Rattle.residue_words.specs.Matrix.{Matrix}
-use Rattle.sparse_rows.specs.Rows.{ResidueMatrix}
-use Rattle.sparse_rows.specs.declared.rows.TheConstants.{LARGEST_SIZE}
+use Rattle.sparse_rows.specs.Rows.{ResidueMatrix, LARGEST_SIZE}
 use Rattle.batch_solve.specs.declared.batch_status.BatchStatus.{BatchStatus}
 use Rattle.batch_solve.specs.declared.batch_status.BatchStatus.TheVariants.{Shape, Wide}
 use Rattle.batch_solve.specs.BatchAnswers.{batch_misfit, first_misshapen}

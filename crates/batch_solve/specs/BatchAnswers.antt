@@ -1,7 +1,7 @@
 -- What a batch is answered: the matrix and the right-hand sides are refused for their shapes, or each right-hand side has its answer.
 use Rattle.std.specs.Prelude.{◌≡◌, ◌+◌, ◌==◌, ◌&&◌, nat_lt, if◌then◌else◌, ℕ, List, [], ◌∷◌, ◌++◌, Option, None, Some}
 use Rattle.residue_words.specs.Matrix.{Matrix}
-use Rattle.sparse_rows.specs.declared.rows.TheConstants.{LARGEST_SIZE}
+use Rattle.sparse_rows.specs.Rows.{LARGEST_SIZE}
 use Rattle.kernel_solve.specs.Column.{column}
 use Rattle.spasm_run.specs.Answers.{SolvesTo}
 use Rattle.batch_solve.specs.declared.batch_status.BatchStatus.{BatchStatus}

@@ -2,7 +2,7 @@
 use Rattle.std.specs.Prelude.{◌≡◌, List, [], ◌∷◌, None, Some, codes}
 use Rattle.row_space.specs.Example.{example, example_kernel}
 use Rattle.kernel_solve.specs.Column.{column_matrix}
-use Rattle.sparse_rows.specs.declared.rows.TheConstants.{LARGEST_SIZE}
+use Rattle.sparse_rows.specs.Rows.{LARGEST_SIZE}
 use Rattle.batch_solve.specs.declared.batch_status.BatchStatus.TheVariants.{Shape, Wide}
 use Rattle.batch_solve.specs.BatchAnswers.{batch_misfit}
 use Rattle.batch_solve.specs.BatchStatus.{batch_code, shape_line}

@@ -1,8 +1,7 @@
 // Whether a certificate's last matrix shows the echelon form, or the kernel basis.
 ghost use Rattle.std.specs.Prelude.{◌≡◌, ◌<◌, ◌≤◌, ◌↔◌, length, All, IfOk, IsTrue};
 ghost use Rattle.row_space.specs.Factors.{ShowsKernel, ShowsRref};
-ghost use Rattle.sparse_rows.specs.declared.rows.TheConstants.{LARGEST_SIZE};
-ghost use Rattle.sparse_rows.specs.Rows.{AreBelow, matrix_by, selected, transposed};
+ghost use Rattle.sparse_rows.specs.Rows.{LARGEST_SIZE, AreBelow, matrix_by, selected, transposed};
 ghost use Rattle.cert_checker.specs.OuterOnes.{AreSingle};
 ghost use Rattle.cert_checker.specs.Product.{IsProduct};
 

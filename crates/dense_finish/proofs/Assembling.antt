@@ -8,8 +8,7 @@ use Rattle.residue_words.proofs.Sums.{sum_equal, sum_zero}
 use Rattle.residue_words.proofs.Vectors.{at_combine, entry_residue, length_list_of, list_equal}
 use Rattle.row_space.specs.Factors.{FitAsFactors, col_at, row_at}
 use Rattle.row_space.proofs.Counting.{pigeonhole}
-use Rattle.sparse_rows.specs.Rows.{ResidueMatrix}
-use Rattle.sparse_rows.specs.declared.rows.TheConstants.{LARGEST_SIZE}
+use Rattle.sparse_rows.specs.Rows.{ResidueMatrix, LARGEST_SIZE}
 use Rattle.dense_finish.specs.declared.pivots.Pivots.{Pivots}
 use Rattle.dense_finish.specs.declared.right_factor.RightFactor.{RightFactor}
 use Rattle.dense_finish.specs.Block.{DenseBlock, IsBlock, IsBlockOf, IsDense, with_entries}

@@ -1,8 +1,7 @@
 -- The dense block of a matrix: its rows, and what they are.
 use Rattle.std.specs.Prelude.{◌≡◌, ◌<◌, ◌≤◌, ℕ, List, length, slice_index}
 use Rattle.residue_words.specs.Matrix.{Matrix, IsMatrix, entry}
-use Rattle.sparse_rows.specs.Rows.{AreBelow, AreFilled, AreOccupied, AreRising, ResidueMatrix}
-use Rattle.sparse_rows.specs.declared.rows.TheConstants.{LARGEST_SIZE}
+use Rattle.sparse_rows.specs.Rows.{AreBelow, AreFilled, AreOccupied, AreRising, ResidueMatrix, LARGEST_SIZE}
 use Rattle.dense_rows.specs.Rows.{AreVectors, entry_of}
 use Rattle.dense_finish.specs.declared.elimination.RowRange.{RowRange}
 

@@ -5,9 +5,8 @@ use Rattle.residue_words.specs.Residues.{IsPrime}
 use Rattle.residue_words.specs.declared.plain.Pair.{Pair}
 use Rattle.row_space.specs.Factors.{row_at, col_at}
 use Rattle.row_space.specs.Rows.{HasSteps}
-use Rattle.sparse_rows.specs.Rows.{AreBelow, AreRising}
+use Rattle.sparse_rows.specs.Rows.{AreBelow, AreRising, LARGEST_SIZE}
 use Rattle.sparse_rows.specs.Stored.{with_row}
-use Rattle.sparse_rows.specs.declared.rows.TheConstants.{LARGEST_SIZE}
 use Rattle.dense_finish.specs.Block.{DenseBlock, IsDense, with_entries}
 use Rattle.dense_rows.specs.Rows.{AreVectors, block_row, entry_of}
 use Rattle.dense_rows.specs.Dense.{IsTaken, Scatters}

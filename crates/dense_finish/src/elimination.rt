@@ -2,8 +2,7 @@
 ghost use Rattle.std.specs.Prelude.{◌<◌, ◌≤◌, length, IfOk, OnOk};
 ghost use Rattle.residue_words.specs.Matrix.{IsVector};
 ghost use Rattle.residue_words.specs.Residues.{IsPrime};
-ghost use Rattle.sparse_rows.specs.Rows.{AreBelow, AreRising};
-ghost use Rattle.sparse_rows.specs.declared.rows.TheConstants.{LARGEST_SIZE};
+ghost use Rattle.sparse_rows.specs.Rows.{AreBelow, AreRising, LARGEST_SIZE};
 ghost use Rattle.dense_finish.specs.Block.{AreLastRowsOf, AreRowsOf, IsDense};
 ghost use Rattle.dense_rows.specs.Rows.{AreVectors};
 ghost use Rattle.dense_panels.specs.Pieces.{AreNewShares};

@@ -1,8 +1,7 @@
 // Factors of a matrix.
 ghost use Rattle.std.specs.Prelude.{◌≡◌, ◌<◌, ◌≤◌, ◌-◌, ℕ, length, slice_index, IfOk, OnOk};
 ghost use Rattle.residue_words.specs.Matrix.{IsMatrix};
-ghost use Rattle.sparse_rows.specs.Rows.{AreRising, with_zeros};
-ghost use Rattle.sparse_rows.specs.declared.rows.TheConstants.{LARGEST_SIZE};
+ghost use Rattle.sparse_rows.specs.Rows.{AreRising, with_zeros, LARGEST_SIZE};
 ghost use Rattle.dense_finish.specs.Block.{IsDense};
 ghost use Rattle.dense_finish.specs.Factors.{IsLeftFactor};
 ghost use Rattle.dense_finish.specs.Pivots.{AreBlockFactors, StandIn};

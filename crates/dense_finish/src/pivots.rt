@@ -1,8 +1,7 @@
 // The pivots that an elimination finds.
 ghost use Rattle.std.specs.Prelude.{◌≡◌, ◌<◌, ◌≤◌, ℕ, length, slice_index, IfOk, OnOk};
 ghost use Rattle.residue_words.specs.Matrix.{IsVector};
-ghost use Rattle.sparse_rows.specs.Rows.{AreBelow};
-ghost use Rattle.sparse_rows.specs.declared.rows.TheConstants.{LARGEST_SIZE};
+ghost use Rattle.sparse_rows.specs.Rows.{AreBelow, LARGEST_SIZE};
 ghost use Rattle.dense_rows.specs.Dense.{AppendsScattered, CanAppend};
 
 use crate::elimination::Elimination;

@@ -2,8 +2,7 @@
 ghost use Rattle.std.specs.Prelude.{◌≡◌, ◌<◌, ◌≤◌, ℕ, false, length, slice_index, IfOk, OnOk};
 ghost use Rattle.std.specs.List.{range_with_len};
 ghost use Rattle.residue_words.specs.Matrix.{IsVector};
-ghost use Rattle.sparse_rows.specs.Rows.{AreBelow};
-ghost use Rattle.sparse_rows.specs.declared.rows.TheConstants.{LARGEST_SIZE};
+ghost use Rattle.sparse_rows.specs.Rows.{AreBelow, LARGEST_SIZE};
 ghost use Rattle.dense_rows.specs.Dense.{AppendsGathered};
 ghost use Rattle.dense_finish.specs.RowRoom.{ServesRows};
 

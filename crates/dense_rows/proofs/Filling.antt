@@ -6,7 +6,7 @@ use Rattle.residue_words.specs.Matrix.{Matrix, IsVector, entry, row, zeros}
 use Rattle.residue_words.proofs.Vectors.{at_zeros}
 use Rattle.sparse_rows.specs.Rows.{AreOccupied, AreRising, nonzeros, support}
 use Rattle.sparse_rows.specs.Stored.{entry_at}
-use Rattle.sparse_rows.proofs.Renaming.{rising_order}
+use Rattle.sparse_rows.proofs.Rising.{rising_order}
 use Rattle.sparse_rows.proofs.Spread.{entry_here, entry_push_other, entry_push_same, entry_support}
 use Rattle.dense_rows.proofs.Indexing.{stands_at}
 use Rattle.dense_rows.proofs.TakingOut.{vector_set}

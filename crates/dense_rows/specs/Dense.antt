@@ -2,9 +2,8 @@
 use Rattle.std.specs.Prelude.{◌≡◌, ◌≢◌, ◌<◌, ◌≤◌, ◌+◌, ◌*◌, ◌%◌, ℕ, Bool, true, false, List, length, slice_index, slice_index_or}
 use Rattle.residue_words.specs.Matrix.{IsVector}
 use Rattle.residue_words.specs.Residues.{IsPrime}
-use Rattle.sparse_rows.specs.Rows.{AreBelow, AreRising, ResidueMatrix}
+use Rattle.sparse_rows.specs.Rows.{AreBelow, AreRising, ResidueMatrix, LARGEST_SIZE}
 use Rattle.sparse_rows.specs.Stored.{entry_at, with_row}
-use Rattle.sparse_rows.specs.declared.rows.TheConstants.{LARGEST_SIZE}
 
 -- one of the first r pivots stands at column j
 abbrev pub IsTaken : ℕ → (ℕ → ℕ) → ℕ → Type 0

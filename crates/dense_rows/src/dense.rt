@@ -1,10 +1,8 @@
 // One dense row.
 ghost use Rattle.std.specs.Prelude.{◌≡◌, ◌≢◌, ◌<◌, ◌≤◌, ◌+◌, ◌-◌, ℕ, [], drop, length, map, slice_index, slice_set, false, IfOk, OnOk, IfSome, IfNone};
 ghost use Rattle.residue_words.specs.Matrix.{IsVector, zeros};
-ghost use Rattle.sparse_rows.specs.Rows.{AreRising};
-ghost use Rattle.sparse_rows.specs.declared.rows.TheConstants.{LARGEST_SIZE};
+ghost use Rattle.sparse_rows.specs.Rows.{AreRising, LARGEST_SIZE, AreBelow};
 ghost use Rattle.dense_rows.specs.Dense.{AreEntriesAt, ClearsTaken, Gathers, HasNoPivot, IsZeroAtFree, IsCleared, IsFirstFree, IsPivotOf, KeepsCoefficients, Scatters, TakesOut};
-ghost use Rattle.sparse_rows.specs.Rows.{AreBelow};
 ghost use Rattle.dense_rows.specs.Multiples.{IsChangedFrom, plus_at, plus_multiple};
 ghost use Rattle.dense_rows.specs.Products.{IsWritten};
 ghost use Rattle.dense_rows.specs.declared.products.TheConstants.{PANEL};

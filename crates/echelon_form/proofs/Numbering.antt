@@ -8,7 +8,7 @@ use Rattle.std.proofs.lemmas.Bool.{cases_eq, cases_lt}
 use Rattle.std.proofs.lemmas.List.{get_or_default}
 use Rattle.std.proofs.lemmas.List.Edits.{swapped_from_swap, length-swap}
 use Rattle.std.proofs.lemmas.List.Sorted.{IsPermutation-keeps}
-use Rattle.sparse_rows.proofs.Permuting.{at_turned, turned, turned_back, turned_below}
+use Rattle.sparse_rows.proofs.Exchanging.{at_turned, turned, turned_back, turned_below}
 use Rattle.lead_rows.specs.Leads.{KeptRows, IsSound}
 use Rattle.echelon_form.specs.Settling.{IsOrderOfLeads}
 

@@ -10,7 +10,8 @@ use Rattle.row_space.specs.Echelon.{HasLeads, HasRank, IsRref, SameSpan}
 use Rattle.row_space.proofs.Spans.{same_span_of_rows}
 use Rattle.sparse_rows.specs.Rows.{AreEnough, AreRising, narrowed, widened}
 use Rattle.sparse_rows.specs.Stored.{entry_at}
-use Rattle.sparse_rows.proofs.Renaming.{rising_order, rising_short, widened_narrowed}
+use Rattle.sparse_rows.proofs.Rising.{rising_order, rising_short}
+use Rattle.sparse_rows.proofs.Renaming.{widened_narrowed}
 use Rattle.sparse_rows.proofs.Spread.{entry_cover, entry_here}
 use Rattle.echelon_form.specs.Form.{Form, IsEchelon, IsFormOf, widened_form}
 

@@ -1,7 +1,6 @@
 // The form, as callers see it.
 ghost use Rattle.std.specs.Prelude.{◌≡◌, ◌<◌, ◌≤◌, ℕ, length, slice_index, IfOk};
-ghost use Rattle.sparse_rows.specs.Rows.{AreRising};
-ghost use Rattle.sparse_rows.specs.declared.rows.TheConstants.{LARGEST_SIZE};
+ghost use Rattle.sparse_rows.specs.Rows.{AreRising, LARGEST_SIZE};
 ghost use Rattle.echelon_form.specs.Form.{IsEchelon, IsFormOf, widened_form};
 
 use crate::lead_order::{leads_of, named, order_of};

@@ -10,7 +10,7 @@ use Rattle.std.proofs.lemmas.List.Sorted.{Contains-permutation, IsPermutation-sy
 use Rattle.residue_words.specs.Matrix.{Matrix, IsMatrix, row, entry}
 use Rattle.residue_words.proofs.Lists.{not_in_nil, place_in}
 use Rattle.sparse_rows.specs.Rows.{IsZeroRow, support}
-use Rattle.sparse_rows.proofs.Renaming.{rising_short}
+use Rattle.sparse_rows.proofs.Rising.{rising_short}
 use Rattle.sparse_rows.proofs.Supports.{at_support, in_support, row_sparse}
 use Rattle.pivot_table.specs.History.{row_weight}
 use Rattle.fl_pivots.specs.declared.beginning.Beginning.{Beginning}

@@ -2,9 +2,8 @@
 use Rattle.std.specs.Prelude.{◌≡◌, ◌≢◌, ◌<◌, ◌≤◌, ◌⊎◌, ◌+◌, ◌-◌, ◌==◌, if◌then◌else◌, ℕ, List, [], ◌∷◌, length, map}
 use Rattle.std.specs.Prelude.{slice_index}
 use Rattle.residue_words.specs.Matrix.{Matrix, list_of, row}
-use Rattle.sparse_rows.specs.Rows.{ResidueMatrix}
+use Rattle.sparse_rows.specs.Rows.{ResidueMatrix, LARGEST_SIZE}
 use Rattle.sparse_rows.specs.Stored.{spread}
-use Rattle.sparse_rows.specs.declared.rows.TheConstants.{LARGEST_SIZE}
 use Rattle.lead_rows.specs.Leads.{KeptRows}
 use Rattle.echelon_form.specs.Settling.{AreSettled, IsOrderOfLeads}
 

@@ -4,7 +4,7 @@ ghost use Rattle.residue_words.specs.Matrix.{IsCombination};
 ghost use Rattle.residue_words.specs.Residues.{IsPrime};
 ghost use Rattle.row_space.specs.Echelon.{HasRank};
 ghost use Rattle.sparse_rows.specs.Stored.{IsSparse, spread};
-ghost use Rattle.sparse_rows.specs.declared.rows.TheConstants.{LARGEST_SIZE};
+ghost use Rattle.sparse_rows.specs.Rows.{LARGEST_SIZE};
 ghost use Rattle.lead_rows.specs.Accumulator.{IsClear};
 ghost use Rattle.grow_form.specs.Growing.{AppendsRow, AreRowsOfForm, SpansRowsOf, without_rows};
 ghost use Rattle.grow_form.specs.Numbering.{AreKeptByNumbers, HasRoomFor, HaveCome, seen_matrix, seen_rows};

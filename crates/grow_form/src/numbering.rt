@@ -1,8 +1,7 @@
 // Columns that get numbers as they come.
 ghost use Rattle.std.specs.Prelude.{◌≡◌, ◌≢◌, ◌<◌, ◌≤◌, ◌+◌, ◌↔◌, true, length, slice_index, IfOk, IfNone, IfSome, OnOk};
-ghost use Rattle.sparse_rows.specs.Rows.{AreBelow};
+ghost use Rattle.sparse_rows.specs.Rows.{AreBelow, LARGEST_SIZE};
 ghost use Rattle.sparse_rows.specs.Stored.{IsSparse};
-ghost use Rattle.sparse_rows.specs.declared.rows.TheConstants.{LARGEST_SIZE};
 ghost use Rattle.grow_form.specs.Numbering.{AreUsed, ComesBehind, HasRoomFor, HaveCome, IsNumbering};
 ghost use Rattle.grow_form.specs.Numbering.{IsRowAtColumns, IsRowByNumbers, no_columns, number_of, with_numbers};
 

@@ -1,7 +1,7 @@
 // Lines of scripts.
 ghost use Rattle.std.specs.Prelude.{◌≡◌, ◌≤◌, ◌<◌, false, true, length, IfOk, MatchOption, OnErr};
 ghost use Rattle.sms_text.specs.OuterLines.{are_terms, is_script};
-ghost use Rattle.sparse_rows.specs.declared.rows.TheConstants.{LARGEST_SIZE};
+ghost use Rattle.sparse_rows.specs.Rows.{LARGEST_SIZE};
 ghost use Rattle.grow_form.specs.Script.{IsScriptLine, IsTermsRow, terms_of};
 
 use residue_words::Modulus;

@@ -1,6 +1,6 @@
 // Scripts behind a matrix.
 ghost use Rattle.std.specs.Prelude.{◌≡◌, ◌≤◌, ◌<◌, [], ◌∷◌, All, None, IfOk, OnOk};
-ghost use Rattle.sparse_rows.specs.declared.rows.TheConstants.{LARGEST_SIZE};
+ghost use Rattle.sparse_rows.specs.Rows.{LARGEST_SIZE};
 ghost use Rattle.sms_text.specs.OuterLines as form;
 ghost use Rattle.sms_text.specs.Parts.{PartDid, wants};
 ghost use Rattle.sms_text.specs.Reading.{input};

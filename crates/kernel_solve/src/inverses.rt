@@ -2,8 +2,7 @@
 ghost use Rattle.std.specs.Prelude.{◌≡◌, ◌<◌, ◌≤◌, ◌+◌, ◌*◌, ◌-◌, ◌↔◌, ℕ, length, slice_index, IfOk, IfSome, OnOk, IsTrue};
 ghost use Rattle.residue_words.specs.Residues.{IsPrime};
 ghost use Rattle.residue_words.specs.Matrix.{Matrix, IsMatrix, entry, list_of, row, zeros};
-ghost use Rattle.sparse_rows.specs.declared.rows.TheConstants.{LARGEST_SIZE};
-ghost use Rattle.sparse_rows.specs.Rows.{beside, identity, matrix_by};
+ghost use Rattle.sparse_rows.specs.Rows.{LARGEST_SIZE, beside, identity, matrix_by};
 ghost use Rattle.row_space.specs.Kernel.{IsKernel};
 ghost use Rattle.echelon_form.specs.Form.{IsFormOf};
 ghost use Rattle.kernel_solve.specs.Inverted.{HasInverseShape, Inverts, IsDoubled, IsSquareOf, TellsInverse};

@@ -2,8 +2,7 @@
 ghost use Rattle.std.specs.Prelude.{◌≡◌, ◌<◌, ◌≤◌, ◌+◌, ◌-◌, ◌↔◌, ℕ, length, slice_index, slice_set, IfOk, OnOk, IsTrue};
 ghost use Rattle.residue_words.specs.Residues.{IsPrime};
 ghost use Rattle.residue_words.specs.Matrix.{Matrix, IsMatrix, zeros};
-ghost use Rattle.sparse_rows.specs.declared.rows.TheConstants.{LARGEST_SIZE};
-ghost use Rattle.sparse_rows.specs.Rows.{beside};
+ghost use Rattle.sparse_rows.specs.Rows.{LARGEST_SIZE, beside};
 ghost use Rattle.sparse_rows.specs.Stored.{with_row};
 ghost use Rattle.row_space.specs.Solution.{refuting_rows, refuting_side};
 ghost use Rattle.echelon_form.specs.Form.{IsFormOf};

@@ -5,9 +5,8 @@ use Rattle.residue_words.specs.Matrix.{Matrix, IsVector, list_of, row}
 use Rattle.residue_words.specs.declared.modulus.TheConstants.{MODULUS_BOUND}
 use Rattle.row_space.specs.Rows.{DiffersBy, of_rows}
 use Rattle.sparse_rows.specs.ColumnSet.{AllZero}
-use Rattle.sparse_rows.specs.Rows.{ResidueRow}
+use Rattle.sparse_rows.specs.Rows.{ResidueRow, LARGEST_SIZE}
 use Rattle.sparse_rows.specs.Stored.{spread, with_row}
-use Rattle.sparse_rows.specs.declared.rows.TheConstants.{LARGEST_SIZE}
 use Rattle.lead_rows.specs.Accumulator.{IsClear}
 use Rattle.lead_rows.specs.Leads.{KeptRows}
 use Rattle.lead_rows.specs.declared.led.Led.{Led}

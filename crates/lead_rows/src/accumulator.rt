@@ -4,8 +4,7 @@ ghost use Rattle.residue_words.specs.Matrix.{IsVector, zeros};
 ghost use Rattle.residue_words.specs.declared.shoup.TheConstants.{LANE_BOUND};
 ghost use Rattle.sparse_rows.specs.ColumnSet.{AllZero, TakesFirst};
 ghost use Rattle.sparse_rows.specs.Stored.{IsSparse};
-ghost use Rattle.sparse_rows.specs.Rows.{AddsAt, AddsMultiple};
-ghost use Rattle.sparse_rows.specs.declared.rows.TheConstants.{LARGEST_SIZE};
+ghost use Rattle.sparse_rows.specs.Rows.{AddsAt, AddsMultiple, LARGEST_SIZE};
 ghost use Rattle.lead_rows.specs.Accumulator.{AddsBelow, IsAlike, limit_of};
 ghost use Rattle.lead_rows.specs.Scattered.{IsScattered};
 

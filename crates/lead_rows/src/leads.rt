@@ -3,7 +3,7 @@ ghost use Rattle.std.specs.Prelude.{◌≡◌, ◌<◌, ◌≤◌, ◌+◌, leng
 ghost use Rattle.residue_words.specs.Matrix.{IsVector};
 ghost use Rattle.sparse_rows.specs.ColumnSet.{AllZero};
 ghost use Rattle.sparse_rows.specs.Stored.{IsSparse, spread};
-ghost use Rattle.sparse_rows.specs.declared.rows.TheConstants.{LARGEST_SIZE};
+ghost use Rattle.sparse_rows.specs.Rows.{LARGEST_SIZE};
 ghost use Rattle.lead_rows.specs.Accumulator.{IsClear};
 ghost use Rattle.lead_rows.specs.Leads.{Inserts, IsRest, IsSettled, IsSound, behind_zeros, no_rows, spread_in};
 ghost use Rattle.lead_rows.specs.Led.{CanTake, Drains, Extends, IsKept, IsLed, IsNewLead, IsZeroAtLeads};

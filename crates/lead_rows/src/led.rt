@@ -1,8 +1,7 @@
 // One kept row.
 ghost use Rattle.std.specs.Prelude.{◌≡◌, ◌<◌, ◌≤◌, ◌+◌, ◌++◌, length, slice_index, IfOk};
 ghost use Rattle.residue_words.specs.Matrix.{zeros};
-ghost use Rattle.sparse_rows.specs.Rows.{support};
-ghost use Rattle.sparse_rows.specs.declared.rows.TheConstants.{LARGEST_SIZE};
+ghost use Rattle.sparse_rows.specs.Rows.{support, LARGEST_SIZE};
 ghost use Rattle.lead_rows.specs.Led.{IsTailOf};
 
 use sparse_rows::Sparse;

@@ -3,8 +3,7 @@ ghost use Rattle.std.specs.Prelude.{◌≡◌, ◌<◌, ◌≤◌, [], length, s
 ghost use Rattle.std.specs.List.{Contains};
 ghost use Rattle.pivot_table.specs.Greedy.{IsGreedy};
 ghost use Rattle.pivot_table.specs.History.{StartsWith};
-ghost use Rattle.sparse_rows.specs.Rows.{AreEnough, AreRising, narrowed};
-ghost use Rattle.sparse_rows.specs.declared.rows.TheConstants.{LARGEST_SIZE};
+ghost use Rattle.sparse_rows.specs.Rows.{AreEnough, AreRising, narrowed, LARGEST_SIZE};
 ghost use Rattle.optimistic_search.specs.Renamed.{AreInside, renamed};
 ghost use Rattle.pivot_table.specs.Book.{HasRoom};
 

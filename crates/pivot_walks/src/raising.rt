@@ -1,7 +1,7 @@
 // Levels raised until they rise along each step.
 ghost use Rattle.std.specs.Prelude.{◌≡◌, ◌<◌, ◌≤◌, ◌⊎◌, ℕ, [], length};
 ghost use Rattle.std.specs.List.{Contains};
-ghost use Rattle.sparse_rows.specs.declared.rows.TheConstants.{LARGEST_SIZE};
+ghost use Rattle.sparse_rows.specs.Rows.{LARGEST_SIZE};
 ghost use Rattle.pivot_table.specs.History.{Grown, HasCol};
 ghost use Rattle.pivot_walks.specs.Budget.{StaysUnbounded};
 ghost use Rattle.pivot_walks.specs.Levels.{AreLevels, AreRaised, AreRaisedBut};

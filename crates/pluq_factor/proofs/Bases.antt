@@ -6,8 +6,7 @@ use Rattle.residue_words.specs.Matrix.{Matrix, IsMatrix}
 use Rattle.row_space.specs.Echelon.{IsIndependent, SameSpan}
 use Rattle.row_space.proofs.Counting.{independent_height}
 use Rattle.row_space.proofs.Spans.{places_independent}
-use Rattle.sparse_rows.specs.Rows.{ResidueMatrix, above}
-use Rattle.sparse_rows.specs.declared.rows.TheConstants.{LARGEST_SIZE}
+use Rattle.sparse_rows.specs.Rows.{ResidueMatrix, above, LARGEST_SIZE}
 use Rattle.triangular_solve.specs.Reduced.{IsComplement}
 use Rattle.dense_finish.specs.Factors.{IsRightFactored}
 use Rattle.dense_finish.specs.declared.right_factor.RightFactor.{RightFactor}

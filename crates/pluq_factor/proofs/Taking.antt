@@ -5,8 +5,7 @@ use Rattle.residue_words.specs.declared.plain.Pair.{Pair}
 use Rattle.residue_words.specs.Residues.{IsPrime}
 use Rattle.residue_words.specs.Matrix.{IsMatrix}
 use Rattle.row_space.specs.Factors.{row_at}
-use Rattle.sparse_rows.specs.Rows.{ResidueMatrix}
-use Rattle.sparse_rows.specs.declared.rows.TheConstants.{LARGEST_SIZE}
+use Rattle.sparse_rows.specs.Rows.{ResidueMatrix, LARGEST_SIZE}
 use Rattle.pivot_table.specs.Order.{Triangular}
 use Rattle.pivot_table.specs.Selected.{Selected}
 use Rattle.triangular_solve.specs.Triangle.{TriangleState}

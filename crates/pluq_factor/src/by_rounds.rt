@@ -1,8 +1,7 @@
 // Factors by rounds.
 ghost use Rattle.std.specs.Prelude.{◌≡◌, ◌≤◌, ◌+◌, ◌++◌, IfOk};
 ghost use Rattle.residue_words.specs.Residues.{IsPrime};
-ghost use Rattle.sparse_rows.specs.declared.rows.TheConstants.{LARGEST_SIZE};
-ghost use Rattle.sparse_rows.specs.Rows.{above};
+ghost use Rattle.sparse_rows.specs.Rows.{LARGEST_SIZE, above};
 ghost use Rattle.pluq_factor.specs.Joined.{JoinRound, EmptyWhereMany, FitsRoundAbove, JoinsWhereFew, pivot_count, top_of};
 ghost use Rattle.pluq_factor.specs.Rounds.{AreFactorsOf, AreWithoutPivots};
 ghost use Rattle.pluq_factor.specs.Staged.{Staged};

@@ -12,7 +12,7 @@ use Rattle.atomic_table.proofs.Lists.{at_set, at_snoc, at_longer, set_here, set_
 use Rattle.crossbeam_channel.specs.Fifo.{Pushes, Pops, Forks}
 use Rattle.residue_words.proofs.Lists.{contains_at, in_cases, in_head, not_in_nil}
 use Rattle.sparse_rows.specs.Rows.{AreRising}
-use Rattle.sparse_rows.proofs.Occurring.{rising_push}
+use Rattle.sparse_rows.proofs.Occurrences.{rising_push}
 use Rattle.question_desk.specs.declared.number_or_end.NumberOrEnd.{NumberOrEnd}
 use Rattle.question_desk.specs.declared.number_or_end.NumberOrEnd.TheVariants.{Number, End}
 use Rattle.question_desk.specs.declared.known_numbers.KnownNumbers.{KnownNumbers}

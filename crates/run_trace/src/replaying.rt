@@ -1,7 +1,6 @@
 // Whether a trace is lawful.
 ghost use Rattle.std.specs.Prelude.{◌≡◌, ◌≤◌, ◌<◌, ◌↔◌, [], ◌∷◌, ◌++◌, None, IfOk, IsTrue, if◌then◌else◌, length, slice_index};
-ghost use Rattle.sparse_rows.specs.Rows.{AreEnough, narrowed};
-ghost use Rattle.sparse_rows.specs.declared.rows.TheConstants.{LARGEST_SIZE};
+ghost use Rattle.sparse_rows.specs.Rows.{AreEnough, narrowed, LARGEST_SIZE};
 ghost use Rattle.pivot_table.specs.History.{Alive};
 ghost use Rattle.optimistic_search.specs.Renamed.{AreInside, renamed};
 ghost use Rattle.run_trace.specs.Lawful.{AreLawful, IsLawfulTrace};

@@ -9,8 +9,7 @@ use Rattle.row_space.specs.Factors.{row_at, col_at}
 use Rattle.std.specs.List.{Contains}
 use Rattle.std.specs.Option.{MatchOption, is_some}
 use Rattle.sparse_rows.specs.Columns.{IsAbsent, IsAt}
-use Rattle.sparse_rows.specs.Rows.{AreFilled, AreRising, ResidueMatrix, support}
-use Rattle.sparse_rows.specs.declared.rows.TheConstants.{LARGEST_SIZE}
+use Rattle.sparse_rows.specs.Rows.{AreFilled, AreRising, ResidueMatrix, support, LARGEST_SIZE}
 use Rattle.sparse_rows.proofs.Supports.{in_support}
 use Rattle.pivot_table.specs.Order.{Triangular}
 use Rattle.triangular_solve.specs.Reduced.{IsPivotRow}

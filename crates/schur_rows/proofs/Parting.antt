@@ -10,8 +10,7 @@ use Rattle.residue_words.proofs.Sums.{sum_zero}
 use Rattle.residue_words.proofs.Vectors.{at_list_of, at_zeros, length_list_of, list_equal, vector_of, zeros_vector}
 use Rattle.row_space.specs.Factors.{row_at, col_at}
 use Rattle.row_space.specs.Inverse.{unit}
-use Rattle.sparse_rows.specs.Rows.{IsNextFilled, IsZeroRow, ResidueMatrix, ResidueRow, above, nonzeros, support}
-use Rattle.sparse_rows.specs.declared.rows.TheConstants.{LARGEST_SIZE}
+use Rattle.sparse_rows.specs.Rows.{IsNextFilled, IsZeroRow, ResidueMatrix, ResidueRow, above, nonzeros, support, LARGEST_SIZE}
 use Rattle.sparse_rows.specs.Stored.{spread}
 use Rattle.sparse_rows.proofs.Spread.{spread_support}
 use Rattle.sparse_rows.proofs.FilledRows.{zero_row}

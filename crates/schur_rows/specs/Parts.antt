@@ -5,8 +5,7 @@ use Rattle.residue_words.specs.Matrix.{Matrix, IsMatrix, IsVector, row, zeros}
 use Rattle.residue_words.specs.Residues.{IsPrime}
 use Rattle.row_space.specs.Factors.{row_at}
 use Rattle.row_space.specs.Inverse.{unit}
-use Rattle.sparse_rows.specs.Rows.{IsNextFilled, IsZeroRow, above, with_zeros}
-use Rattle.sparse_rows.specs.declared.rows.TheConstants.{LARGEST_SIZE}
+use Rattle.sparse_rows.specs.Rows.{IsNextFilled, IsZeroRow, above, with_zeros, LARGEST_SIZE}
 use Rattle.sparse_rows.specs.Stored.{with_row}
 use Rattle.triangular_solve.specs.Reduced.{IsPivotRow, IsReduced, IsSchurRow, Reduction}
 use Rattle.triangular_solve.specs.Triangle.{TriangleState}

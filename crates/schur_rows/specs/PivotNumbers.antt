@@ -2,8 +2,7 @@
 use Rattle.std.specs.Prelude.{◌≡◌, ◌≢◌, ◌<◌, ◌≤◌, ℕ, List, length, slice_index}
 use Rattle.residue_words.specs.declared.plain.Pair.{Pair}
 use Rattle.row_space.specs.Factors.{row_at}
-use Rattle.sparse_rows.specs.Rows.{AreRising}
-use Rattle.sparse_rows.specs.declared.rows.TheConstants.{LARGEST_SIZE}
+use Rattle.sparse_rows.specs.Rows.{AreRising, LARGEST_SIZE}
 use Rattle.schur_rows.specs.declared.pivot_numbers.PivotNumbers.{PivotNumbers}
 use Rattle.schur_rows.specs.declared.pivot_numbers.TheConstants.{NONE}
 

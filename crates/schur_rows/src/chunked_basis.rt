@@ -1,7 +1,6 @@
 // A basis of what a round leaves, made chunk by chunk, without storing it.
 ghost use Rattle.std.specs.Prelude.{◌≡◌, ◌<◌, ◌≤◌, ◌↔◌, ◌+◌, ℕ, length, slice_index, Contains, IfOk, IsTrue};
-ghost use Rattle.sparse_rows.specs.declared.rows.TheConstants.{LARGEST_SIZE};
-ghost use Rattle.sparse_rows.specs.Rows.{AreRising, above};
+ghost use Rattle.sparse_rows.specs.Rows.{LARGEST_SIZE, AreRising, above};
 ghost use Rattle.schur_rows.specs.PivotNumbers.{HasNumbers};
 ghost use Rattle.schur_rows.specs.RestBasis.{IsBasisOf, IsBasisOfBoth, IsBasisWith, IsFullFor, IsRestBasis, HasColumnsLeft};
 

@@ -4,8 +4,7 @@ ghost use Rattle.std.specs.List.{Contains};
 ghost use Rattle.std.specs.Option.{MatchOption};
 ghost use Rattle.row_space.specs.Factors.{row_at};
 ghost use Rattle.sparse_rows.specs.Columns.{IsAbsent, IsAt};
-ghost use Rattle.sparse_rows.specs.Rows.{AreRising};
-ghost use Rattle.sparse_rows.specs.declared.rows.TheConstants.{LARGEST_SIZE};
+ghost use Rattle.sparse_rows.specs.Rows.{AreRising, LARGEST_SIZE};
 ghost use Rattle.triangular_solve.specs.Reduced.{IsPivotRow};
 ghost use Rattle.schur_rows.specs.PivotNumbers.{AreNumbersOf, HasNumbers, IsRowOfPair};
 

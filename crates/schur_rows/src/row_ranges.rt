@@ -1,7 +1,7 @@
 // Parts of what a round leaves: some rows one after another.
 ghost use Rattle.std.specs.Prelude.{◌≡◌, ◌<◌, ◌≤◌, ◌+◌, ◌-◌, ℕ, length, IfOk, IfSome, OnOk};
 ghost use Rattle.std.specs.Option.{MatchOption};
-ghost use Rattle.sparse_rows.specs.declared.rows.TheConstants.{LARGEST_SIZE};
+ghost use Rattle.sparse_rows.specs.Rows.{LARGEST_SIZE};
 ghost use Rattle.lead_rows.specs.Accumulator.{IsAlike};
 ghost use Rattle.triangular_solve.specs.Reduced.{HasSizesOf, workspace_of};
 ghost use Rattle.schur_rows.specs.Parts.{AddsReduced, AddsRow, AddsZeros, AreZeroRows, MayTakeRow, IsNextBelow, IsPartTo, itself};

@@ -1,7 +1,7 @@
 // What a round leaves, made by several workers.
 ghost use Rattle.std.specs.Prelude.{◌≡◌, ◌<◌, ◌≤◌, ◌+◌, All, IfOk, OnOk};
 ghost use Rattle.std.specs.Thread.{IsSync};
-ghost use Rattle.sparse_rows.specs.declared.rows.TheConstants.{LARGEST_SIZE};
+ghost use Rattle.sparse_rows.specs.Rows.{LARGEST_SIZE};
 ghost use Rattle.schur_rows.specs.Parts.{AreDealtRows, IsNumbered, IsPartOf, IsPartTo, IsWorkersShare, IsStage, Joins, cut_at};
 ghost use Rattle.schur_rows.specs.PivotNumbers.{HasNumbers};
 ghost use Rattle.triangular_solve.specs.Reduced.{workspace_of};

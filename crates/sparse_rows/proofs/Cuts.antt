@@ -9,7 +9,8 @@ use Rattle.residue_words.proofs.Vectors.{list_of_equal}
 use Rattle.sparse_rows.specs.declared.values_at_places.Cell.{Cell}
 use Rattle.sparse_rows.specs.Cells.{AreCuts, AreEntries, IsByRows, IsCut, IsWithin, column_of, place_of, row_of, weight}
 use Rattle.sparse_rows.specs.Rows.{matrix_by}
-use Rattle.sparse_rows.specs.Stored.{AreStarts, IsSparse, IsStored, entry_at, part, spread, stored_matrix, stored_row}
+use Rattle.column_lists.specs.Parts.{AreStarts, part}
+use Rattle.sparse_rows.specs.Stored.{IsSparse, IsStored, entry_at, spread, stored_matrix, stored_row}
 use Rattle.sparse_rows.proofs.Spread.{entry_cover, entry_here, map_range_equal}
 use Rattle.sparse_rows.proofs.Summing.{weight_here, weight_none}
 

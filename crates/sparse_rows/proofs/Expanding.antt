@@ -1,5 +1,5 @@
 -- A matrix of which only the rows that have an entry are stored.
-use Rattle.std.proofs.Common.{ℕ, zero, suc, ◌≡◌, ◌≢◌, ◌+◌, ◌<◌, ◌≤◌, ◌⊎◌, inl, inr, Bool, true, false, List, [], ◌∷◌, ◌++◌, length, map, cond, eqb, replicate, slice_index, sym, refl, ap, ap₂, subst, ◌∙◌, arith}
+use Rattle.std.proofs.Common.{ℕ, zero, suc, ◌≡◌, ◌≢◌, ◌+◌, ◌<◌, ◌≤◌, inl, inr, Bool, true, false, List, [], ◌∷◌, ◌++◌, length, map, cond, eqb, replicate, slice_index, sym, refl, ap, ap₂, subst, ◌∙◌, arith}
 use Rattle.std.specs.List.{range_with_len}
 use Rattle.std.proofs.lemmas.Bool.{cases_eq, cases_lt, cond-true, cond-false, eq-eqb, false≢true, ne_eqb}
 use Rattle.std.proofs.lemmas.List.{append-nil, append_assoc, get_or_append_left, get_or_past, get_or_push, length_push, replicate_more}
@@ -7,29 +7,16 @@ use Rattle.std.proofs.lemmas.List.FromFn.{get_or-map-range_with_len, length-map-
 use Rattle.residue_words.specs.Matrix.{IsMatrix, IsVector, Matrix, entry, list_of, row, zeros}
 use Rattle.residue_words.proofs.Sums.{sum_equal, sum_support}
 use Rattle.residue_words.proofs.Vectors.{at_list_of, at_zeros, entry_matrix_of, entry_residue, is_matrix_of, length_list_of, list_of_equal, row_matrix_of, zeros_vector}
-use Rattle.sparse_rows.specs.declared.rows.TheConstants.{LARGEST_SIZE}
+use Rattle.column_lists.specs.declared.sizes.TheConstants.{LARGEST_SIZE}
 use Rattle.sparse_rows.specs.Placed.{AreNamed, IsPlaced, expanded, placed, row_among}
-use Rattle.sparse_rows.specs.Rows.{AreEnough, AreOccupied, AreRising, AreZeroFrom, IsNextFilled, entry_count, narrowed, nonzeros, support, transposed, widened, with_zeros}
+use Rattle.sparse_rows.specs.Rows.{AreEnough, AreOccupied, AreZeroFrom, IsNextFilled, entry_count, narrowed, nonzeros, support, transposed, widened, with_zeros}
+use Rattle.column_lists.specs.Numbers.{AreRising}
 use Rattle.sparse_rows.specs.Stored.{IsSparse, entry_at, spread, with_row}
 use Rattle.sparse_rows.proofs.Loops.{length_zeros, row_before, row_last, sized}
-use Rattle.sparse_rows.proofs.Occurring.{contained, rising_push}
-use Rattle.sparse_rows.proofs.Renaming.{rising_short}
+use Rattle.column_lists.proofs.Occurrences.{contained, rising_push, among_or_not}
+use Rattle.column_lists.proofs.Rising.{rising_short}
 use Rattle.sparse_rows.proofs.Spread.{entry_cover, entry_here, entry_support, map_range_equal, nonzeros_spread, sparse_none, spread_none, support_sparse, support_spread}
-
--- a number stands in a list, or not
-pub among_or_not : (rows : List ℕ) (i : ℕ) → ((t : ℕ) × (t < length rows) × (slice_index rows t ≡ i)) ⊎ ((t : ℕ) → t < length rows → slice_index rows t ≢ i)
-among_or_not [] i = inr (λ t l e. omega arith)
-among_or_not (r ∷ rs) i = elim (cases_eq r i) [
-  | inl e ↦ inl (0, omega arith, e)
-  | inr d ↦ elim (among_or_not rs i) [
-    | inl w ↦ inl (suc w.0, omega (arith, w.1), w.2)
-    | inr n ↦ inr (not_there r rs i d n)
-  ]
-]
-  where
-    not_there : (r : ℕ) (rs : List ℕ) (i : ℕ) → r ≢ i → ((t : ℕ) → t < length rs → slice_index rs t ≢ i) → (t : ℕ) → t < length (r ∷ rs) → slice_index (r ∷ rs) t ≢ i
-    not_there r rs i d n zero l = d
-    not_there r rs i d n (suc t) l = n t (omega arith)
+use Rattle.column_lists.proofs.Exchanging.{turned}
 
 -- at a row that is named stands its row
 pub row_named : (A : Matrix) (k : ℕ) (rows : List ℕ) (t : ℕ) → AreRising rows → t < length rows → row_among A k rows (slice_index rows t) ≡ row A (k + t)

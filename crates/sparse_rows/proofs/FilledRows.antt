@@ -8,14 +8,17 @@ use Rattle.std.proofs.lemmas.List.FromFn.{map-range_with_len_more}
 use Rattle.std.proofs.lemmas.List.Edits.{get_or-between}
 use Rattle.residue_words.specs.Matrix.{IsMatrix, Matrix, entry, row, zeros}
 use Rattle.residue_words.proofs.Vectors.{at_zeros}
-use Rattle.sparse_rows.specs.Columns.{AreOccurring}
+use Rattle.column_lists.specs.Columns.{AreOccurring}
 use Rattle.sparse_rows.specs.Placed.{IsFirstFilled}
-use Rattle.sparse_rows.specs.Rows.{AreFilled, AreOccupied, AreRising, AreWeights, AreZeroFrom, IsFilled, IsNextFilled, IsZeroRow, nonzeros, row_triples, support, triples_of, with_zeros}
-use Rattle.sparse_rows.specs.Stored.{IsSparse, IsStored, entry_at, part, spread, stored_matrix, stored_row, with_row}
+use Rattle.sparse_rows.specs.Rows.{AreFilled, AreOccupied, AreWeights, AreZeroFrom, IsFilled, IsNextFilled, IsZeroRow, nonzeros, row_triples, support, triples_of, with_zeros}
+use Rattle.column_lists.specs.Numbers.{AreRising}
+use Rattle.sparse_rows.specs.Stored.{IsSparse, IsStored, entry_at, spread, stored_matrix, stored_row, with_row}
+use Rattle.column_lists.specs.Parts.{part}
 use Rattle.sparse_rows.proofs.Loops.{beside_more, beside_row, length_zeros, sized}
-use Rattle.sparse_rows.proofs.Occurring.{contained, contains_at, contains_before, contains_last, rising_push}
+use Rattle.column_lists.proofs.Occurrences.{contained, contains_at, contains_before, contains_last, rising_push}
 use Rattle.sparse_rows.proofs.Spread.{at_spread, entry_cover, entry_here, sparse_none, spread_none, spread_support}
-use Rattle.sparse_rows.proofs.Stored.{length_part, matrix_push, row_stored, starts_below, stored_push}
+use Rattle.column_lists.proofs.Parts.{length_part, starts_below}
+use Rattle.sparse_rows.proofs.Stored.{matrix_push, row_stored, stored_push}
 use Rattle.sparse_rows.proofs.Transposed.{columns_below}
 
 -- a row is filled or has no entry

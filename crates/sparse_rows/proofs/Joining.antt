@@ -1,60 +1,16 @@
 -- Stored rows behind others: what both stand for, one above the other.
-use Rattle.std.proofs.Common.{ℕ, zero, suc, ◌≡◌, ◌+◌, ◌-◌, ◌<◌, ◌≤◌, inl, inr, List, [], ◌∷◌, ◌++◌, length, map, take, drop, slice_index, slice_index_or, slice_range, sym, refl, ap, ap₂, subst, ◌∙◌, arith}
+use Rattle.std.proofs.Common.{ℕ, zero, suc, ◌≡◌, ◌+◌, ◌-◌, ◌<◌, ◌≤◌, inl, inr, List, ◌++◌, length, map, take, drop, slice_index, slice_index_or, slice_range, sym, refl, ap, ap₂, subst, ◌∙◌, arith}
 use Rattle.std.specs.List.{range_with_len}
 use Rattle.std.proofs.Math.Seq.{drop-append-add}
 use Rattle.std.proofs.lemmas.Bool.{cases_lt}
-use Rattle.std.proofs.lemmas.List.{get_or_append_left, get_or-append-add, get_or_push, get_or-take, length-append, length-drop, length-take-le, length_push, same_lists, take_all, take-append-le, drop-append-le}
+use Rattle.std.proofs.lemmas.List.{get_or_append_left, get_or-append-add, length-append, length-drop, same_lists, take-append-le, drop-append-le}
 use Rattle.std.proofs.lemmas.List.FromFn.{get_or-map-range_with_len, length-map-range_with_len}
 use Rattle.sparse_rows.specs.Rows.{above}
-use Rattle.sparse_rows.specs.Stored.{AreJoined, AreStarts, IsSparse, IsStored, part, spread, stored_matrix, stored_row}
+use Rattle.column_lists.specs.Parts.{AreJoined, AreStarts, part}
+use Rattle.sparse_rows.specs.Stored.{IsSparse, IsStored, spread, stored_matrix, stored_row}
 use Rattle.sparse_rows.proofs.Loops.{sized}
-use Rattle.sparse_rows.proofs.Stored.{starts_below, value_parts}
-
--- before any of the further starts
-pub joined_none : (by : ℕ) (starts from : List ℕ) → AreJoined by starts (take 1 from) starts
-joined_none by starts from = record {
-  long = omega (arith, short from);
-  before = λ i l. refl;
-  behind = λ k l. absurd (omega (arith, short from));
-}
-  where
-    short : (xs : List ℕ) → length (take 1 xs) ≤ 1
-    short [] = omega arith
-    short (x ∷ xs) = omega arith
-
--- one more of them
-pub joined_more : (by : ℕ) (starts from joined : List ℕ) (k : ℕ) → 1 ≤ k → k < length from → AreJoined by starts (take k from) joined →
-    AreJoined by starts (take (k + 1) from) (joined ++ (by + slice_index from k) ∷ [])
-joined_more by starts from joined k low l j =
-    let s : ℕ = by + slice_index from k in
-    let old : length (take k from) ≡ k = length-take-le k from (omega arith) in
-    let new : length (take (k + 1) from) ≡ k + 1 = length-take-le (k + 1) from (omega arith) in
-    let all : length joined ≡ length starts + (k - 1) = omega (arith, j.long, old) in
-    record {
-      long = omega (arith, length_push joined s, all, new);
-      before = λ i a. get_or_append_left joined (s ∷ []) 0 i (omega (arith, all)) ∙ j.before i a;
-      behind = λ t a. elim (cases_lt (t + 1) k) [
-        | inl b ↦ omega (
-          arith,
-          get_or_append_left joined (s ∷ []) 0 (length starts + t) (omega (arith, all)),
-          j.behind t (omega (arith, old)),
-          get_or-take k from (t + 1) 0 b,
-          get_or-take (k + 1) from (t + 1) 0 (omega arith),
-        )
-        | inr b ↦
-            let last : k ≡ t + 1 = omega (arith, new) in
-            omega (
-              arith,
-              get_or_push joined s 0 (length starts + t) (omega (arith, all)),
-              get_or-take (k + 1) from (t + 1) 0 (omega arith),
-              ap (slice_index from) last,
-            )
-      ];
-    }
-
--- and all
-pub joined_all : (by : ℕ) (starts from joined : List ℕ) (k : ℕ) → length from ≤ k → AreJoined by starts (take k from) joined → AreJoined by starts from joined
-joined_all by starts from joined k l j = subst (λ f. AreJoined by starts f joined) (take_all k from l) j
+use Rattle.column_lists.proofs.Parts.{starts_below}
+use Rattle.sparse_rows.proofs.Stored.{value_parts}
 
 module _ (p n : ℕ) (starts cs vs : List ℕ) (stored : IsStored p n starts cs vs) (starts' cs' vs' : List ℕ) (stored' : IsStored p n starts' cs' vs') (joined : List ℕ) (j : AreJoined (length cs) starts starts' joined)
   where

@@ -4,12 +4,9 @@ pub mod Building
 pub mod Cuts
 pub mod Expanding
 pub mod FilledRows
-pub mod Grouping
 pub mod InLists
 pub mod Joining
 pub mod Loops
-pub mod Marking
-pub mod Occurring
 pub mod Ordered
 pub mod Permuting
 pub mod Renaming
@@ -20,3 +17,7 @@ pub mod Summing
 pub mod Supports
 pub mod Transposed
 pub mod Zeros
+pub use Rattle.column_lists.proofs.Exchanging
+pub use Rattle.column_lists.proofs.Occurrences
+pub use Rattle.column_lists.proofs.Parts
+pub use Rattle.column_lists.proofs.Rising

@@ -1,59 +1,23 @@
 -- Columns under other numbers: a matrix narrowed to the columns named, and widened again.
-use Rattle.std.proofs.Common.{ℕ, zero, suc, ◌≡◌, ◌+◌, ◌-◌, ◌<◌, ◌≤◌, inl, inr, List, [], ◌∷◌, length, map, take, drop, slice_index, sym, refl, ap, subst, ◌∙◌, arith}
-use Rattle.std.proofs.lemmas.Bool.{cases_eq, cases_lt}
-use Rattle.std.proofs.lemmas.List.{drop-map, get_or-map, length-map, take-map}
+use Rattle.std.proofs.Common.{ℕ, suc, ◌≡◌, ◌+◌, ◌-◌, ◌<◌, ◌≤◌, inl, inr, List, [], ◌∷◌, length, map, slice_index, sym, refl, ap, subst, ◌∙◌, arith}
+use Rattle.std.proofs.lemmas.Bool.{cases_eq}
+use Rattle.std.proofs.lemmas.List.{get_or-map, length-map}
 use Rattle.std.proofs.lemmas.List.Edits.{get_or-between}
 use Rattle.residue_words.specs.Matrix.{IsMatrix, Matrix, entry, list_of, row}
 use Rattle.residue_words.proofs.Vectors.{at_list_of, entry_matrix_of, entry_residue, is_matrix_of, length_list_of, list_of_equal, matrix_equal, row_matrix_of}
-use Rattle.sparse_rows.specs.declared.rows.TheConstants.{LARGEST_SIZE}
-use Rattle.sparse_rows.specs.Rows.{AreEnough, AreRising, narrowed, widened}
-use Rattle.sparse_rows.specs.Stored.{AreStarts, IsSparse, IsStored, entry_at, part, spread, stored_matrix, stored_row}
+use Rattle.column_lists.specs.declared.sizes.TheConstants.{LARGEST_SIZE}
+use Rattle.sparse_rows.specs.Rows.{AreEnough, narrowed, widened}
+use Rattle.column_lists.specs.Numbers.{AreRising}
+use Rattle.column_lists.specs.Parts.{AreStarts, part}
+use Rattle.sparse_rows.specs.Stored.{IsSparse, IsStored, entry_at, spread, stored_matrix, stored_row}
 use Rattle.sparse_rows.proofs.Loops.{sized}
 use Rattle.sparse_rows.proofs.Spread.{at_spread, entry_cover, entry_head, entry_here, entry_tail, length_spread, map_range_equal}
-use Rattle.sparse_rows.proofs.Stored.{length_part, row_stored, starts_below}
-use Rattle.sparse_rows.proofs.Occurring.{contained}
+use Rattle.column_lists.proofs.Parts.{length_part, starts_below, part_map}
+use Rattle.sparse_rows.proofs.Stored.{row_stored}
+use Rattle.column_lists.proofs.Occurrences.{contained}
 use Rattle.sparse_rows.proofs.Transposed.{columns_below}
-use Rattle.sparse_rows.specs.Columns.{ArePlaces}
-
--- numbers that ascend are at least their places
-place_low : (xs : List ℕ) → AreRising xs → (k : ℕ) → k < length xs → k ≤ slice_index xs k
-place_low xs up zero l = omega arith
-place_low xs up (suc k) l = omega (arith, place_low xs up k (omega arith), up k (suc k) (omega arith) l)
-
--- so there are at most n below n
-pub rising_short : (xs : List ℕ) (n : ℕ) → AreRising xs → ((k : ℕ) → k < length xs → slice_index xs k < n) → length xs ≤ n
-rising_short xs n up below = elim (cases_eq (length xs) 0) [
-  | inl e ↦ omega arith
-  | inr d ↦ omega (arith, place_low xs up (length xs - 1) (omega arith), below (length xs - 1) (omega arith))
-]
-
--- and they are in the order of their places
-pub rising_order : (xs : List ℕ) → AreRising xs → (k t : ℕ) → k < length xs → t < length xs → slice_index xs k < slice_index xs t → k < t
-rising_order xs up k t a b l = elim (cases_lt k t) [
-  | inl s ↦ s
-  | inr s ↦ elim (cases_eq k t) [
-    | inl e ↦ absurd (omega (arith, ap (slice_index xs) e))
-    | inr d ↦ absurd (omega (arith, up t k (omega arith) a))
-  ]
-]
-
--- and differ
-pub rising_once : (xs : List ℕ) → AreRising xs → (k t : ℕ) → k < length xs → t < length xs → slice_index xs k ≡ slice_index xs t → k ≡ t
-rising_once xs up k t a b e = elim (cases_lt k t) [
-  | inl s ↦ absurd (omega (arith, up k t s b))
-  | inr s ↦ elim (cases_eq k t) [
-    | inl q ↦ q
-    | inr d ↦ absurd (omega (arith, up t k (omega arith) a))
-  ]
-]
-
--- the part at i of renamed columns
-pub part_map : (f : ℕ → ℕ) (starts cs : List ℕ) (i : ℕ) → part starts (map f cs) i ≡ map f (part starts cs i)
-unfolding part
-part_map f starts cs i =
-    let a : ℕ = slice_index starts i in
-    let b : ℕ = slice_index starts (i + 1) in
-    ap (take (b - a)) (drop-map f a cs) ∙ take-map f (b - a) (drop a cs)
+use Rattle.column_lists.specs.Columns.{ArePlaces}
+use Rattle.column_lists.proofs.Rising.{rising_short, rising_order, rising_once}
 
 -- a renamed column
 at_named : (named cs : List ℕ) (k : ℕ) → k < length cs → slice_index (map (slice_index named) cs) k ≡ slice_index named (slice_index cs k)

@@ -8,15 +8,16 @@ use Rattle.std.proofs.lemmas.List.Sums.{sum_by-cons}
 use Rattle.residue_words.specs.Matrix.{Matrix, entry, list_of, row}
 use Rattle.residue_words.proofs.Vectors.{entry_matrix_of, list_of_equal, row_matrix_of}
 use Rattle.sparse_rows.specs.declared.values_at_places.Cell.{Cell}
-use Rattle.sparse_rows.specs.declared.rows.TheConstants.{LARGEST_SIZE}
+use Rattle.column_lists.specs.declared.sizes.TheConstants.{LARGEST_SIZE}
 use Rattle.sparse_rows.specs.Cells.{AreEntries, IsWithin, column_of, place_of, renumbered, row_of, weight}
-use Rattle.sparse_rows.specs.Columns.{AreOccurring, ArePlaces}
+use Rattle.column_lists.specs.Columns.{AreOccurring, ArePlaces}
 use Rattle.sparse_rows.specs.Placed.{AreNamed, expanded, row_among}
-use Rattle.sparse_rows.specs.Rows.{AreRising, matrix_by}
-use Rattle.sparse_rows.proofs.Expanding.{among_or_not, row_at, row_unnamed, support_has}
+use Rattle.column_lists.specs.Numbers.{AreRising}
+use Rattle.sparse_rows.specs.Rows.{matrix_by}
+use Rattle.column_lists.proofs.Occurrences.{among_or_not, contained, contains_at}
+use Rattle.sparse_rows.proofs.Expanding.{row_at, row_unnamed, support_has}
 use Rattle.sparse_rows.proofs.Loops.{sized}
-use Rattle.sparse_rows.proofs.Occurring.{contained, contains_at}
-use Rattle.sparse_rows.proofs.Renaming.{rising_once, rising_short}
+use Rattle.column_lists.proofs.Rising.{rising_once, rising_short}
 use Rattle.sparse_rows.proofs.Spread.{map_range_equal}
 use Rattle.sparse_rows.proofs.Summing.{weight_here, weight_none}
 

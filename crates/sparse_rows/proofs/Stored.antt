@@ -1,78 +1,17 @@
 -- Rows one after another in one list, and the matrix that they stand for.
-use Rattle.std.proofs.Common.{ℕ, zero, suc, ◌≡◌, ◌+◌, ◌-◌, ◌<◌, ◌≤◌, inl, inr, List, [], ◌∷◌, ◌++◌, length, map, take, drop, slice_index, slice_range, sym, refl, ap, ap₂, subst, ◌∙◌, arith}
+use Rattle.std.proofs.Common.{ℕ, zero, suc, ◌≡◌, ◌+◌, ◌-◌, ◌<◌, ◌≤◌, inl, inr, List, [], ◌∷◌, ◌++◌, length, map, slice_index, sym, ap, ap₂, subst, ◌∙◌, arith}
 use Rattle.std.specs.List.{range_with_len}
-use Rattle.std.proofs.lemmas.List.{drop_at, get_or_append_left, get_or_push, length-append, length-drop, length-take-le, length_push, take_all, take-append-le, drop-append-le}
+use Rattle.std.proofs.lemmas.List.{length-append, length_push}
 use Rattle.std.proofs.lemmas.List.FromFn.{get_or-map-range_with_len, length-map-range_with_len, map-range_with_len_more}
 use Rattle.std.proofs.lemmas.Bool.{cases_lt}
 use Rattle.residue_words.specs.Matrix.{IsMatrix, Matrix, row}
 use Rattle.residue_words.specs.Residues.{sum_below}
 use Rattle.residue_words.proofs.Sums.{sum_more, sum_none}
 use Rattle.sparse_rows.specs.Rows.{entry_count, nonzeros, support}
-use Rattle.sparse_rows.specs.Stored.{AreStarts, IsSparse, IsStored, part, spread, stored_matrix, stored_row, with_row}
+use Rattle.column_lists.specs.Parts.{AreStarts, part}
+use Rattle.sparse_rows.specs.Stored.{IsSparse, IsStored, spread, stored_matrix, stored_row, with_row}
 use Rattle.sparse_rows.proofs.Spread.{map_range_equal, nonzeros_spread, spread_vector, support_spread}
-
--- later parts begin later
-pub starts_rise : {n total : ℕ} {starts : List ℕ} → AreStarts n total starts → (d i : ℕ) → i + d ≤ n → slice_index starts i ≤ slice_index starts (i + d)
-starts_rise {n} {total} {starts} s zero i l = omega (arith, ap (slice_index starts) (let e : i + zero ≡ i = omega arith in e))
-starts_rise {n} {total} {starts} s (suc d) i l =
-    omega (arith, starts_rise s d i (omega arith), s.rising (i + d) (omega arith), ap (slice_index starts) (let e : i + suc d ≡ i + d + 1 = omega arith in e))
-
--- each part ends within the list
-pub starts_below : {n total : ℕ} {starts : List ℕ} → AreStarts n total starts → (i : ℕ) → i ≤ n → slice_index starts i ≤ total
-starts_below {n} {total} {starts} s i l =
-    omega (arith, starts_rise s (n - i) i (omega arith), ap (slice_index starts) (let e : i + (n - i) ≡ n = omega arith in e), s.last)
-
--- how long a part is
-pub length_part : {n : ℕ} {starts : List ℕ} (xs : List ℕ) → AreStarts n (length xs) starts → (i : ℕ) → i < n → length (part starts xs i) + slice_index starts i ≡ slice_index starts (i + 1)
-unfolding part
-length_part {n} {starts} xs s i l =
-    let a : ℕ = slice_index starts i in
-    let b : ℕ = slice_index starts (i + 1) in
-    let up : a ≤ b = s.rising i l in
-    let end : b ≤ length xs = starts_below s (i + 1) (omega arith) in
-    omega (arith, length-take-le (b - a) (drop a xs) (omega (arith, length-drop a xs)))
-
--- a list that ends with one part more has the same earlier parts
-pub part_before : (starts : List ℕ) (xs ys : List ℕ) (e i : ℕ) → i + 1 < length starts → slice_index starts i ≤ slice_index starts (i + 1) → slice_index starts (i + 1) ≤ length xs →
-    part (starts ++ e ∷ []) (xs ++ ys) i ≡ part starts xs i
-unfolding part
-part_before starts xs ys e i l up end =
-    let a : ℕ = slice_index starts i in
-    let b : ℕ = slice_index starts (i + 1) in
-    let from : slice_index (starts ++ e ∷ []) i ≡ a = get_or_append_left starts (e ∷ []) 0 i (omega arith) in
-    let to : slice_index (starts ++ e ∷ []) (i + 1) ≡ b = get_or_append_left starts (e ∷ []) 0 (i + 1) l in
-    ap₂ (slice_range (xs ++ ys)) from to
-    ∙ ap (take (b - a)) (drop-append-le a xs ys (omega arith))
-    ∙ take-append-le (b - a) (drop a xs) ys (omega (arith, length-drop a xs))
-
--- and the part at its end
-pub part_end : (starts : List ℕ) (xs ys : List ℕ) (n : ℕ) → length starts ≡ n + 1 → slice_index starts n ≡ length xs → part (starts ++ length (xs ++ ys) ∷ []) (xs ++ ys) n ≡ ys
-unfolding part
-part_end starts xs ys n long last =
-    let e : ℕ = length (xs ++ ys) in
-    let from : slice_index (starts ++ e ∷ []) n ≡ length xs = get_or_append_left starts (e ∷ []) 0 n (omega arith) ∙ last in
-    let to : slice_index (starts ++ e ∷ []) (n + 1) ≡ e = get_or_push starts e 0 (n + 1) long in
-    ap₂ (slice_range (xs ++ ys)) from to
-    ∙ ap (take (e - length xs)) (drop_at xs ys (length xs) refl)
-    ∙ take_all (e - length xs) ys (omega (arith, length-append xs ys))
-
--- one start more
-starts_push : (n : ℕ) (starts xs ys : List ℕ) → AreStarts n (length xs) starts → AreStarts (n + 1) (length (xs ++ ys)) (starts ++ length (xs ++ ys) ∷ [])
-starts_push n starts xs ys s =
-    let e : ℕ = length (xs ++ ys) in
-    let old : (i : ℕ) → i < length starts → slice_index (starts ++ e ∷ []) i ≡ slice_index starts i = λ i l. get_or_append_left starts (e ∷ []) 0 i l in
-    let new : slice_index (starts ++ e ∷ []) (n + 1) ≡ e = get_or_push starts e 0 (n + 1) s.long in
-    record {
-      long = omega (arith, length_push starts e, s.long);
-      first = omega (arith, old 0 (omega (arith, s.long)), s.first);
-      rising = λ i l. elim (cases_lt i n) [
-        | inl b ↦ omega (arith, old i (omega (arith, s.long)), old (i + 1) (omega (arith, s.long)), s.rising i b)
-        | inr b ↦
-            let same : i ≡ n = omega arith in
-            omega (arith, old i (omega (arith, s.long)), ap (slice_index starts) same, s.last, ap (λ k. slice_index (starts ++ e ∷ []) (k + 1)) same, new, length-append xs ys)
-      ];
-      last = new;
-    }
+use Rattle.column_lists.proofs.Parts.{starts_below, length_part, part_before, part_end, starts_push}
 
 -- the matrix of this size with these rows
 abbrev sized : ℕ → ℕ → List (List ℕ) → Matrix

@@ -1,38 +1,21 @@
 -- Entries grouped by their columns are the rows of the transposed matrix.
-use Rattle.std.proofs.Common.{ℕ, zero, suc, ◌≡◌, ◌≢◌, ◌+◌, ◌-◌, ◌<◌, ◌≤◌, inl, inr, List, [], ◌∷◌, ◌++◌, length, map, replicate, take, drop, eqb, get_or, slice_index, slice_index_or, slice_range, sym, refl, ap, ap₂, subst, ◌∙◌, arith}
+use Rattle.std.proofs.Common.{ℕ, zero, suc, ◌≡◌, ◌≢◌, ◌+◌, ◌-◌, ◌<◌, ◌≤◌, inl, inr, List, [], ◌∷◌, ◌++◌, length, map, replicate, take, eqb, get_or, slice_index, slice_index_or, sym, refl, ap, ap₂, subst, ◌∙◌, arith}
 use Rattle.std.specs.List.{range_with_len}
-use Rattle.std.proofs.lemmas.Bool.{cases_eq, cases_lt, cond-true, cond-false, eq-eqb, ne_eqb}
-use Rattle.std.proofs.lemmas.List.{append-nil, ext_get_or, get_or_append_left, get_or-append_right, get_or_default, get_or-map, get_or-replicate, length-append, length-map, length-replicate, length-take-le, take_all}
+use Rattle.std.proofs.lemmas.Bool.{cases_eq, cases_lt, cond-true, eq-eqb}
+use Rattle.std.proofs.lemmas.List.{append-nil, ext_get_or, get_or_default, get_or-map, length-map, length-take-le, take_all}
 use Rattle.std.proofs.lemmas.List.FromFn.{get_or-map-range_with_len, get_or-range_with_len, length-map-range_with_len, length-range_with_len}
 use Rattle.std.proofs.lemmas.List.Edits.{get_or-between}
 use Rattle.residue_words.specs.Matrix.{Matrix, entry, list_of, row}
 use Rattle.residue_words.proofs.Vectors.{at_list_of, length_list_of, list_of_equal, row_matrix_of}
-use Rattle.sparse_rows.specs.declared.rows.TheConstants.{LARGEST_SIZE}
+use Rattle.column_lists.specs.declared.sizes.TheConstants.{LARGEST_SIZE}
 use Rattle.sparse_rows.specs.Rows.{selected, support, transposed}
-use Rattle.sparse_rows.specs.Stored.{AreBegun, AreStarts, HoldsParts, IsSparse, IsStored, count_of, entry_at, part, part_numbers, picked, spread, stored_matrix, stored_row}
+use Rattle.column_lists.specs.Parts.{AreBegun, HoldsParts, count_of, part, part_numbers, picked}
+use Rattle.sparse_rows.specs.Stored.{IsSparse, IsStored, entry_at, spread, stored_matrix, stored_row}
 use Rattle.sparse_rows.proofs.Loops.{sized}
 use Rattle.sparse_rows.proofs.Spread.{Ascends, at_spread, columns_ascend, entry_beyond, entry_push_other, entry_push_same, entry_tail, sparse_none, sparse_push, support_spread, widen}
-use Rattle.sparse_rows.proofs.Stored.{length_part, row_stored, starts_below, starts_rise, value_parts}
-
--- what is picked of two lists one after the other
-picked_append : (k : ℕ) (ys ys' xs xs' : List ℕ) → length ys ≡ length xs → picked k (ys ++ ys') (xs ++ xs') ≡ picked k ys xs ++ picked k ys' xs'
-picked_append k [] ys' [] xs' e = refl
-picked_append k [] ys' (x ∷ xs) xs' e = absurd (omega arith)
-picked_append k (y ∷ ys) ys' [] xs' e = absurd (omega arith)
-picked_append k (y ∷ ys) ys' (x ∷ xs) xs' e =
-    let rest : picked k (ys ++ ys') (xs ++ xs') ≡ picked k ys xs ++ picked k ys' xs' = picked_append k ys ys' xs xs' (omega arith) in
-    elim (cases_eq y k) [
-      | inl q ↦ cond-true (eqb y k) _ _ (eq-eqb y k q) ∙ ap (λ t. x ∷ t) rest ∙ sym (ap (λ t. t ++ picked k ys' xs') (cond-true (eqb y k) (x ∷ picked k ys xs) (picked k ys xs) (eq-eqb y k q)))
-      | inr d ↦ cond-false (eqb y k) _ _ (ne_eqb y k d) ∙ rest ∙ sym (ap (λ t. t ++ picked k ys' xs') (cond-false (eqb y k) (x ∷ picked k ys xs) (picked k ys xs) (ne_eqb y k d)))
-    ]
-
--- an item of another key is left out
-picked_skip : (k y : ℕ) (ys : List ℕ) (x : ℕ) (xs : List ℕ) → y ≢ k → picked k (y ∷ ys) (x ∷ xs) ≡ picked k ys xs
-picked_skip k y ys x xs d = cond-false (eqb y k) _ _ (ne_eqb y k d)
-
--- an item of the key is taken
-picked_take : (k y : ℕ) (ys : List ℕ) (x : ℕ) (xs : List ℕ) → y ≡ k → picked k (y ∷ ys) (x ∷ xs) ≡ x ∷ picked k ys xs
-picked_take k y ys x xs e = cond-true (eqb y k) _ _ (eq-eqb y k e)
+use Rattle.column_lists.proofs.Parts.{length_part, starts_below, take_part, length_part_numbers}
+use Rattle.sparse_rows.proofs.Stored.{row_stored, value_parts}
+use Rattle.column_lists.proofs.Grouping.{picked_append, picked_skip, picked_take, length_picked, begun_part}
 
 -- nothing stands before the first column
 picked_before : (k low n : ℕ) (cs xs : List ℕ) → k < low → Ascends low n cs → picked k cs xs ≡ []
@@ -95,50 +78,6 @@ column_more p k r n starts cs vs is ws row column (some t l a b e) =
       ];
     }
 
--- the items up to the next part
-take_part : (n : ℕ) (starts xs : List ℕ) → AreStarts n (length xs) starts → (r : ℕ) → r < n → take (slice_index starts (r + 1)) xs ≡ take (slice_index starts r) xs ++ part starts xs r
-unfolding part
-take_part n starts xs s r l = take_further (slice_index starts r) (slice_index starts (r + 1)) xs (s.rising r l)
-  where
-    take_further : (a b : ℕ) (ys : List ℕ) → a ≤ b → take b ys ≡ take a ys ++ take (b - a) (drop a ys)
-    take_further zero b ys u = ap (λ t. take t ys) (let e : b ≡ b - zero = omega arith in e)
-    take_further (suc a) zero ys u = absurd (omega arith)
-    take_further (suc a) (suc b) [] u = sym (take_all (suc b - suc a) [] (omega arith))
-    take_further (suc a) (suc b) (y ∷ ys) u = ap (λ t. y ∷ t) (take_further a b ys (omega arith) ∙ ap (λ t. take a ys ++ take t (drop a ys)) (let e : b - a ≡ suc b - suc a = omega arith in e))
-
--- as many part numbers as items
-pub length_part_numbers : (n total : ℕ) (starts : List ℕ) → AreStarts n total starts → (r : ℕ) → r ≤ n → length (part_numbers r starts) ≡ slice_index starts r
-length_part_numbers n total starts s zero l = sym s.first
-length_part_numbers n total starts s (suc r) l =
-    let next : ℕ = slice_index starts (r + 1) in
-    length-append (part_numbers r starts) (replicate (next - slice_index starts r) r)
-    ∙ omega (
-      arith,
-      length_part_numbers n total starts s r (omega arith),
-      length-replicate (next - slice_index starts r) r,
-      s.rising r (omega arith),
-      ap (slice_index starts) (let e : suc r ≡ r + 1 = omega arith in e),
-    )
-
--- the number of the part in which an item stands
-pub part_number_at : (n total : ℕ) (starts : List ℕ) → AreStarts n total starts → (r : ℕ) → r ≤ n → (i k : ℕ) → i < r → slice_index starts i ≤ k → k < slice_index starts (i + 1) →
-    slice_index (part_numbers r starts) k ≡ i
-part_number_at n total starts s zero l i k a b c = absurd (omega arith)
-part_number_at n total starts s (suc r) l i k a b c =
-    let here : ℕ = slice_index starts r in
-    let many : ℕ = slice_index starts (r + 1) - here in
-    let long : length (part_numbers r starts) ≡ here = length_part_numbers n total starts s r (omega arith) in
-    elim (cases_eq i r) [
-      | inl e ↦
-          let from : slice_index starts i ≡ here = ap (slice_index starts) e in
-          let to : slice_index starts (i + 1) ≡ slice_index starts (r + 1) = ap (λ t. slice_index starts (t + 1)) e in
-          get_or-append_right (part_numbers r starts) (replicate many r) here k 0 long (omega (arith, from)) ∙ get_or-replicate many (k - here) r 0 (omega (arith, from, to)) ∙ sym e
-      | inr d ↦
-          let later : i + 1 + (r - (i + 1)) ≡ r = omega arith in
-          get_or_append_left (part_numbers r starts) (replicate many r) 0 k (omega (arith, long, starts_rise s (r - (i + 1)) (i + 1) (omega arith), ap (slice_index starts) later))
-          ∙ part_number_at n total starts s r (omega arith) i k (omega arith) b c
-    ]
-
 module _ (p n : ℕ) (starts cs vs : List ℕ) (stored : IsStored p n starts cs vs) (k : ℕ) where
   -- the first r rows
   column_until : (r : ℕ) → r ≤ length starts - 1 →
@@ -178,17 +117,6 @@ module _ (p n : ℕ) (starts cs vs : List ℕ) (stored : IsStored p n starts cs 
       (subst (λ t. IsColumn p k h starts cs vs (picked k (take (slice_index starts h) cs) (part_numbers h starts)) (picked k (take (slice_index starts h) cs) t)) all_values
       (column_until h (omega arith))))
 
--- as many are picked as have the key
-length_picked : (k : ℕ) (ys xs : List ℕ) → length ys ≡ length xs → length (picked k ys xs) ≡ count_of k ys
-length_picked k [] xs e = refl
-length_picked k (y ∷ ys) [] e = absurd (omega arith)
-length_picked k (y ∷ ys) (x ∷ xs) e = elim (cases_eq y k) [
-  | inl q ↦ ap length (cond-true (eqb y k) (x ∷ picked k ys xs) (picked k ys xs) (eq-eqb y k q))
-      ∙ omega (arith, length_picked k ys xs (omega arith), cond-true {A = ℕ} (eqb y k) 1 0 (eq-eqb y k q))
-  | inr d ↦ ap length (cond-false (eqb y k) (x ∷ picked k ys xs) (picked k ys xs) (ne_eqb y k d))
-      ∙ omega (arith, length_picked k ys xs (omega arith), cond-false {A = ℕ} (eqb y k) 1 0 (ne_eqb y k d))
-]
-
 -- so many entries has the column
 pub count_support : {p n : ℕ} {starts cs vs : List ℕ} → IsStored p n starts cs vs → (k : ℕ) → k < n → count_of k cs ≡ length (support (row (transposed (stored_matrix n starts cs vs)) k))
 unfolding stored_row spread
@@ -211,14 +139,6 @@ pub count_read : {p n : ℕ} {starts cs vs keys counts : List ℕ} {M : Matrix} 
 count_read {p} {n} {starts} {cs} {vs} {keys} {counts} {M} j c s em ek ec l e =
     e ∙ ap (λ xs. get_or xs j c) ec ∙ get_or_default (list_of n (λ k. count_of k keys)) j c 0 (omega (arith, length_list_of n (λ k. count_of k keys))) ∙ at_list_of n (λ k. count_of k keys) j l
     ∙ ap (count_of j) ek ∙ count_support s j l ∙ ap (λ A. length (support (row (transposed A) j))) em
-
--- part t begins where the part for its column does, and holds what is picked for that
-begun_part : {order keys starts begins : List ℕ} (xs ys : List ℕ) → AreBegun order keys starts begins → HoldsParts keys xs begins ys → (t : ℕ) → t < length order →
-    part starts ys t ≡ picked (slice_index order t) keys xs
-unfolding part
-begun_part {order} {keys} {starts} {begins} xs ys b holds t l =
-    let from : slice_index starts t ≡ slice_index begins (slice_index order t) = sym (b.begin t l) in
-    ap₂ (slice_range ys) from (b.end t l ∙ ap (λ x. x + count_of (slice_index order t) keys) from) ∙ holds (slice_index order t) (b.below t l)
 
 module _ (p n : ℕ) (starts cs vs : List ℕ) (stored : IsStored p n starts cs vs) (order starts' begins is ws : List ℕ) (few : length order ≤ LARGEST_SIZE)
     (below : (t : ℕ) → t < length order → slice_index order t < n) (begun : AreBegun order cs starts' begins)

@@ -1,7 +1,7 @@
 -- Cells: values at places, where a matrix has 2^32 places a row.
 use Rattle.std.specs.Prelude.{◌≡◌, ◌<◌, ◌≤◌, ◌+◌, ◌*◌, ◌-◌, ◌/◌, ◌%◌, ◌==◌, leb, if◌then◌else◌, Bool, true, ℕ, List, [], ◌∷◌, length, map, slice_index, slice_index_or, All}
 use Rattle.residue_words.specs.declared.modulus.TheConstants.{MODULUS_BOUND}
-use Rattle.sparse_rows.specs.declared.rows.TheConstants.{LARGEST_SIZE}
+use Rattle.column_lists.specs.declared.sizes.TheConstants.{LARGEST_SIZE}
 use Rattle.std.specs.List.{range_with_len, sum_by}
 use Rattle.sparse_rows.specs.declared.values_at_places.Cell.{Cell}
 use Rattle.sparse_rows.specs.Rows.{Triple, matrix_by}

@@ -2,8 +2,9 @@
 use Rattle.std.specs.Prelude.{◌≡◌, ◌<◌, ◌≤◌, ◌+◌, ◌==◌, ◌⊎◌, if◌then◌else◌, ℕ, Bool, true, false, List, [], ◌∷◌, length, map, slice_index, MatchOption, Option}
 use Rattle.std.specs.List.{range_with_len}
 use Rattle.residue_words.specs.Matrix.{Matrix, entry, row, zeros}
-use Rattle.sparse_rows.specs.declared.rows.TheConstants.{LARGEST_SIZE}
-use Rattle.sparse_rows.specs.Rows.{AreRising, AreZeroFrom, IsFilled, IsNextFilled, IsZeroRow}
+use Rattle.column_lists.specs.declared.sizes.TheConstants.{LARGEST_SIZE}
+use Rattle.column_lists.specs.Numbers.{AreRising}
+use Rattle.sparse_rows.specs.Rows.{AreZeroFrom, IsFilled, IsNextFilled, IsZeroRow}
 
 -- row i, where the rows of A from row k on stand at these rows, and zeros elsewhere
 abbrev pub row_among : Matrix → ℕ → List ℕ → ℕ → List ℕ

@@ -3,7 +3,8 @@ use Rattle.std.specs.Prelude.{◌≡◌, ◌≢◌, ◌<◌, ◌≤◌, ◌+◌,
 use Rattle.std.specs.List.{flat_map, range_with_len}
 use Rattle.residue_words.specs.Matrix.{IsVector, Matrix, entry, list_of, row, zeros}
 use Rattle.residue_words.specs.Residues.{sum_below}
-use Rattle.sparse_rows.specs.declared.rows.TheConstants.{LARGEST_SIZE}
+pub use Rattle.column_lists.specs.Numbers.{AreBelow, AreDistinct, AreRising}
+pub use Rattle.column_lists.specs.declared.sizes.TheConstants.{LARGEST_SIZE}
 use Rattle.sparse_rows.specs.Stored.{entry_at}
 
 -- a matrix of residues, and the modulus
@@ -50,18 +51,6 @@ pub record IsNextFilled (A : Matrix) (from i : ℕ) : Type 0 where
   pub below : i < A.height
   pub filled : IsFilled A i
   pub between : (k : ℕ) → from ≤ k → k < i → IsZeroRow A k
-
--- each index is below n
-abbrev pub AreBelow : ℕ → List ℕ → Type 0
-AreBelow n indices = (k : ℕ) → k < length indices → slice_index indices k < n
-
--- the numbers ascend
-abbrev pub AreRising : List ℕ → Type 0
-AreRising xs = (k t : ℕ) → k < t → t < length xs → slice_index xs k < slice_index xs t
-
--- no two of the numbers are equal
-abbrev pub AreDistinct : List ℕ → Type 0
-AreDistinct list = (k t : ℕ) → k < t → t < length list → slice_index list k ≢ slice_index list t
 
 -- the filled rows of A, ascending
 pub record AreFilled (A : Matrix) (rows : List ℕ) : Type 0 where

@@ -1,5 +1,5 @@
 // What collects the entries of a matrix in any order.
-ghost use Rattle.sparse_rows.specs.declared.rows.TheConstants.{LARGEST_SIZE};
+ghost use Rattle.column_lists.specs.declared.sizes.TheConstants.{LARGEST_SIZE};
 ghost use Rattle.std.specs.Prelude.{◌≡◌, ◌<◌, ◌≤◌, ◌++◌, ◌∷◌, [], map, IfOk, OnOk, OnErr};
 ghost use Rattle.sparse_rows.specs.Cells.{ArePushed, triple_of};
 ghost use Rattle.sparse_rows.specs.Rows.{built};

@@ -5,13 +5,8 @@
 #![tactic(auto)]
 
 mod builder;
-mod column_lists;
-mod column_set;
-mod consecutive_parts;
-mod counting_sort;
 mod entry_room;
 mod filled_in_either;
-mod list;
 mod ordered_cells;
 mod rough_order;
 mod rows;
@@ -21,9 +16,8 @@ mod sums_in_place;
 mod values_at_places;
 
 pub use builder::RowsBuilder;
-pub use column_set::ColumnSet;
+pub use column_lists::{ColumnSet, LARGEST_SIZE, List};
 pub use entry_room::EntryRoom;
 pub use filled_in_either::FilledInEither;
-pub use list::List;
-pub use rows::{LARGEST_SIZE, Rows};
+pub use rows::Rows;
 pub use sparse::Sparse;

@@ -1,11 +1,12 @@
 // Cells that ascend by places, as the rows that they will be.
 ghost use Rattle.std.specs.Prelude.{ℕ, ◌≡◌, ◌<◌, ◌≤◌, ◌+◌, ◌-◌, ◌++◌, ◌∷◌, [], true, length, map, replicate, slice_index, All, IfOk, IfSome, OnErr, OnOk};
-ghost use Rattle.sparse_rows.specs.declared.rows.TheConstants.{LARGEST_SIZE};
+ghost use Rattle.column_lists.specs.declared.sizes.TheConstants.{LARGEST_SIZE};
 ghost use Rattle.sparse_rows.specs.Cells.{HaveRisingPlaces, AreCuts, AreSums, IsRowOfPart, column_of, in_rows, place_of, row_of, without_zeros};
 
 use crate::entry_room::make_room;
 use crate::rows::stores_every_row;
 use crate::values_at_places::{Cell, place_of};
+use column_lists::RowParts;
 use residue_words::Modulus;
 use std::alloc::{AllocError, Global};
 use std::marker::Model;
@@ -33,14 +34,6 @@ impl Model for OrderedCells {
     ghost view = { λ o. ordered_cells o.starts.items o.cols.items o.vals.items };
 
     ghost invariant = { λ o. AreOrdered o.starts.items o.cols.items o.vals.items o.next o.nonzero };
-}
-
-// Where rows begin, and the columns and values of all.
-#[derive(Drop)]
-pub(crate) struct RowParts {
-    pub starts: Vec<usize>,
-    pub cols: Vec<u32>,
-    pub vals: Vec<u64>,
 }
 
 impl OrderedCells {

@@ -1,27 +1,25 @@
 // A matrix as compressed rows.
 ghost use Rattle.residue_words.specs.declared.modulus.TheConstants.{MODULUS_BOUND};
-ghost use Rattle.sparse_rows.specs.declared.rows.TheConstants.{LARGEST_SIZE};
+ghost use Rattle.column_lists.specs.declared.sizes.TheConstants.{LARGEST_SIZE};
 ghost use Rattle.std.specs.Prelude.{◌≡◌, ◌<◌, ◌≤◌, ◌+◌, ◌-◌, ◌/◌, ◌↔◌, ℕ, [], ◌++◌, length, slice_index, IfOk, IsTrue, OnErr, OnOk};
 ghost use Rattle.std.specs.Option.{MatchOption};
 ghost use Rattle.residue_words.specs.Matrix.{IsMatrix, row};
 ghost use Rattle.sparse_rows.specs.Cells.{place_of};
-ghost use Rattle.sparse_rows.specs.Rows.{above, AppendsFirst, AreBelow, AreFilled, AreOccupied, AreRising, AreZeroFrom, IsNextFilled, entry_count, nonzeros, row_triples, support, triples_of, with_zeros};
+ghost use Rattle.sparse_rows.specs.Rows.{above, AppendsFirst, AreFilled, AreOccupied, AreZeroFrom, IsNextFilled, entry_count, nonzeros, row_triples, support, triples_of, with_zeros};
+ghost use Rattle.column_lists.specs.Numbers.{AreBelow, AreRising};
 ghost use Rattle.sparse_rows.specs.Stored.{IsSparse, with_row, with_sparse_row};
 
 mod from_entries;
 mod from_rows;
 mod weights;
 
-use crate::column_lists::{first_from, place_of};
 use crate::entry_room::EntryRoom;
 use crate::sparse::Sparse;
 use crate::stored_rows::StoredRows;
+use column_lists::{first_from, place_of};
 use residue_words::Modulus;
 use std::alloc::{AllocError, Global};
 use std::marker::Model;
-
-/// The largest height and width of a matrix, 2^31.
-pub const LARGEST_SIZE: u32 = 0x8000_0000;
 
 /// A matrix of residues as compressed rows: of each row the columns with a nonzero entry, ascending, and the entries there.
 /// Contracts see the plain matrix with its modulus. It takes 12 bytes an entry and 8 bytes a row; where the rows are many more

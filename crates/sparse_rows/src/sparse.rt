@@ -2,7 +2,8 @@
 ghost use Rattle.residue_words.specs.declared.modulus.TheConstants.{MODULUS_BOUND};
 ghost use Rattle.std.specs.Prelude.{◌≡◌, ◌<◌, ◌≤◌, ◌^◌, ℕ, length, slice_index, slice_set, IfOk, OnOk, OnErr};
 ghost use Rattle.residue_words.specs.Matrix.{IsVector, zeros};
-ghost use Rattle.sparse_rows.specs.Rows.{AreBelow, AreRising, nonzeros, support};
+ghost use Rattle.column_lists.specs.Numbers.{AreBelow, AreRising};
+ghost use Rattle.sparse_rows.specs.Rows.{nonzeros, support};
 
 use residue_words::Modulus;
 use std::alloc::{AllocError, Global};

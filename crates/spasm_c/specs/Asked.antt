@@ -5,8 +5,7 @@ use Rattle.residue_words.specs.Matrix.{IsMatrix}
 use Rattle.residue_words.specs.declared.plain.Pair.{Pair}
 use Rattle.row_space.specs.Echelon.{HasRank, IsRref}
 use Rattle.row_space.specs.Kernel.{IsKernel}
-use Rattle.sparse_rows.specs.Rows.{ResidueMatrix, transposed}
-use Rattle.sparse_rows.specs.declared.rows.TheConstants.{LARGEST_SIZE}
+use Rattle.sparse_rows.specs.Rows.{ResidueMatrix, transposed, LARGEST_SIZE}
 use Rattle.pivot_table.specs.Selected.{Selected}
 use Rattle.kernel_solve.specs.Column.{column}
 use Rattle.spasm_lib.specs.Inversion.{HasInversionShape, IsInversion}

@@ -14,8 +14,7 @@ use Rattle.row_space.proofs.Counting.{spanned_back}
 use Rattle.row_space.proofs.FactorLaws.{rank_of_factors}
 use Rattle.row_space.proofs.Spans.{place_coefficient, places_independent}
 use Rattle.row_space.proofs.Unique.{rank_unique}
-use Rattle.sparse_rows.specs.Rows.{ResidueMatrix}
-use Rattle.sparse_rows.specs.declared.rows.TheConstants.{LARGEST_SIZE}
+use Rattle.sparse_rows.specs.Rows.{ResidueMatrix, LARGEST_SIZE}
 use Rattle.echelon_form.specs.Form.{Form, IsFormOf}
 use Rattle.dense_finish.specs.declared.factors.Factors.{Factors}
 use Rattle.schur_rows.proofs.FactorRows.{factor_rows_independent, factor_rows_span}

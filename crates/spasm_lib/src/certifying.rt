@@ -3,7 +3,7 @@ ghost use Rattle.std.specs.Prelude.{◌≡◌, ◌<◌, ◌≤◌, ℕ, IfOk};
 ghost use Rattle.residue_words.specs.Residues.{IsPrime};
 ghost use Rattle.residue_words.specs.Matrix.{IsMatrix, Matrix};
 ghost use Rattle.row_space.specs.Factors.{IsValid};
-ghost use Rattle.sparse_rows.specs.declared.rows.TheConstants.{LARGEST_SIZE};
+ghost use Rattle.sparse_rows.specs.Rows.{LARGEST_SIZE};
 ghost use Rattle.pluq_factor.specs.Basis.{IsBasis};
 ghost use Rattle.pluq_factor.specs.Staged.{Staged};
 ghost use Rattle.certificates.specs.Certificate.{AreModulo, certificate_of, claim_kind, claim_of};

@@ -1,7 +1,7 @@
 // Inverses.
 ghost use Rattle.std.specs.Prelude.{◌≡◌, ◌≤◌, ◌*◌, IfOk, IfSome};
 ghost use Rattle.residue_words.specs.Residues.{IsPrime};
-ghost use Rattle.sparse_rows.specs.declared.rows.TheConstants.{LARGEST_SIZE};
+ghost use Rattle.sparse_rows.specs.Rows.{LARGEST_SIZE};
 ghost use Rattle.kernel_solve.specs.Inverted.{IsSquareOf, TellsInverse};
 ghost use Rattle.spasm_lib.specs.Inversion.{HasInversionShape, IsInversion};
 

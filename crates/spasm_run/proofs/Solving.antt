@@ -7,8 +7,7 @@ use Rattle.residue_words.specs.Matrix.{Matrix, IsMatrix, entry, row}
 use Rattle.residue_words.proofs.Vectors.{at_list_of, entry_matrix_of, entry_residue, is_matrix_of, length_list_of, matrix_equal}
 use Rattle.row_space.proofs.Unique.{refutation_unique, solution_unique}
 use Rattle.sms_text.specs.Written.{text_of}
-use Rattle.sparse_rows.specs.Rows.{ResidueMatrix}
-use Rattle.sparse_rows.specs.declared.rows.TheConstants.{LARGEST_SIZE}
+use Rattle.sparse_rows.specs.Rows.{ResidueMatrix, LARGEST_SIZE}
 use Rattle.kernel_solve.specs.Column.{column, column_matrix}
 use Rattle.kernel_solve.proofs.Matrices.{one_item}
 use Rattle.spasm_lib.specs.declared.outcome.Inverse.TheVariants as inversion

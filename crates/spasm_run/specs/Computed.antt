@@ -4,7 +4,7 @@ use Rattle.residue_words.specs.Matrix.{Matrix}
 use Rattle.certificates.specs.Certificate.{certificate_of}
 use Rattle.certificates.specs.CertificateText.{HasText, certificate_text}
 use Rattle.run_trace.specs.TraceText as trace
-use Rattle.sparse_rows.specs.declared.rows.TheConstants.{LARGEST_SIZE}
+use Rattle.sparse_rows.specs.Rows.{LARGEST_SIZE}
 use Rattle.sms_text.specs.Reading.{Draws, untouched}
 use Rattle.sms_text.specs.declared.write.WriteFault.{WriteFault}
 use Rattle.sms_text.specs.Stream.{SinkState, SourceState}

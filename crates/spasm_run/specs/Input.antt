@@ -6,8 +6,7 @@ use Rattle.sms_text.specs.Lines.{Line}
 use Rattle.sms_text.specs.Reading.{Draws, IsShort, Says, Supply, is_failed, untouched}
 use Rattle.sms_text.specs.Stream.{SourceState}
 use Rattle.sms_text.specs.Text.{Item, Reads, Request, reading}
-use Rattle.sparse_rows.specs.Rows.{ResidueMatrix}
-use Rattle.sparse_rows.specs.declared.rows.TheConstants.{LARGEST_SIZE}
+use Rattle.sparse_rows.specs.Rows.{ResidueMatrix, LARGEST_SIZE}
 use Rattle.certificates.specs.declared.certificate.Certificate.{Certificate}
 use Rattle.run_trace.specs.declared.trace.Trace.{Trace}
 use Rattle.grow_form.specs.declared.answering.Answer.{Answer}

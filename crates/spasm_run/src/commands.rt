@@ -1,6 +1,6 @@
 // What each command answers to the matrices that were read.
 ghost use Rattle.std.specs.Prelude.{◌≡◌, ◌≤◌, ◌<◌, [], ◌∷◌, IfOk};
-ghost use Rattle.sparse_rows.specs.declared.rows.TheConstants.{LARGEST_SIZE};
+ghost use Rattle.sparse_rows.specs.Rows.{LARGEST_SIZE};
 ghost use Rattle.sms_text.specs.Text.{Header};
 ghost use Rattle.certificates.specs.Certificate.{AreModulo};
 ghost use Rattle.spasm_run.specs.Answers.{wanted};

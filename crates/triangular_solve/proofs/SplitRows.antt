@@ -8,7 +8,7 @@ use Rattle.residue_words.proofs.Lists.{contains_at, place_in}
 use Rattle.residue_words.proofs.Vectors.{at_zeros}
 use Rattle.sparse_rows.specs.Rows.{AreBelow}
 use Rattle.sparse_rows.specs.Stored.{IsSparse, spread}
-use Rattle.sparse_rows.proofs.Expanding.{among_or_not}
+use Rattle.sparse_rows.proofs.Occurrences.{among_or_not}
 use Rattle.sparse_rows.proofs.Loops.{length_zeros}
 use Rattle.sparse_rows.proofs.Spread.{at_spread, entry_beyond, length_spread, spread_none, spread_push}
 use Rattle.triangular_solve.specs.AscendingColumns.{IsPlaceOf}

@@ -8,7 +8,8 @@ use Rattle.residue_words.specs.Matrix.{IsMatrix, Matrix, row}
 use Rattle.sparse_rows.specs.Rows.{AddsMultiple, ResidueRow}
 use Rattle.sparse_rows.specs.Stored.{part, spread, stored_matrix, stored_row, with_row}
 use Rattle.sparse_rows.proofs.Spread.{at_spread, map_range_equal}
-use Rattle.sparse_rows.proofs.Stored.{part_before, part_end, row_stored}
+use Rattle.sparse_rows.proofs.Parts.{part_before, part_end}
+use Rattle.sparse_rows.proofs.Stored.{row_stored}
 use Rattle.lead_rows.proofs.Scattered.{scattered_vector}
 use Rattle.triangular_solve.specs.FlatRows.{AddsRowTimes}
 use Rattle.lead_rows.specs.Scattered.{IsScattered, ListsBehind}

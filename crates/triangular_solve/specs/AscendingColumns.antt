@@ -1,7 +1,6 @@
 -- How the places of ascending columns are found.
 use Rattle.std.specs.Prelude.{◌≡◌, ◌≢◌, ◌<◌, ◌≤◌, ℕ, List, length, slice_index, Option, Vec, IfSome}
-use Rattle.sparse_rows.specs.Rows.{AreRising}
-use Rattle.sparse_rows.specs.declared.rows.TheConstants.{LARGEST_SIZE}
+use Rattle.sparse_rows.specs.Rows.{AreRising, LARGEST_SIZE}
 use Rattle.std.specs.declared.alloc.Global.{Global}
 use Rattle.triangular_solve.specs.declared.ascending_columns.TheConstants.{NONE}
 

@@ -6,8 +6,7 @@ use Rattle.residue_words.specs.Residues.{IsPrime, sum_below}
 use Rattle.residue_words.specs.Matrix.{Matrix, IsVector, entry, list_of, zeros}
 use Rattle.residue_words.specs.declared.plain.Pair.{Pair}
 use Rattle.row_space.specs.Factors.{row_at, col_at}
-use Rattle.sparse_rows.specs.Rows.{AreBelow, AreRising, ResidueMatrix, ResidueRow, support}
-use Rattle.sparse_rows.specs.declared.rows.TheConstants.{LARGEST_SIZE}
+use Rattle.sparse_rows.specs.Rows.{AreBelow, AreRising, ResidueMatrix, ResidueRow, support, LARGEST_SIZE}
 use Rattle.lead_rows.specs.Accumulator.{IsClear}
 use Rattle.lead_rows.specs.Scattered.{HaveDistinctColumns}
 use Rattle.triangular_solve.specs.AscendingColumns.{IsPlaceOf, IsTable}

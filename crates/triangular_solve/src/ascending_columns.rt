@@ -1,8 +1,7 @@
 // Where ascending columns stand.
 ghost use Rattle.std.specs.Prelude.{ℕ, ◌≡◌, ◌≢◌, ◌<◌, ◌≤◌, length, slice_index, IfNone, IfOk, IfSome, MatchOption};
 ghost use Rattle.std.specs.List.{Contains};
-ghost use Rattle.sparse_rows.specs.Rows.{AreBelow, AreRising};
-ghost use Rattle.sparse_rows.specs.declared.rows.TheConstants.{LARGEST_SIZE};
+ghost use Rattle.sparse_rows.specs.Rows.{AreBelow, AreRising, LARGEST_SIZE};
 ghost use Rattle.lead_rows.specs.Scattered.{HaveDistinctColumns};
 ghost use Rattle.triangular_solve.specs.AscendingColumns.{HasTable, IsPlaceOf, IsTable};
 ghost use Rattle.triangular_solve.specs.declared.ascending_columns.TheConstants.{NONE};

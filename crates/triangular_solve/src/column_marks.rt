@@ -2,8 +2,7 @@
 ghost use Rattle.std.specs.Prelude.{◌≡◌, ◌<◌, ◌≤◌, ℕ, length, map, IfOk};
 ghost use Rattle.row_space.specs.Factors.{row_at};
 ghost use Rattle.sparse_rows.specs.ColumnSet.{AllZero};
-ghost use Rattle.sparse_rows.specs.Rows.{AreBelow, AreOccupied, selected};
-ghost use Rattle.sparse_rows.specs.declared.rows.TheConstants.{LARGEST_SIZE};
+ghost use Rattle.sparse_rows.specs.Rows.{AreBelow, AreOccupied, selected, LARGEST_SIZE};
 ghost use Rattle.triangular_solve.specs.ColumnMarks.{AreMarksOf, ListsMarks, MarksColumns};
 
 use pivot_table::Pair;

@@ -2,7 +2,7 @@
 ghost use Rattle.std.specs.Prelude.{◌≡◌, ◌<◌, length, map, OnOk};
 ghost use Rattle.residue_words.specs.Matrix.{row};
 ghost use Rattle.sparse_rows.specs.Stored.{with_row};
-ghost use Rattle.sparse_rows.specs.declared.rows.TheConstants.{LARGEST_SIZE};
+ghost use Rattle.sparse_rows.specs.Rows.{LARGEST_SIZE};
 ghost use Rattle.lead_rows.specs.Scattered.{HaveDistinctColumns};
 ghost use Rattle.triangular_solve.specs.PivotRows.{row_on};
 ghost use Rattle.triangular_solve.specs.PlacedEntries.{ArePlacedEntries};

@@ -1,9 +1,8 @@
 // The room in which rows are reduced.
 ghost use Rattle.std.specs.Prelude.{◌≡◌, ◌<◌, ◌≤◌, ℕ, List, length, slice_index, IfOk, OnOk, OnErr};
 ghost use Rattle.residue_words.specs.Matrix.{IsVector, zeros};
-ghost use Rattle.sparse_rows.specs.Rows.{AreBelow};
+ghost use Rattle.sparse_rows.specs.Rows.{AreBelow, LARGEST_SIZE};
 ghost use Rattle.sparse_rows.specs.Stored.{IsSparse, spread};
-ghost use Rattle.sparse_rows.specs.declared.rows.TheConstants.{LARGEST_SIZE};
 ghost use Rattle.lead_rows.specs.Accumulator.{IsAlike, IsClear};
 ghost use Rattle.triangular_solve.specs.FlatRows.{AreAllFlat, IsFlatRest};
 ghost use Rattle.triangular_solve.specs.PivotRows.{ArePivotsReduced, IsRoomFor};

@@ -14,8 +14,8 @@ use Rattle.row_space.proofs.Spans.{same_span_of_rows, same_span_turned}
 use Rattle.sparse_rows.specs.Rows.{AreFilled, ResidueMatrix, nonzeros, selected, support}
 use Rattle.sparse_rows.specs.Stored.{entry_at}
 use Rattle.sparse_rows.proofs.FilledRows.{filled_or_zero, zero_row}
-use Rattle.sparse_rows.proofs.Occurring.{rising_push}
-use Rattle.sparse_rows.proofs.Renaming.{rising_short}
+use Rattle.sparse_rows.proofs.Occurrences.{rising_push}
+use Rattle.sparse_rows.proofs.Rising.{rising_short}
 use Rattle.sparse_rows.proofs.Transposed.{all_selected}
 use Rattle.sparse_rows.proofs.Spread.{entry_head, entry_support, entry_tail, support_sparse}
 use Rattle.weight_order.specs.Keeping.{KeepsRank}

@@ -6,7 +6,7 @@ use Rattle.residue_words.specs.Matrix.{Matrix, IsMatrix}
 use Rattle.residue_words.specs.Residues.{IsPrime}
 use Rattle.row_space.specs.Echelon.{HasRank}
 use Rattle.sparse_rows.specs.Rows.{ResidueMatrix, selected, transposed}
-use Rattle.sparse_rows.proofs.Renaming.{rising_short}
+use Rattle.sparse_rows.proofs.Rising.{rising_short}
 use Rattle.weight_order.specs.Keeping.{AreFilledInSomeOrder, KeepsRank}
 use Rattle.weight_order.specs.Laws.{HasEachFilled}
 use Rattle.weight_order.proofs.Selecting.{selected_matrix, selecting_rank}

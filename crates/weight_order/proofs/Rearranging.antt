@@ -13,7 +13,7 @@ use Rattle.residue_words.proofs.Vectors.{entry_matrix_of, list_of_equal, row_mat
 use Rattle.sparse_rows.specs.Rows.{AreDistinct, AreEnoughInSomeOrder, ResidueMatrix, narrowed, nonzeros, selected, support, transposed}
 use Rattle.sparse_rows.specs.Stored.{IsSparse, entry_at, spread}
 use Rattle.sparse_rows.proofs.Loops.{sized}
-use Rattle.sparse_rows.proofs.Permuting.{at_turned, turned, turned_back, turned_below}
+use Rattle.sparse_rows.proofs.Exchanging.{at_turned, turned, turned_back, turned_below}
 use Rattle.sparse_rows.proofs.Spread.{entry_cover, entry_here, entry_support, map_range_equal, support_sparse}
 use Rattle.weight_order.specs.Rearranged.{ArePlacesIn, paired}
 use Rattle.weight_order.proofs.Selecting.{row_selected}

@@ -1,7 +1,6 @@
 // Rows in another order, and their columns too.
-ghost use Rattle.sparse_rows.specs.declared.rows.TheConstants.{LARGEST_SIZE};
+ghost use Rattle.sparse_rows.specs.Rows.{LARGEST_SIZE, AreBelow, AreDistinct, AreEnoughInSomeOrder, narrowed, selected};
 ghost use Rattle.std.specs.Prelude.{◌≡◌, ◌<◌, ◌≤◌, length, map, All, IfOk, OnOk};
-ghost use Rattle.sparse_rows.specs.Rows.{AreBelow, AreDistinct, AreEnoughInSomeOrder, narrowed, selected};
 ghost use Rattle.weight_order.specs.Rearranged.{ArePlacesIn, paired};
 
 use sparse_rows::Rows;

@@ -1,5 +1,5 @@
 // Matrices without rows that are multiples of others, modulo 7.
-ghost use Rattle.sparse_rows.specs.declared.rows.TheConstants.{LARGEST_SIZE};
+ghost use Rattle.sparse_rows.specs.Rows.{LARGEST_SIZE};
 
 use super::entries::{Entries, built, is_matrix};
 use plain_elimination::{plain_rows, rank_of};

@@ -1,5 +1,5 @@
 // Matrices made of entries or row by row, small ones and huge ones with few entries.
-ghost use Rattle.sparse_rows.specs.declared.rows.TheConstants.{LARGEST_SIZE};
+ghost use Rattle.sparse_rows.specs.Rows.{LARGEST_SIZE};
 ghost use Rattle.std.specs.Prelude.{◌≡◌, ◌≤◌, ◌+◌, length, IfOk};
 ghost use Rattle.residue_words.specs.Matrix.{zeros};
 

@@ -1,5 +1,5 @@
 // What is made of small matrices, and of huge ones with few entries.
-ghost use Rattle.sparse_rows.specs.declared.rows.TheConstants.{LARGEST_SIZE};
+ghost use Rattle.sparse_rows.specs.Rows.{LARGEST_SIZE};
 ghost use Rattle.std.specs.Prelude.{◌≡◌};
 
 use super::entries::{Entries, built, is_matrix, lists};

@@ -1,5 +1,5 @@
 // Matrices with their rarest columns first, modulo 7.
-ghost use Rattle.sparse_rows.specs.declared.rows.TheConstants.{LARGEST_SIZE};
+ghost use Rattle.sparse_rows.specs.Rows.{LARGEST_SIZE};
 
 use super::entries::{Entries, built, is_matrix};
 use sparse_rows::{LARGEST_SIZE, Rows};

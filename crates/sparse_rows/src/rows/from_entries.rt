@@ -1,17 +1,17 @@
 // Matrices made of their entries.
-ghost use Rattle.sparse_rows.specs.declared.rows.TheConstants.{LARGEST_SIZE};
+ghost use Rattle.column_lists.specs.declared.sizes.TheConstants.{LARGEST_SIZE};
 ghost use Rattle.std.specs.Prelude.{◌≡◌, ◌<◌, ◌≤◌, ◌+◌, ◌-◌, ◌*◌, ℕ, length, false, map, slice_index, All, IfNone, IfOk, IfSome};
 ghost use Rattle.residue_words.specs.Matrix.{row};
 ghost use Rattle.sparse_rows.specs.Cells.{AreEntries, IsWithin, matrix_of_cells, place_of};
 ghost use Rattle.sparse_rows.specs.Rows.{AllFit, FitsMatrix, built, identity, listed_triples, triple};
 
 use crate::builder::RowsBuilder;
-use crate::column_lists::{occurring, place_of, places_among};
-use crate::ordered_cells::{OrderedCells, RowParts, starts_of};
-use crate::rows::{LARGEST_SIZE, Rows, stores_every_row};
+use crate::ordered_cells::{OrderedCells, starts_of};
+use crate::rows::{Rows, stores_every_row};
 use crate::sparse::Sparse;
 use crate::stored_rows::StoredRows;
 use crate::values_at_places::{Cell, listed, renumbered, row_numbers};
+use column_lists::{LARGEST_SIZE, RowParts, occurring, place_of, places_among};
 use residue_words::Modulus;
 use std::alloc::{AllocError, Global};
 

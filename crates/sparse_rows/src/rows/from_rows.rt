@@ -1,11 +1,12 @@
 // What is made of a matrix: others of its rows and columns, and its product with a column.
-ghost use Rattle.sparse_rows.specs.declared.rows.TheConstants.{LARGEST_SIZE};
+ghost use Rattle.column_lists.specs.declared.sizes.TheConstants.{LARGEST_SIZE};
 ghost use Rattle.std.specs.Prelude.{◌≡◌, ◌<◌, ◌≤◌, ◌+◌, ◌-◌, ◌*◌, ◌%◌, ℕ, [], ◌++◌, length, false, if◌then◌else◌, slice_index, All, IfOk, OnOk};
 ghost use Rattle.residue_words.specs.Matrix.{IsVector, apply, entry, row};
 ghost use Rattle.residue_words.specs.Residues.{sum_below};
-ghost use Rattle.sparse_rows.specs.Columns.{GoTo};
+ghost use Rattle.column_lists.specs.Columns.{GoTo};
 ghost use Rattle.sparse_rows.specs.Placed.{AgreeBelow, IsZeroBetween, HasRowAt};
-ghost use Rattle.sparse_rows.specs.Rows.{AreEnough, AreEnoughInSomeOrder, AreRising, beside, narrowed, selected, transposed, widened, with_zeros};
+ghost use Rattle.sparse_rows.specs.Rows.{AreEnough, AreEnoughInSomeOrder, beside, narrowed, selected, transposed, widened, with_zeros};
+ghost use Rattle.column_lists.specs.Numbers.{AreRising};
 ghost use Rattle.sparse_rows.specs.Stored.{with_row};
 
 use crate::filled_in_either::FilledInEither;

@@ -1,6 +1,6 @@
 use Rattle.std.proofs.Common.{arith, subst, sym}
 use Rattle.sparse_rows.specs.Rows.{AreFilled}
-use Rattle.sparse_rows.proofs.Renaming.{rising_short}
+use Rattle.sparse_rows.proofs.Rising.{rising_short}
 use Rattle.weight_order.specs.Multiples.{AreRepresentatives}
 use Rattle.weight_order.proofs.Dropping.{kept_below, kept_inside, kept_spanning, spanning_itself}
 use Rattle.weight_order.proofs.without_multiples.Goals as goal

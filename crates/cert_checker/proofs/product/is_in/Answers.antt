@@ -2,7 +2,7 @@ use Rattle.std.proofs.Common.{Ok, Err, inl, inr, refl, arith}
 use Rattle.std.proofs.lemmas.Bool.{cases_lt, false≢true}
 use Rattle.std.proofs.lemmas.List.Sorted.{searched}
 use Rattle.residue_words.proofs.Lists.{contains_at, place_in}
-use Rattle.sparse_rows.proofs.Occurring.{rising_weakly}
+use Rattle.sparse_rows.proofs.Occurrences.{rising_weakly}
 use Rattle.cert_checker.proofs.product.is_in.Goals as goal
 
 pub returns-in-Ok : goal.returns-in-Ok

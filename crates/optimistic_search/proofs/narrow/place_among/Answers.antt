@@ -2,7 +2,7 @@ use Rattle.std.proofs.Common.{Err, inl, inr, arith}
 use Rattle.std.proofs.lemmas.Bool.{cases_lt}
 use Rattle.std.proofs.lemmas.List.Sorted.{searched}
 use Rattle.residue_words.proofs.Lists.{place_in}
-use Rattle.sparse_rows.proofs.Occurring.{rising_weakly}
+use Rattle.sparse_rows.proofs.Occurrences.{rising_weakly}
 use Rattle.optimistic_search.proofs.narrow.place_among.Goals as goal
 
 pub returns-in-Err-clause-inside : goal.returns-in-Err-clause-inside

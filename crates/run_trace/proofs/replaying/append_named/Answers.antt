@@ -1,7 +1,7 @@
 -- By the place of the column.
 use Rattle.std.proofs.Common.{Ok, Err, arith}
 use Rattle.std.proofs.lemmas.List.Sorted.{searched}
-use Rattle.sparse_rows.proofs.Occurring.{rising_weakly}
+use Rattle.sparse_rows.proofs.Occurrences.{rising_weakly}
 use Rattle.run_trace.proofs.Appending.{named_alive, named_inside, named_pairs, nowhere_alive, row_closed, rows_kept}
 use Rattle.run_trace.proofs.replaying.append_named.Goals as goal
 

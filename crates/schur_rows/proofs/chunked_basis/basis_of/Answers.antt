@@ -1,7 +1,6 @@
 use Rattle.std.proofs.Common.{◌≤◌, ◌∙◌, ap, arith, subst, sym}
 use Rattle.residue_words.specs.Matrix.{IsMatrix}
-use Rattle.sparse_rows.specs.Rows.{ResidueMatrix}
-use Rattle.sparse_rows.specs.declared.rows.TheConstants.{LARGEST_SIZE}
+use Rattle.sparse_rows.specs.Rows.{ResidueMatrix, LARGEST_SIZE}
 use Rattle.schur_rows.proofs.Streaming.{basis_all, basis_none, without_coefficients}
 use Rattle.triangular_solve.proofs.SchurRows.{schur_row_one}
 use Rattle.schur_rows.proofs.FullBasis.{basis_full}

@@ -1,7 +1,7 @@
 use Rattle.std.proofs.Common.{Ok, Err, inl, inr, arith}
 use Rattle.std.proofs.lemmas.Bool.{cases_lt}
 use Rattle.std.proofs.lemmas.List.Sorted.{searched}
-use Rattle.sparse_rows.proofs.Occurring.{rising_weakly}
+use Rattle.sparse_rows.proofs.Occurrences.{rising_weakly}
 use Rattle.schur_rows.proofs.pivot_numbers.place_of.Goals as goal
 
 pub returns-in-Ok : goal.returns-in-Ok

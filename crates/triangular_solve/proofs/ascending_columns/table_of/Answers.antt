@@ -2,7 +2,7 @@ use Rattle.std.proofs.Common.{ℕ, ◌≡◌, ◌∙◌, length, replicate, ap, 
 use Rattle.std.specs.Vec.{with_items}
 use Rattle.std.proofs.lemmas.List.{length-replicate, with_items_is}
 use Rattle.sparse_rows.specs.Rows.{AreBelow}
-use Rattle.sparse_rows.proofs.Renaming.{rising_short}
+use Rattle.sparse_rows.proofs.Rising.{rising_short}
 use Rattle.triangular_solve.specs.AscendingColumns.{IsTable}
 use Rattle.triangular_solve.proofs.Placing.{no_places, rising_distinct}
 use Rattle.triangular_solve.proofs.ascending_columns.table_of.Goals as goal

@@ -2,9 +2,8 @@ use Rattle.std.proofs.Common.{ℕ, List, ◌≤◌, ◌≡◌, ◌<◌, ◌∙�
 use Rattle.std.proofs.lemmas.List.{length-map}
 use Rattle.std.proofs.lemmas.List.Elements.{Contains-get_or}
 use Rattle.residue_words.specs.declared.plain.Pair.{Pair}
-use Rattle.sparse_rows.specs.Rows.{AreRising, ResidueMatrix}
+use Rattle.sparse_rows.specs.Rows.{AreRising, ResidueMatrix, LARGEST_SIZE}
 use Rattle.triangular_solve.specs.Listing.{AreSortedPivots, AreWaits, HasReady}
-use Rattle.sparse_rows.specs.declared.rows.TheConstants.{LARGEST_SIZE}
 use Rattle.pivot_table.specs.Order.{IsTriangularOrder}
 use Rattle.triangular_solve.proofs.Listing.{col_is, no_pair, order_of_sorted}
 use Rattle.triangular_solve.proofs.triangle.in_order.Goals as goal

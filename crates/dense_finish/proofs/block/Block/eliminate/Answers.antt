@@ -1,5 +1,5 @@
 use Rattle.std.proofs.Common.{◌≡◌, ◌≤◌, ◌∙◌, ◌++◌, ap, arith, drop, length, sym, take}
-use Rattle.sparse_rows.specs.declared.rows.TheConstants.{LARGEST_SIZE}
+use Rattle.sparse_rows.specs.Rows.{LARGEST_SIZE}
 use Rattle.dense_finish.proofs.Assembling.{eliminates}
 use Rattle.dense_rows.proofs.Parts.{refilled}
 use Rattle.dense_finish.proofs.block.Block.eliminate.Goals as goal

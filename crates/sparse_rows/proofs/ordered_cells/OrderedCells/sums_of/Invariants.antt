@@ -1,5 +1,5 @@
 use Rattle.std.proofs.Common.{◌<◌, take}
-use Rattle.sparse_rows.specs.declared.rows.TheConstants.{LARGEST_SIZE}
+use Rattle.column_lists.specs.declared.sizes.TheConstants.{LARGEST_SIZE}
 use Rattle.sparse_rows.specs.Cells.{row_of}
 use Rattle.sparse_rows.proofs.Summing.{IsSummed}
 use Rattle.sparse_rows.proofs.ordered_cells.OrderedCells.sums_of.Given as goal

@@ -3,7 +3,7 @@ use Rattle.std.proofs.Common.{◌<◌, ◌∙◌, ap, arith, map, subst, sym}
 use Rattle.std.specs.List.{All}
 use Rattle.std.proofs.lemmas.List.Elements.{All-weaker}
 use Rattle.sparse_rows.specs.Cells.{IsWithin, place_of, renumbered, row_of, weight}
-use Rattle.sparse_rows.specs.Columns.{AreOccurring}
+use Rattle.column_lists.specs.Columns.{AreOccurring}
 use Rattle.sparse_rows.specs.Placed.{AreNamed, expanded}
 use Rattle.sparse_rows.specs.Rows.{matrix_by}
 use Rattle.sparse_rows.proofs.Renumbering.{is_numbered, occurring_among, occurring_few, rows_low}

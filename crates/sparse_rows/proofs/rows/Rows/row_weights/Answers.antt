@@ -1,6 +1,6 @@
 use Rattle.std.proofs.Common.{ap, arith, length}
 use Rattle.sparse_rows.proofs.FilledRows.{weights_more}
-use Rattle.sparse_rows.proofs.Renaming.{rising_short}
+use Rattle.column_lists.proofs.Rising.{rising_short}
 use Rattle.sparse_rows.proofs.rows.Rows.row_weights.Goals as goal
 
 pub overflow_add-from : goal.overflow_add-from

@@ -1,6 +1,6 @@
 use Rattle.std.proofs.Common.{◌≡◌, ◌∙◌, ap, ap₂, cond, subst, sym}
 use Rattle.residue_words.specs.Matrix.{Matrix}
-use Rattle.sparse_rows.specs.Columns.{GoTo}
+use Rattle.column_lists.specs.Columns.{GoTo}
 use Rattle.sparse_rows.specs.Placed.{AreNamed, expanded}
 use Rattle.sparse_rows.specs.Rows.{narrowed, transposed, widened, AreEnough}
 use Rattle.sparse_rows.proofs.Expanding.{listed, transposed_listed, transposed_placed, turned_sound, placed_small}

@@ -1,9 +1,9 @@
 use Rattle.std.proofs.Common.{◌≡◌, ◌∙◌, ap, arith, length, subst, sym}
 use Rattle.residue_words.specs.Matrix.{row}
-use Rattle.sparse_rows.specs.Columns.{IsAbsent, IsAt}
+use Rattle.column_lists.specs.Columns.{IsAbsent, IsAt}
 use Rattle.sparse_rows.specs.Rows.{nonzeros, support}
 use Rattle.sparse_rows.proofs.Expanding.{listed, listed_row, nonzeros_zeros, support_zeros, unlisted_row}
-use Rattle.sparse_rows.proofs.Renaming.{rising_short}
+use Rattle.column_lists.proofs.Rising.{rising_short}
 use Rattle.sparse_rows.proofs.rows.Rows.vals.Goals as goal
 use Rattle.sparse_rows.proofs.rows.Rows.vals.Goals.{After-vals-in-Some}
 

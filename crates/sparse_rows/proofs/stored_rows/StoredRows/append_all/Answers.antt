@@ -1,8 +1,9 @@
 use Rattle.std.proofs.Common.{ℕ, ◌≡◌, ◌∙◌, ◌-◌, ◌≤◌, ◌++◌, List, ap, ap₂, arith, length, slice_index, subst, sym}
 use Rattle.sparse_rows.specs.Rows.{ResidueMatrix, above}
-use Rattle.sparse_rows.specs.Stored.{AreJoined, IsStored, stored_matrix}
+use Rattle.column_lists.specs.Parts.{AreJoined}
+use Rattle.sparse_rows.specs.Stored.{IsStored, stored_matrix}
 use Rattle.sparse_rows.proofs.Joining.{joined_matrix, joined_stored}
-use Rattle.sparse_rows.proofs.Stored.{starts_below}
+use Rattle.column_lists.proofs.Parts.{starts_below}
 use Rattle.sparse_rows.proofs.stored_rows.StoredRows.append_all.Goals as goal
 use Rattle.sparse_rows.proofs.stored_rows.StoredRows.append_all.Goals.{In_ok-extend_from_slice-2}
 

@@ -1,7 +1,7 @@
 use Rattle.std.proofs.Common.{◌+◌, ◌<◌, ◌∙◌, ap, arith, length, subst, sym}
 use Rattle.residue_words.specs.Matrix.{Matrix}
 use Rattle.sparse_rows.specs.Rows.{transposed}
-use Rattle.sparse_rows.specs.Stored.{count_of}
+use Rattle.column_lists.specs.Parts.{count_of}
 use Rattle.sparse_rows.proofs.FilledRows.{AreWeightsSoFar}
 use Rattle.residue_words.proofs.Vectors.{length_list_of}
 use Rattle.sparse_rows.proofs.Expanding.{column_short}

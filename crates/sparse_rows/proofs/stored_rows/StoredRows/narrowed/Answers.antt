@@ -1,8 +1,9 @@
 use Rattle.std.proofs.Common.{◌∙◌, ap, arith, subst, sym}
-use Rattle.sparse_rows.specs.Columns.{ArePlaces}
+use Rattle.column_lists.specs.Columns.{ArePlaces}
 use Rattle.sparse_rows.specs.Rows.{AreEnough, ResidueMatrix, narrowed}
 use Rattle.sparse_rows.proofs.FilledRows.{columns_enough}
-use Rattle.sparse_rows.proofs.Renaming.{narrowed_stored, rising_short}
+use Rattle.sparse_rows.proofs.Renaming.{narrowed_stored}
+use Rattle.column_lists.proofs.Rising.{rising_short}
 use Rattle.sparse_rows.proofs.stored_rows.StoredRows.narrowed.Goals as goal
 
 pub overflow_cast-result : goal.overflow_cast-result

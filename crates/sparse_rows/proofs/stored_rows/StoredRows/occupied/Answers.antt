@@ -1,6 +1,6 @@
 use Rattle.std.proofs.Common.{subst}
 use Rattle.std.proofs.lemmas.Result.{IfOk-weaker}
-use Rattle.sparse_rows.specs.Columns.{AreOccurring}
+use Rattle.column_lists.specs.Columns.{AreOccurring}
 use Rattle.sparse_rows.specs.Rows.{AreOccupied, ResidueMatrix}
 use Rattle.sparse_rows.proofs.FilledRows.{occupied_stored}
 use Rattle.sparse_rows.proofs.Transposed.{columns_below}

@@ -1,7 +1,7 @@
 use Rattle.std.proofs.Common.{◌∙◌, ap, subst, sym}
 use Rattle.std.specs.List.{range_with_len}
 use Rattle.sparse_rows.specs.Rows.{transposed}
-use Rattle.sparse_rows.specs.Stored.{AreBegun}
+use Rattle.column_lists.specs.Parts.{AreBegun}
 use Rattle.sparse_rows.proofs.Transposed.{all_begun_stored, columns_below}
 use Rattle.sparse_rows.proofs.stored_rows.StoredRows.transpose.Goals as goal
 

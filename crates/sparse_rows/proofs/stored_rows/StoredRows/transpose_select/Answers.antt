@@ -1,6 +1,6 @@
 use Rattle.std.proofs.Common.{◌∙◌, ap, subst, sym}
 use Rattle.sparse_rows.specs.Rows.{AreEnoughInSomeOrder, ResidueMatrix, selected, transposed}
-use Rattle.sparse_rows.specs.Stored.{AreBegun}
+use Rattle.column_lists.specs.Parts.{AreBegun}
 use Rattle.sparse_rows.proofs.FilledRows.{columns_enough}
 use Rattle.sparse_rows.proofs.Transposed.{begun_stored, columns_below}
 use Rattle.sparse_rows.proofs.stored_rows.StoredRows.transpose_select.Goals as goal

@@ -1,8 +1,10 @@
 use Rattle.std.proofs.Common.{◌≡◌, ◌<◌, ◌-◌, ◌+◌, ◌∙◌, ap, ap₂, arith, length, slice_index, slice_range, sym}
 use Rattle.residue_words.specs.Matrix.{row}
 use Rattle.sparse_rows.specs.Rows.{nonzeros, support}
-use Rattle.sparse_rows.specs.Stored.{IsSparse, part}
-use Rattle.sparse_rows.proofs.Stored.{nonzeros_stored, starts_below, support_stored}
+use Rattle.sparse_rows.specs.Stored.{IsSparse}
+use Rattle.column_lists.specs.Parts.{part}
+use Rattle.sparse_rows.proofs.Stored.{nonzeros_stored, support_stored}
+use Rattle.column_lists.proofs.Parts.{starts_below}
 use Rattle.sparse_rows.proofs.stored_rows.StoredRows.vals.Goals as goal
 use Rattle.sparse_rows.proofs.stored_rows.StoredRows.vals.Goals.{After-part}
 

@@ -1,5 +1,5 @@
 use Rattle.std.proofs.Common.{ℕ, List, ◌≤◌, length, subst, arith}
-use Rattle.sparse_rows.proofs.Renaming.{rising_short}
+use Rattle.sparse_rows.proofs.Rising.{rising_short}
 use Rattle.triangular_solve.specs.AscendingColumns.{IsTable}
 use Rattle.triangular_solve.proofs.ascending_columns.AscendingColumns.of.Goals as goal
 use Rattle.triangular_solve.proofs.ascending_columns.AscendingColumns.of.Goals.{then-width-len+in_ok-table_of, else-width-len}

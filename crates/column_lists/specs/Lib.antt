@@ -1,0 +1,4 @@
+pub mod Columns
+pub mod ColumnSet
+pub mod Numbers
+pub mod Parts
