@@ -1,29 +1,18 @@
 -- The matrix of what was pushed is that of the cells' sums.
-use Rattle.std.proofs.Common.{ℕ, ◌≡◌, ◌+◌, ◌%◌, ◌<◌, ◌≤◌, ◌&&◌, true, inl, inr, List, [], ◌∷◌, ◌++◌, append_assoc, map, cond, eqb, get_or, length, subst, sym, refl, take, ap, ap₂, ◌∙◌, arith}
-use Rattle.std.specs.List.{All}
+use Rattle.std.proofs.Common.{ℕ, ◌≡◌, ◌+◌, ◌%◌, ◌<◌, ◌≤◌, ◌&&◌, true, inl, inr, List, [], ◌∷◌, ◌++◌, append_assoc, map, cond, eqb, subst, sym, refl, ap, ap₂, ◌∙◌, arith}
 use Rattle.std.specs.List.Sorted.{IsPermutation}
 use Rattle.std.proofs.lemmas.Bool.{cases_eq, cond-true, cond-false, eq-eqb, ne_eqb}
-use Rattle.std.proofs.lemmas.List.{take_at}
-use Rattle.std.proofs.lemmas.List.Elements.{All-get_or, All-push, All-weaker}
+use Rattle.std.proofs.lemmas.List.Elements.{All-push}
 use Rattle.std.proofs.lemmas.List.Sorted.{All-permutation, IsPermutation-refl, sum_by-IsPermutation}
 use Rattle.std.proofs.lemmas.List.Sums.{sum_by-cons}
-use native.Mathlib.Nat.{mod-eq_of_lt, zero-mod}
 use Rattle.residue_words.specs.Matrix.{list_of}
 use Rattle.residue_words.proofs.Vectors.{list_of_equal}
-use Rattle.sparse_rows.specs.declared.values_at_places.Cell.{Cell}
-use Rattle.sparse_rows.specs.Cells.{AreEntries, ArePushed, AreSums, IsWithin, column_of, place_of, row_of, triple_of, weight}
+use Rattle.matrix_cells.specs.declared.values_at_places.Cell.{Cell}
+use Rattle.matrix_cells.specs.Cells.{AreEntries, AreSums, IsWithin, column_of, place_of, row_of, weight}
+use Rattle.sparse_rows.specs.Cells.{ArePushed, triple_of}
 use Rattle.sparse_rows.specs.Rows.{built, matrix_by, sum_at}
-use Rattle.sparse_rows.proofs.Cuts.{cell_at}
-use Rattle.sparse_rows.proofs.Spread.{map_range_equal}
-use Rattle.sparse_rows.proofs.Summing.{kept_places, weight_here, weight_none}
-
--- what a call made of a list's items, as it is read back
-pub read_back : (items new back rest : List Cell) (n : ℕ) → back ≡ take n (new ++ rest) → length new ≡ length items → n ≡ length items → back ≡ new
-read_back items new back rest n e l m = e ∙ take_at new rest n (omega arith)
-
--- so they are in another order
-pub reordered : (items read new back rest : List Cell) (n : ℕ) → read ≡ items → IsPermutation read new → back ≡ take n (new ++ rest) → length new ≡ length read → n ≡ length items → IsPermutation items back
-reordered items read new back rest n r s e l m = subst (λ xs. IsPermutation xs back) r (rw (read_back read new back rest n e l (m ∙ sym (ap length r))) s)
+use Rattle.matrix_cells.proofs.Ordered.{map_range_equal}
+use Rattle.matrix_cells.proofs.Sums.{entries_sums}
 
 -- equal entries make equal matrices
 pub matrix_by_equal : (m n : ℕ) (f g : ℕ → ℕ → ℕ) → ((i j : ℕ) → i < m → j < n → f i j ≡ g i j) → matrix_by m n f ≡ matrix_by m n g
@@ -49,13 +38,6 @@ sum_at_weight : (i j : ℕ) (cells : List Cell) → j < 4294967296 → sum_at i 
 sum_at_weight i j [] l = refl
 sum_at_weight i j (c ∷ cells) l = ap₂ ◌+◌ (counted i j c l) (sum_at_weight i j cells l) ∙ sym (sum_by-cons (λ c. cond (eqb c.place (place_of i j)) c.val 0) c cells)
 
--- the sums lie where the cells lie
-pub sums_within : (p m n : ℕ) (pushed sorted kept : List Cell) → IsPermutation pushed sorted → AreSums p sorted kept → All (IsWithin m n) pushed → All (IsWithin m n) kept
-sums_within p m n pushed sorted kept same sums within =
-    let P : ℕ → Type 0 = λ t. IsWithin m n record { place = t; val = 0 } in
-    let here : All (λ c. P c.place) sorted = All-weaker (IsWithin m n) (λ c. P c.place) (λ c h. record { row = h.row; column = h.column }) sorted (All-permutation (IsWithin m n) pushed sorted same within) in
-    All-weaker (λ c. P c.place) (IsWithin m n) (λ c h. record { row = h.row; column = h.column }) kept (kept_places p sorted kept P sums here)
-
 -- and make the matrix that is built
 pub sums_built : (p m n : ℕ) (pushed sorted kept : List Cell) → n ≤ 2147483648 → IsPermutation pushed sorted → AreSums p sorted kept →
     matrix_by m n (λ i j. weight (place_of i j) kept) ≡ built p m n (map triple_of pushed)
@@ -75,20 +57,6 @@ pushed_reordered p m n cells other same h = record {
   in_range = h.in_range;
   within = All-permutation (IsWithin m n) cells other same h.within;
   residues = All-permutation (λ c. c.val < p) cells other same h.residues;
-}
-
--- entries are their own sums
-pub entries_sums : (p : ℕ) (cells : List Cell) → AreEntries p cells → AreSums p cells cells
-entries_sums p cells e = record {
-  entries = e;
-  sums = λ t. elim (cell_at t cells) [
-    | inl none ↦ weight_none t cells none ∙ sym (ap (λ w. w % p) (weight_none t cells none) ∙ zero-mod p)
-    | inr k ↦
-        let d : Cell = record { place = 0; val = 0 } in
-        let here : weight t cells ≡ (get_or cells k.0 d).val = ap (λ t. weight t cells) (sym (k.2 d)) ∙ weight_here p cells k.0 d e k.1 in
-        let low : weight t cells < p = subst (λ w. w < p) (sym here) (All-get_or (λ c. c.val < p) cells k.0 d k.1 e.residues) in
-        sym (mod-eq_of_lt low)
-  ];
 }
 
 -- so they make the matrix that is built of them

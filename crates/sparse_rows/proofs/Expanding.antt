@@ -15,7 +15,8 @@ use Rattle.sparse_rows.specs.Stored.{IsSparse, entry_at, spread, with_row}
 use Rattle.sparse_rows.proofs.Loops.{length_zeros, row_before, row_last, sized}
 use Rattle.column_lists.proofs.Occurrences.{contained, rising_push, among_or_not}
 use Rattle.column_lists.proofs.Rising.{rising_short}
-use Rattle.sparse_rows.proofs.Spread.{entry_cover, entry_here, entry_support, map_range_equal, nonzeros_spread, sparse_none, spread_none, support_sparse, support_spread}
+use Rattle.sparse_rows.proofs.Spread.{entry_cover, entry_here, entry_support, nonzeros_spread, sparse_none, spread_none, support_sparse, support_spread}
+use Rattle.matrix_cells.proofs.Ordered.{map_range_equal}
 use Rattle.column_lists.proofs.Exchanging.{turned}
 
 -- at a row that is named stands its row

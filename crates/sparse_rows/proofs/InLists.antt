@@ -5,11 +5,13 @@ use Rattle.std.proofs.lemmas.Bool.{cases_eq}
 use Rattle.std.proofs.lemmas.List.{ext_get_or, get_or-map, length-map}
 use Rattle.std.proofs.lemmas.List.FromFn.{get_or-map-range_with_len, length-map-range_with_len}
 use Rattle.std.proofs.lemmas.Simd.{map-map}
-use Rattle.sparse_rows.specs.declared.values_at_places.Cell.{Cell}
-use Rattle.sparse_rows.specs.Cells.{AreCuts, AreEntries, IsByRows, IsCut, IsWithin, column_of, in_rows, listed_cell, listed_cells, place_of, row_of, triple_of, weight}
+use Rattle.matrix_cells.specs.declared.values_at_places.Cell.{Cell}
+use Rattle.matrix_cells.specs.Cells.{AreCuts, AreEntries, IsWithin, column_of, in_rows, listed_cell, listed_cells, place_of, row_of, weight}
+use Rattle.sparse_rows.specs.Cells.{triple_of}
 use Rattle.sparse_rows.specs.Rows.{FitsMatrix, built, listed_triple, listed_triples, matrix_by}
 use Rattle.sparse_rows.proofs.Building.{entries_built}
-use Rattle.sparse_rows.proofs.Spread.{map_range_equal}
+use Rattle.matrix_cells.proofs.Ordered.{map_range_equal}
+use Rattle.matrix_cells.proofs.InRows.{cuts_same}
 
 -- what stands for a cell that isn't there
 abbrev none : Cell
@@ -22,41 +24,6 @@ chain f n h (suc d) i k q l =
     let m : ℕ = i + suc d in
     let last : f m < f k = subst (λ t. f m < f t) (let next : m + 1 ≡ k = omega (arith, q) in next) (h m (omega (arith, q, l))) in
     omega (arith, chain f n h d i m refl (omega (arith, q, l)), last)
-
--- cells in these rows
-pub length_rows : (rows : List ℕ) → length (in_rows rows) ≡ length rows
-length_rows rows = length-map rows (λ i. record { place = place_of i 0; val = 0 })
-
-pub row_in : (rows : List ℕ) (k : ℕ) (d : Cell) → k < length rows → row_of (get_or (in_rows rows) k d) ≡ slice_index rows k
-row_in rows k d l = ap row_of (get_or-map (λ (i : ℕ). record { place = place_of i 0; val = 0 }) rows k 0 d l) ∙ omega arith
-
-pub rows_within : (rows : List ℕ) (m : ℕ) → ((k : ℕ) → k < length rows → slice_index rows k < m) → All (λ c. row_of c < m) (in_rows rows)
-rows_within rows m h k d l =
-    let low : k < length rows = omega (arith, l, length_rows rows) in
-    omega (arith, row_in rows k d low, h k low)
-
-pub by_rows : (rows : List ℕ) → ((k t : ℕ) → k ≤ t → t < length rows → slice_index rows k ≤ slice_index rows t) → IsByRows (in_rows rows)
-by_rows rows h i k d a l =
-    let low : k < length rows = omega (arith, l, length_rows rows) in
-    omega (arith, row_in rows i d (omega (arith, a, low)), row_in rows k d low, h i k a low)
-
--- rows begin where cells in the same rows do
-pub cuts_same : (m : ℕ) (rows starts : List ℕ) (cells : List Cell) → length cells ≡ length rows → ((k : ℕ) (d : Cell) → k < length rows → row_of (get_or cells k d) ≡ slice_index rows k) →
-    AreCuts m (in_rows rows) starts → AreCuts m cells starts
-cuts_same m rows starts cells long same cuts = record {
-  long = cuts.long;
-  each = λ i l.
-      let cut : IsCut (in_rows rows) i (slice_index starts i) = cuts.each i l in
-      record {
-        inside = omega (arith, cut.inside, length_rows rows, long);
-        before = λ k d a.
-            let low : k < length rows = omega (arith, a, cut.inside, length_rows rows) in
-            omega (arith, cut.before k d a, row_in rows k d low, same k d low);
-        behind = λ k d a b.
-            let low : k < length rows = omega (arith, b, long) in
-            omega (arith, cut.behind k d a (omega (arith, low, length_rows rows)), row_in rows k d low, same k d low);
-      };
-}
 
 module _ (rows columns values : List ℕ) where
   abbrev cells : List Cell

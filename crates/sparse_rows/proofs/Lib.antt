@@ -7,13 +7,11 @@ pub mod FilledRows
 pub mod InLists
 pub mod Joining
 pub mod Loops
-pub mod Ordered
 pub mod Permuting
 pub mod Renaming
 pub mod Renumbering
 pub mod Spread
 pub mod Stored
-pub mod Summing
 pub mod Supports
 pub mod Transposed
 pub mod Zeros

@@ -11,7 +11,8 @@ use Rattle.column_lists.specs.Numbers.{AreRising}
 use Rattle.column_lists.specs.Parts.{AreStarts, part}
 use Rattle.sparse_rows.specs.Stored.{IsSparse, IsStored, entry_at, spread, stored_matrix, stored_row}
 use Rattle.sparse_rows.proofs.Loops.{sized}
-use Rattle.sparse_rows.proofs.Spread.{at_spread, entry_cover, entry_head, entry_here, entry_tail, length_spread, map_range_equal}
+use Rattle.sparse_rows.proofs.Spread.{at_spread, entry_cover, entry_head, entry_here, entry_tail, length_spread}
+use Rattle.matrix_cells.proofs.Ordered.{map_range_equal}
 use Rattle.column_lists.proofs.Parts.{length_part, starts_below, part_map}
 use Rattle.sparse_rows.proofs.Stored.{row_stored}
 use Rattle.column_lists.proofs.Occurrences.{contained}

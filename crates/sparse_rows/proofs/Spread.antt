@@ -9,6 +9,7 @@ use Rattle.residue_words.proofs.Sums.{sum_support, sum_equal}
 use Rattle.residue_words.proofs.Vectors.{at_list_of, length_list_of, list_equal}
 use Rattle.sparse_rows.specs.Rows.{nonzeros, support, support_from}
 use Rattle.sparse_rows.specs.Stored.{IsSparse, entry_at, spread}
+pub use Rattle.matrix_cells.proofs.Ordered.{map_range_equal}
 
 -- the columns ascend strictly, from k on and below n
 abbrev pub Ascends : ℕ → ℕ → List ℕ → Type 0
@@ -19,11 +20,6 @@ Ascends k n (c ∷ cs) = (k ≤ c) × (c < n) × Ascends (c + 1) n cs
 abbrev pub AreValues : ℕ → List ℕ → Type 0
 AreValues p [] = Unit {0}
 AreValues p (v ∷ vs) = (0 < v) × (v < p) × AreValues p vs
-
--- equal functions give equal lists over a range
-pub map_range_equal : {X : Type 0} (f g : ℕ → X) (k m : ℕ) → ((j : ℕ) → k ≤ j → j < k + m → f j ≡ g j) → map f (range_with_len k m) ≡ map g (range_with_len k m)
-map_range_equal f g k zero h = refl
-map_range_equal f g k (suc m) h = ap₂ ◌∷◌ (h k (omega arith) (omega arith)) (map_range_equal f g (k + 1) m (λ j l b. h j (omega arith) (omega arith)))
 
 -- at a stored column stands its value
 pub entry_head : (c : ℕ) (cs : List ℕ) (v : ℕ) (vs : List ℕ) → entry_at (c ∷ cs) (v ∷ vs) c ≡ v

@@ -10,7 +10,8 @@ use Rattle.residue_words.proofs.Sums.{sum_more, sum_none}
 use Rattle.sparse_rows.specs.Rows.{entry_count, nonzeros, support}
 use Rattle.column_lists.specs.Parts.{AreStarts, part}
 use Rattle.sparse_rows.specs.Stored.{IsSparse, IsStored, spread, stored_matrix, stored_row, with_row}
-use Rattle.sparse_rows.proofs.Spread.{map_range_equal, nonzeros_spread, spread_vector, support_spread}
+use Rattle.matrix_cells.proofs.Ordered.{map_range_equal}
+use Rattle.sparse_rows.proofs.Spread.{nonzeros_spread, spread_vector, support_spread}
 use Rattle.column_lists.proofs.Parts.{starts_below, length_part, part_before, part_end, starts_push}
 
 -- the matrix of this size with these rows

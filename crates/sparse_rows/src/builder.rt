@@ -4,12 +4,8 @@ ghost use Rattle.std.specs.Prelude.{◌≡◌, ◌<◌, ◌≤◌, ◌++◌, ◌
 ghost use Rattle.sparse_rows.specs.Cells.{ArePushed, triple_of};
 ghost use Rattle.sparse_rows.specs.Rows.{built};
 
-use crate::entry_room::make_room;
-use crate::ordered_cells::OrderedCells;
-use crate::rough_order::bring_near;
-use crate::rows::{Rows, stores_every_row};
-use crate::sums_in_place::sum_cells;
-use crate::values_at_places::Cell;
+use crate::rows::Rows;
+use matrix_cells::{Cell, OrderedCells, bring_near, make_room, stores_every_row, sum_cells};
 use residue_words::Modulus;
 use std::alloc::{AllocError, Global};
 use std::marker::Model;

@@ -1,10 +1,7 @@
 // Memory for the entries of a matrix.
-ghost use Rattle.std.specs.Prelude.{◌≡◌, ◌<◌, vec_capacity, vec_len, OnOk};
+ghost use Rattle.std.specs.Prelude.{◌≡◌};
 
 use std::alloc::{AllocError, Global};
-
-// How many items a list has room for at first.
-const FEW: usize = 16;
 
 /// Memory for the entries of a matrix that isn't begun yet. It takes 12 bytes an entry, and none before it is written to.
 ///
@@ -58,16 +55,4 @@ pub(crate) fn write_behind<T: Copy>(list: &mut Vec<T>, count: usize, value: T)
         let _ = list.resize(end, value);
         list.truncate(len);
     }
-}
-
-// Makes room for one item more, and where there was none for a quarter more.
-#[inline(always)]
-pub(crate) fn make_room<T>(list: &mut Vec<T>) -> Result<(), AllocError>
-    ensures items { list.new.items ≡ list.old.items }
-    ensures room { OnOk result (vec_len list.new < vec_capacity list.new) }
-{
-    if list.len() == list.capacity() {
-        list.reserve_exact(list.len() / 4 + FEW)?;
-    }
-    Ok(())
 }

@@ -7,13 +7,9 @@
 mod builder;
 mod entry_room;
 mod filled_in_either;
-mod ordered_cells;
-mod rough_order;
 mod rows;
 mod sparse;
 mod stored_rows;
-mod sums_in_place;
-mod values_at_places;
 
 pub use builder::RowsBuilder;
 pub use column_lists::{ColumnSet, LARGEST_SIZE, List};

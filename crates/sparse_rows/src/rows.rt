@@ -4,7 +4,7 @@ ghost use Rattle.column_lists.specs.declared.sizes.TheConstants.{LARGEST_SIZE};
 ghost use Rattle.std.specs.Prelude.{◌≡◌, ◌<◌, ◌≤◌, ◌+◌, ◌-◌, ◌/◌, ◌↔◌, ℕ, [], ◌++◌, length, slice_index, IfOk, IsTrue, OnErr, OnOk};
 ghost use Rattle.std.specs.Option.{MatchOption};
 ghost use Rattle.residue_words.specs.Matrix.{IsMatrix, row};
-ghost use Rattle.sparse_rows.specs.Cells.{place_of};
+ghost use Rattle.matrix_cells.specs.Cells.{place_of};
 ghost use Rattle.sparse_rows.specs.Rows.{above, AppendsFirst, AreFilled, AreOccupied, AreZeroFrom, IsNextFilled, entry_count, nonzeros, row_triples, support, triples_of, with_zeros};
 ghost use Rattle.column_lists.specs.Numbers.{AreBelow, AreRising};
 ghost use Rattle.sparse_rows.specs.Stored.{IsSparse, with_row, with_sparse_row};
@@ -17,6 +17,7 @@ use crate::entry_room::EntryRoom;
 use crate::sparse::Sparse;
 use crate::stored_rows::StoredRows;
 use column_lists::{first_from, place_of};
+use matrix_cells::stores_every_row;
 use residue_words::Modulus;
 use std::alloc::{AllocError, Global};
 use std::marker::Model;
@@ -355,11 +356,4 @@ impl Rows {
         }
         Ok(())
     }
-}
-
-// Whether a matrix of this height with so many entries stores each of its rows: where the rows are at most four times as many as
-// the entries and a few thousand. Each row then costs 8 bytes and is found at once, and the index takes less than 32 bytes an
-// entry; else only the rows that have an entry are stored, which cost 12 bytes and a search.
-pub(crate) fn stores_every_row(height: u32, entries: usize) -> bool {
-    height as usize / 4 <= entries.saturating_add(1024)
 }

@@ -4,18 +4,18 @@ ghost use Rattle.column_lists.specs.declared.sizes.TheConstants.{LARGEST_SIZE};
 ghost use Rattle.std.specs.Prelude.{◌≡◌, ◌<◌, ◌≤◌, ◌+◌, ◌^◌, ℕ, [], length, slice_index, All, IfOk, OnErr, OnOk};
 ghost use Rattle.std.specs.Option.{MatchOption};
 ghost use Rattle.residue_words.specs.Matrix.{IsMatrix, row};
-ghost use Rattle.sparse_rows.specs.Cells.{AreEntries, IsWithin, matrix_of_cells, place_of, weight};
+ghost use Rattle.matrix_cells.specs.Cells.{AreEntries, IsWithin, place_of, weight};
+ghost use Rattle.sparse_rows.specs.Cells.{matrix_of_cells};
 ghost use Rattle.sparse_rows.specs.Rows.{above, AreEnough, AreEnoughInSomeOrder, AreOccupied, AreWeights, AreZeroFrom, IsNextFilled, entry_count, matrix_by, narrowed, nonzeros, selected, support, transposed, widened, with_zeros};
 ghost use Rattle.column_lists.specs.Numbers.{AreBelow, AreRising};
 ghost use Rattle.sparse_rows.specs.Stored.{IsSparse, IsStored, spread, stored_matrix, with_row, with_sparse_row};
 
 use crate::entry_room::{EntryRoom, write_behind};
-use crate::ordered_cells::OrderedCells;
-use crate::values_at_places::{Cell, columns, row_starts, values};
 use column_lists::{
     RowParts, all_starts, append_starts, by_parts, counts, named_columns, occurring, part,
     places_among, starts_in_order,
 };
+use matrix_cells::{Cell, OrderedCells, columns, row_starts, values};
 use residue_words::Modulus;
 use std::alloc::{AllocError, Global};
 use std::marker::Model;

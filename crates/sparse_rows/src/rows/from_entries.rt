@@ -2,16 +2,18 @@
 ghost use Rattle.column_lists.specs.declared.sizes.TheConstants.{LARGEST_SIZE};
 ghost use Rattle.std.specs.Prelude.{◌≡◌, ◌<◌, ◌≤◌, ◌+◌, ◌-◌, ◌*◌, ℕ, length, false, map, slice_index, All, IfNone, IfOk, IfSome};
 ghost use Rattle.residue_words.specs.Matrix.{row};
-ghost use Rattle.sparse_rows.specs.Cells.{AreEntries, IsWithin, matrix_of_cells, place_of};
+ghost use Rattle.matrix_cells.specs.Cells.{AreEntries, IsWithin, place_of};
+ghost use Rattle.sparse_rows.specs.Cells.{matrix_of_cells};
 ghost use Rattle.sparse_rows.specs.Rows.{AllFit, FitsMatrix, built, identity, listed_triples, triple};
 
 use crate::builder::RowsBuilder;
-use crate::ordered_cells::{OrderedCells, starts_of};
-use crate::rows::{Rows, stores_every_row};
+use crate::rows::Rows;
 use crate::sparse::Sparse;
 use crate::stored_rows::StoredRows;
-use crate::values_at_places::{Cell, listed, renumbered, row_numbers};
 use column_lists::{LARGEST_SIZE, RowParts, occurring, place_of, places_among};
+use matrix_cells::{
+    Cell, OrderedCells, listed, renumbered, row_numbers, starts_of, stores_every_row,
+};
 use residue_words::Modulus;
 use std::alloc::{AllocError, Global};
 

@@ -10,9 +10,10 @@ ghost use Rattle.column_lists.specs.Numbers.{AreRising};
 ghost use Rattle.sparse_rows.specs.Stored.{with_row};
 
 use crate::filled_in_either::FilledInEither;
-use crate::rows::{Rows, stores_every_row};
+use crate::rows::Rows;
 use crate::sparse::Sparse;
 use crate::stored_rows::StoredRows;
+use matrix_cells::stores_every_row;
 use std::alloc::{AllocError, Global};
 
 impl Rows {

@@ -2,7 +2,8 @@
 ghost use Rattle.std.specs.Prelude.{IfOk};
 ghost use Rattle.sparse_rows.specs.Rows.{AreWeights, transposed};
 
-use crate::rows::{Rows, stores_every_row};
+use crate::rows::Rows;
+use matrix_cells::stores_every_row;
 use std::alloc::{AllocError, Global};
 
 impl Rows {

@@ -2,10 +2,12 @@ use Rattle.std.proofs.Common.{◌≡◌, ◌<◌, ◌∙◌, List, ap, length, m
 use Rattle.std.specs.List.{All}
 use Rattle.std.specs.List.Sorted.{IsNonDecreasingBy}
 use Rattle.std.proofs.lemmas.List.Sorted.{All-permutation, IsNonDecreasingBy-from_sort_by_key}
-use Rattle.sparse_rows.specs.declared.values_at_places.Cell.{Cell}
-use Rattle.sparse_rows.specs.Cells.{AreSums, place_of, triple_of, weight}
+use Rattle.matrix_cells.specs.declared.values_at_places.Cell.{Cell}
+use Rattle.matrix_cells.specs.Cells.{AreSums, place_of, weight}
+use Rattle.sparse_rows.specs.Cells.{triple_of}
 use Rattle.sparse_rows.specs.Rows.{built, matrix_by}
-use Rattle.sparse_rows.proofs.Building.{read_back, sums_built, sums_within}
+use Rattle.matrix_cells.proofs.Sums.{read_back, sums_within}
+use Rattle.sparse_rows.proofs.Building.{sums_built}
 use Rattle.sparse_rows.proofs.builder.sort_and_sum.Goals as goal
 use Rattle.sparse_rows.proofs.builder.sort_and_sum.Goals.{After-deref}
 

@@ -1,9 +1,10 @@
 use Rattle.std.proofs.Common.{◌<◌, ◌++◌, List, drop, length, refl, take}
 use Rattle.std.proofs.lemmas.List.Elements.{All-weaker}
 use Rattle.std.proofs.lemmas.List.Sorted.{All-permutation}
-use Rattle.sparse_rows.specs.declared.values_at_places.Cell.{Cell}
-use Rattle.sparse_rows.specs.Cells.{IsWithin, row_of}
-use Rattle.sparse_rows.proofs.Building.{built_reordered, pushed_reordered, reordered, sums_built, sums_within}
+use Rattle.matrix_cells.specs.declared.values_at_places.Cell.{Cell}
+use Rattle.matrix_cells.specs.Cells.{IsWithin, row_of}
+use Rattle.sparse_rows.proofs.Building.{built_reordered, pushed_reordered, sums_built}
+use Rattle.matrix_cells.proofs.Sums.{reordered, sums_within}
 use Rattle.sparse_rows.proofs.builder.sum_up.Goals as goal
 
 pub sums_of-requires-clause-within : goal.sums_of-requires-clause-within

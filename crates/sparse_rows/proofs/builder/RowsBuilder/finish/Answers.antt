@@ -1,9 +1,11 @@
 use Rattle.std.proofs.Common.{◌≡◌, ◌<◌, ◌++◌, ◌∙◌, IfOk, All, ap, map, subst, sym}
 use Rattle.std.proofs.lemmas.List.{append-nil, nil_from_length}
-use Rattle.sparse_rows.specs.Cells.{AreEntries, HaveRisingPlaces, IsWithin, triple_of}
+use Rattle.matrix_cells.specs.Cells.{AreEntries, HaveRisingPlaces, IsWithin}
+use Rattle.sparse_rows.specs.Cells.{triple_of}
 use Rattle.sparse_rows.specs.Rows.{Building, built}
 use Rattle.sparse_rows.proofs.Expanding.{empty_length}
-use Rattle.sparse_rows.proofs.Zeros.{all_without, without_built, without_entries}
+use Rattle.matrix_cells.proofs.Zeros.{all_without, without_entries}
+use Rattle.sparse_rows.proofs.Zeros.{without_built}
 use Rattle.sparse_rows.proofs.builder.RowsBuilder.finish.Goals as goal
 
 pub from_ordered-requires-clause-within : goal.from_ordered-requires-clause-within

@@ -2,11 +2,12 @@ use Rattle.residue_words.specs.Matrix.{Matrix}
 use Rattle.std.proofs.Common.{◌<◌, ◌∙◌, ap, arith, map, subst, sym}
 use Rattle.std.specs.List.{All}
 use Rattle.std.proofs.lemmas.List.Elements.{All-weaker}
-use Rattle.sparse_rows.specs.Cells.{IsWithin, place_of, renumbered, row_of, weight}
+use Rattle.matrix_cells.specs.Cells.{IsWithin, place_of, renumbered, row_of, weight}
 use Rattle.column_lists.specs.Columns.{AreOccurring}
 use Rattle.sparse_rows.specs.Placed.{AreNamed, expanded}
 use Rattle.sparse_rows.specs.Rows.{matrix_by}
-use Rattle.sparse_rows.proofs.Renumbering.{is_numbered, occurring_among, occurring_few, rows_low}
+use Rattle.sparse_rows.proofs.Renumbering.{is_numbered, occurring_among, occurring_few}
+use Rattle.matrix_cells.proofs.Renumbering.{rows_low}
 use Rattle.sparse_rows.proofs.rows.Rows.from_cells.Goals as goal
 
 pub occurring-requires : goal.occurring-requires

@@ -1,6 +1,6 @@
 use Rattle.std.proofs.Common.{◌≡◌, ◌∙◌, List, map}
-use Rattle.sparse_rows.specs.declared.values_at_places.Cell.{Cell}
-use Rattle.sparse_rows.specs.Cells.{column_of, listed_cells}
+use Rattle.matrix_cells.specs.declared.values_at_places.Cell.{Cell}
+use Rattle.matrix_cells.specs.Cells.{column_of, listed_cells}
 use Rattle.sparse_rows.proofs.Cuts.{cells_matrix, cells_stored}
 use Rattle.sparse_rows.proofs.InLists.{built_listed, columns_listed, cuts_listed, entries_listed, rows_ascend, values_listed, within_listed}
 use Rattle.sparse_rows.proofs.rows.Rows.from_entries_in_order.Goals as goal

@@ -1,4 +1,4 @@
-use Rattle.sparse_rows.specs.declared.values_at_places.Cell.{Cell}
+use Rattle.matrix_cells.specs.declared.values_at_places.Cell.{Cell}
 use Rattle.sparse_rows.proofs.Cuts.{cells_matrix, cells_stored}
 use Rattle.sparse_rows.proofs.stored_rows.StoredRows.from_cells.Goals as goal
 

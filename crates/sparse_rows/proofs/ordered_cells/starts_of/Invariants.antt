@@ -1,6 +1,0 @@
-use Rattle.sparse_rows.specs.Cells.{in_rows}
-use Rattle.sparse_rows.proofs.Cuts.{AreCutsSoFar}
-use Rattle.sparse_rows.proofs.ordered_cells.starts_of.Given as goal
-
-abbrev pub invariant-loop-k : goal.invariant-loop-k
-invariant-loop-k l = AreCutsSoFar l.height (in_rows l.rows) l.k l.starts.items

@@ -1,6 +1,0 @@
-use Rattle.std.proofs.Common.{◌≡◌, map, take}
-use Rattle.sparse_rows.specs.Cells.{row_of}
-use Rattle.sparse_rows.proofs.values_at_places.row_numbers.Given as goal
-
-abbrev pub invariant-loop-cell : goal.invariant-loop-cell
-invariant-loop-cell l = l.rows.items ≡ map row_of (take l.cell-index l.cells)

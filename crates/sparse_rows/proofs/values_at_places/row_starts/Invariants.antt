@@ -1,5 +1,0 @@
-use Rattle.sparse_rows.proofs.Cuts.{AreCutsSoFar}
-use Rattle.sparse_rows.proofs.values_at_places.row_starts.Given as goal
-
-abbrev pub invariant-loop-k : goal.invariant-loop-k
-invariant-loop-k l = AreCutsSoFar l.height l.cells l.k l.starts.items
