@@ -96,26 +96,27 @@ weights_rise list is k (suc n) l =
       ap (λ t. (get_or list t no_weight).0) same,
     )
 
--- so the rows of a sorted list are by weight
-by_weight_of : (A : Matrix) (list : List (ℕ × ℕ)) → IsSorted by_fields list → All (λ w. w.0 ≡ length (support (row A w.1))) list → AreByWeight A (map (λ w. w.1) list)
-by_weight_of A list is weights k t less l =
+-- so the rows of a list sorted by what rises with the weights are by weight
+by_weight_of : (A : Matrix) (weight : ℕ → ℕ) → ((x y : ℕ) → x ≤ y → weight x ≤ weight y) → (list : List (ℕ × ℕ)) → IsSorted by_fields list →
+    All (λ w. weight w.0 ≡ length (support (row A w.1))) list → AreByWeight A (map (λ w. w.1) list)
+by_weight_of A weight rises list is weights k t less l =
     let inside : t < length list = omega (arith, length-map list (λ (w : ℕ × ℕ). w.1)) in
-    let at : (s : ℕ) → s < length list → length (support (row A (slice_index (map (λ (w : ℕ × ℕ). w.1) list) s))) ≡ (get_or list s no_weight).0 =
+    let at : (s : ℕ) → s < length list → length (support (row A (slice_index (map (λ (w : ℕ × ℕ). w.1) list) s))) ≡ weight (get_or list s no_weight).0 =
     λ s b. ap (λ i. length (support (row A i))) (get_or-map (λ (w : ℕ × ℕ). w.1) list s no_weight 0 b) ∙ sym (weights s no_weight b) in
     let same : k + (t - k) ≡ t = omega arith in
     omega (
       arith,
       at k (omega arith),
       at t inside,
-      weights_rise list is k (t - k) (omega arith),
-      ap (λ s. (get_or list s no_weight).0) same,
+      rises (get_or list k no_weight).0 (get_or list (k + (t - k)) no_weight).0 (weights_rise list is k (t - k) (omega arith)),
+      ap (λ s. weight (get_or list s no_weight).0) same,
     )
 
 -- and the filled ones
 pub rarest_of : {weights sorted : List (ℕ × ℕ)} {order : List ℕ} → IsPermutation weights sorted → IsSorted by_fields sorted → order ≡ map (λ w. w.1) sorted → IsRarestFirst weights order
 rarest_of {weights} {sorted} {order} moved is e A h = subst (λ xs. AreFilledInSomeOrder A xs × AreByWeight A xs) (sym e) (
   (map (λ w. w.1) weights, h.filled, IsPermutation-map (λ (w : ℕ × ℕ). w.1) weights sorted moved),
-  by_weight_of A sorted is (All-permutation (λ (w : ℕ × ℕ). w.0 ≡ length (support (row A w.1))) weights sorted moved h.entries),
+  by_weight_of A (λ x. x) (λ x y l. l) sorted is (All-permutation (λ (w : ℕ × ℕ). w.0 ≡ length (support (row A w.1))) weights sorted moved h.entries),
 )
 
 -- weights that stand in the upper halves of words
@@ -130,24 +131,9 @@ placed_weights A weights placed same all k d l =
     sym (get_or-map (λ (w : ℕ × ℕ). w.1) placed k d 0 l) ∙ ap (λ xs. get_or xs k 0) same.numbers ∙ get_or-map (λ (w : ℕ × ℕ). w.1) weights k d 0 inside in
     weight ∙ all k d inside ∙ ap (λ i. length (support (row A i))) (sym number)
 
--- so the rows of a list sorted by words that begin with the weights are by weight
-by_placed_weight : (A : Matrix) (list : List (ℕ × ℕ)) → IsSorted by_fields list → All (λ w. w.0 / 2 ^ 32 ≡ length (support (row A w.1))) list → AreByWeight A (map (λ w. w.1) list)
-by_placed_weight A list is weights k t less l =
-    let inside : t < length list = omega (arith, length-map list (λ (w : ℕ × ℕ). w.1)) in
-    let at : (s : ℕ) → s < length list → length (support (row A (slice_index (map (λ (w : ℕ × ℕ). w.1) list) s))) ≡ (get_or list s no_weight).0 / 2 ^ 32 =
-    λ s b. ap (λ i. length (support (row A i))) (get_or-map (λ (w : ℕ × ℕ). w.1) list s no_weight 0 b) ∙ sym (weights s no_weight b) in
-    let same : k + (t - k) ≡ t = omega arith in
-    omega (
-      arith,
-      at k (omega arith),
-      at t inside,
-      weights_rise list is k (t - k) (omega arith),
-      ap (λ s. (get_or list s no_weight).0) same,
-    )
-
 -- and the filled ones
 pub rarest_of_placed : {weights placed sorted : List (ℕ × ℕ)} {order : List ℕ} → ArePlacedWeights weights placed → IsPermutation placed sorted → IsSorted by_fields sorted → order ≡ map (λ w. w.1) sorted → IsRarestFirst weights order
 rarest_of_placed {weights} {placed} {sorted} {order} same moved is e A h = subst (λ xs. AreFilledInSomeOrder A xs × AreByWeight A xs) (sym e) (
   (map (λ w. w.1) placed, subst (AreFilled A) (sym same.numbers) h.filled, IsPermutation-map (λ (w : ℕ × ℕ). w.1) placed sorted moved),
-  by_placed_weight A sorted is (All-permutation (λ (w : ℕ × ℕ). w.0 / 2 ^ 32 ≡ length (support (row A w.1))) placed sorted moved (placed_weights A weights placed same h.entries)),
+  by_weight_of A (λ x. x / 2 ^ 32) (λ x y l. omega (arith, l)) sorted is (All-permutation (λ (w : ℕ × ℕ). w.0 / 2 ^ 32 ≡ length (support (row A w.1))) placed sorted moved (placed_weights A weights placed same h.entries)),
 )
