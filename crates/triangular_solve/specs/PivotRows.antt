@@ -24,8 +24,8 @@ pub record IsOrderOf (sorted places columns : List ℕ) : Type 0 where
   pub so_far : IsOrdering sorted places columns
   pub all : (t : ℕ) → t < length sorted → slice_index places t ≢ 4294967295
 
--- places are found by a table of all columns, or else by the sorted ones
-pub record HasPlaces (columns : List ℕ) (table : Option (Vec ℕ Global)) (sorted places : List ℕ) : Type 0 where
+-- columns are looked up in a table of all, or else among the sorted ones, which have their places beside them
+pub record HasLookup (columns : List ℕ) (table : Option (Vec ℕ Global)) (sorted places : List ℕ) : Type 0 where
   pub few : length columns ≤ LARGEST_SIZE
   pub right : IfSome table (λ t. IsTable columns t.items)
   pub order : IfNone table (AreRising sorted × IsOrderOf sorted places columns)

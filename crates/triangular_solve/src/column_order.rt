@@ -37,13 +37,13 @@ pub(crate) struct ColumnOrder {
 
 impl Model for ColumnOrder {
     ghost use Rattle.std.specs.Prelude.{List, ℕ};
-    ghost use Rattle.triangular_solve.specs.PivotRows.{HasPlaces};
+    ghost use Rattle.triangular_solve.specs.PivotRows.{HasLookup};
 
     ghost Value = { List ℕ };
 
     ghost view = { λ c. c.columns.items };
 
-    ghost invariant = { λ c. HasPlaces c.columns.items c.table c.sorted.items c.places.items };
+    ghost invariant = { λ c. HasLookup c.columns.items c.table c.sorted.items c.places.items };
 }
 
 impl ColumnOrder {
