@@ -22,8 +22,8 @@ use std::marker::Model;
 
 // The rows of pivots, upper triangular: their columns are numbered by an order that begins with the pivots' columns. So a row of
 // sums is reduced from its first entry on, and nothing is looked up. Contracts see this matrix, and the columns for which its columns
-// stand. It takes 12 bytes an entry, 16 bytes a pivot, 12 bytes a column, and 4 for each column of the matrix where these are more than
-// a 64th of them.
+// stand. It takes 12 bytes an entry, 16 bytes a pivot, and 4 bytes for each of its columns and each of the matrix; or where the matrix
+// has more than 64 columns for each of its own, 12 bytes for each of these alone.
 #[derive(Debug, Drop)]
 pub(crate) struct PivotRows {
     rows: Rows,
@@ -43,8 +43,8 @@ impl Model for PivotRows {
 }
 
 impl PivotRows {
-    // The rows of these pairs, in time by their entries, times a logarithm of how many a row has, and in memory by their entries and a
-    // bit a column.
+    // The rows of these pairs, in time by their entries, times a logarithm of how many a row has, and where the matrix is far wider
+    // one of their columns. Beside what is kept it takes memory by their entries, and where the matrix isn't wide a bit a column.
     pub(crate) fn of(alloc: Global, rows: &Rows, pairs: &[Pair]) -> Result<Self, AllocError>
         requires { Triangular rows.now.matrix pairs.now }
         ensures { IfOk result (ArePivotRows rows.now pairs.now) }

@@ -23,8 +23,8 @@ use std::marker::Model;
 
 /// Pivots of a lent matrix in triangular order: again and again the pair in whose column no other pair that is left has an
 /// entry, of these the one of the least column. So the row of each pair is 0 in the columns of the pairs before it. It takes
-/// 24 bytes a pair, for a copy of the pivots' rows 12 bytes an entry and 12 a column in which they have one, and 4 for each column
-/// of the matrix where these are more than a 64th of them.
+/// 24 bytes a pair, for a copy of the pivots' rows 12 bytes an entry, and 4 bytes for each column in which they have one and each
+/// column of the matrix; or where the matrix has more than 64 columns for each of the former, 12 bytes for each of these alone.
 #[derive(Debug, Drop)]
 pub struct Triangle<'a> {
     rows: &'a Rows,
@@ -47,9 +47,12 @@ impl<'a> Model for Triangle<'a> {
 }
 
 impl<'a> Triangle<'a> {
-    /// The pairs of a book, in time proportional to the entries of their rows, times a logarithm of how many a row has, and to the
-    /// pairs times a logarithm; where the matrix is wider than 64 columns a pair, each entry costs a logarithm too. It takes memory
-    /// for the pairs and for the entries of their rows, and for the columns where there are no more than that.
+    /// The pairs of a book. They are sorted by columns, in time proportional to them times a logarithm, and listed by counts of the
+    /// pairs that have an entry in the column of each; the least that is ready is found by marks, 4096 pairs a step. A table has the
+    /// place of each column, so an entry of their rows costs constant time, and where the rows are copied a logarithm of how many
+    /// its row has; where the matrix has more than 64 columns a pair there is no table, and it costs a logarithm of the columns too.
+    /// Beside what is kept this takes memory by the pairs and by the entries of their rows, and a bit a column where the matrix isn't
+    /// wide (`Rows::is_wide`).
     pub fn of(alloc: Global, book: &Book<'a>) -> Result<Self, AllocError>
         ensures rows { IfOk result (λ t. t.rows ≡ book.now.rows) }
         ensures order { IfOk result (λ t. IsTriangularOrder book.now.rows.matrix book.now.pairs t.pairs) }
