@@ -19,9 +19,9 @@ use sparsest::by_table;
 use std::alloc::{AllocError, Global};
 
 /// The leftmost pairs, by ascending columns: for each column at which a row begins, the row with the fewest entries among those
-/// that begin there, and of these the lowest. It takes time by the rows that have an entry and by the width, 8 bytes a column and
-/// 8 bytes a pair; where the matrix is wide (`Rows::is_wide`), time for sorting these rows and 12 bytes for each of them, so a
-/// great width costs nothing.
+/// that begin there, and of these the lowest. It takes time by the rows that have an entry and by the width, 8 bytes a column, which
+/// are up to 32 bytes an entry, and 8 bytes a pair; where the matrix is wide (`Rows::is_wide`), time for sorting these rows and 12
+/// bytes for each of them, so a great width costs nothing.
 pub fn leftmost<'a>(alloc: Global, rows: &'a Rows) -> Result<Book<'a>, AllocError>
     ensures rows { IfOk result (λ book. book.rows ≡ rows.now) }
     ensures pairs { IfOk result (λ book. IsLeftmost rows.now.matrix book.pairs) }
