@@ -4,7 +4,7 @@ use Rattle.std.proofs.lemmas.Bool.{cases_eq, cases_lt}
 use Rattle.std.proofs.lemmas.List.{length-set, length-replicate, get_or-replicate, get_or-set_same, get_or-set_other}
 use Rattle.residue_words.specs.Matrix.{Matrix, IsMatrix}
 use Rattle.residue_words.specs.declared.plain.Pair.{Pair}
-use Rattle.sparse_rows.specs.Rows.{IsZeroRow}
+use Rattle.sparse_rows.specs.Rows.{IsZeroRow, LARGEST_SIZE, ResidueMatrix}
 use Rattle.pivot_table.specs.History.{row_weight}
 use Rattle.pivot_table.specs.Leftmost.{BeginsAt, IsSparsest}
 use Rattle.fl_pivots.specs.declared.beginning.Beginning.{Beginning}
@@ -107,19 +107,28 @@ module _ {A : Matrix} {n : ℕ} {table : List Sparsest} (t : AreSparsest A n tab
             ];
           }
 
--- the whole table
-module _ {p : ℕ} {A : Matrix} (m : IsMatrix p A) (narrow : A.width ≤ 2147483648) {table : List Sparsest} (t : AreSparsest A A.height table) where
-  pub passes_column : {qs : List Pair} {c : ℕ} (d : Sparsest) → c < A.width → 4294967295 ≤ (get_or table c d).weight → IsTaking A qs c → IsTaking A qs (c + 1)
+-- the whole table, for rows of which a call tells
+module _ {R S : ResidueMatrix} (same : R ≡ S) (small : R.matrix.width ≤ LARGEST_SIZE) (m : IsMatrix R.modulus R.matrix) {table : List Sparsest} (t : AreSparsest S.matrix S.matrix.height table) where
+  sound : IsMatrix S.modulus S.matrix
+  sound = subst (λ (T : ResidueMatrix). IsMatrix T.modulus T.matrix) same m
+
+  narrow : S.matrix.width ≤ 2147483648
+  narrow = omega (arith, small, ap (λ (T : ResidueMatrix). T.matrix.width) same)
+
+  here : {c : ℕ} (d : Sparsest) → c < length table → IsSparsestOf S.matrix S.matrix.height c (get_or table c d)
+  here {c} d l = t.each c d (omega (arith, l, t.long))
+
+  pub passes_column : {qs : List Pair} {c : ℕ} (d : Sparsest) → c < length table → 4294967295 ≤ (get_or table c d).weight → IsTaking S.matrix qs c → IsTaking S.matrix qs (c + 1)
   passes_column {qs} {c} d l none taking = taking_passes taking (c + 1) (omega arith) (λ r e at less. elim (cases_lt e c) [
     | inl before ↦ before
     | inr ge ↦
         let is : e ≡ c = omega arith in
-        absurd (omega (arith, none, narrow, (t.each c d l).fewest r at.0.0 (subst (BeginsAt A r) is at), weight_small m r at.0.0))
+        absurd (omega (arith, none, narrow, (here d l).fewest r at.0.0 (subst (BeginsAt S.matrix r) is at), weight_small sound r at.0.0))
   ])
 
-  pub is_sparsest : {c : ℕ} (d : Sparsest) → c < A.width → (get_or table c d).weight < 4294967295 → IsSparsest A (get_or table c d).row c
+  pub is_sparsest : {c : ℕ} (d : Sparsest) → c < length table → (get_or table c d).weight < 4294967295 → IsSparsest S.matrix (get_or table c d).row c
   is_sparsest {c} d l some =
-      let x = t.each c d l in
+      let x = here d l in
       let r = x.is_row (λ z. absurd (omega (arith, some, z))) in
       record {
         begins = r.1;

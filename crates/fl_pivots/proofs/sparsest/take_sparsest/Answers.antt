@@ -1,5 +1,4 @@
-use Rattle.std.proofs.Common.{List, ◌≡◌, ◌<◌, ◌≤◌, ◌+◌, ◌++◌, ◌∷◌, [], ◌∙◌, get_or, subst, sym, ap, refl, arith}
-use Rattle.residue_words.specs.Matrix.{IsMatrix}
+use Rattle.std.proofs.Common.{List, ◌≡◌, ◌+◌, ◌++◌, ◌∷◌, [], ◌∙◌, get_or, subst, sym, ap, refl, arith}
 use Rattle.residue_words.specs.declared.plain.Pair.{Pair}
 use Rattle.sparse_rows.specs.Rows.{ResidueMatrix}
 use Rattle.pivot_table.specs.History.{Alive}
@@ -15,40 +14,31 @@ none = record { weight = 0; row = 0 }
 
 pub push-requires-clause-alive : goal.push-requires-clause-alive
 push-requires-clause-alive c =
-    let A = c.args.book.now.rows.matrix in
-    let k = c.loop-column.column in
-    let x = get_or c.args.table.now k none in
+    let x = get_or c.args.table.now c.loop-column.column none in
     let inv = c.loop-column.invariant in
-    let m = subst (λ (R : ResidueMatrix). IsMatrix R.modulus R.matrix) c.rows.ensures c.is_sound.ensures.entries in
-    let narrow : A.width ≤ 2147483648 = omega (arith, c.is_sound.ensures.width, ap (λ (R : ResidueMatrix). R.matrix.width) c.rows.ensures) in
-    let l : k < A.width = omega (arith, c.loop-column-test.true, c.requires.table.long) in
-    subst (λ (R : ResidueMatrix). Alive R.matrix c.reserve.new.self.pairs x.row k) (sym (c.reserve.ensures.rows ∙ inv.rows))
-    (subst (λ (qs : List Pair). Alive A qs x.row k) (sym c.reserve.ensures.pairs)
-    (taking_alive inv.taking (is_sparsest m narrow c.requires.table none l c.if-sparsest-lt-NONE.true).begins))
+    subst (λ (R : ResidueMatrix). Alive R.matrix c.reserve.new.self.pairs x.row c.loop-column.column) (sym (c.reserve.ensures.rows ∙ inv.rows))
+    (subst (λ (qs : List Pair). Alive c.args.book.now.rows.matrix qs x.row c.loop-column.column) (sym c.reserve.ensures.pairs)
+    (taking_alive inv.taking (is_sparsest c.rows.ensures c.is_sound.ensures.width c.is_sound.ensures.entries c.requires.table none c.loop-column-test.true c.if-sparsest-lt-NONE.true).begins))
 
 pub loop-column-preserved : goal.loop-column-preserved
 loop-column-preserved c =
     let A = c.args.book.now.rows.matrix in
     let k = c.loop-column.column in
-    let x = get_or c.args.table.now k none in
     let inv = c.loop-column.invariant in
-    let m = subst (λ (R : ResidueMatrix). IsMatrix R.modulus R.matrix) c.rows.ensures c.is_sound.ensures.entries in
-    let narrow : A.width ≤ 2147483648 = omega (arith, c.is_sound.ensures.width, ap (λ (R : ResidueMatrix). R.matrix.width) c.rows.ensures) in
-    let l : k < A.width = omega (arith, c.loop-column-test.true, c.requires.table.long) in
     elim c.if-sparsest-lt-NONE.branch [
       | then-sparsest-lt-NONE+in_ok-reserve w ↦
-          let q : Pair = record { row = x.row; col = k } in
+          let q : Pair = record { row = (get_or c.args.table.now k none).row; col = k } in
           let pairs : c.if-sparsest-lt-NONE.book.pairs ≡ c.loop-column.book.pairs ++ q ∷ [] =
           ap (λ (b : BookState). b.pairs) w.book-is ∙ w.push.ensures.pairs ∙ ap (λ (qs : List Pair). qs ++ q ∷ []) w.reserve.ensures.pairs in
           record {
             rows = ap (λ (b : BookState). b.rows) w.book-is ∙ w.push.ensures.rows ∙ w.reserve.ensures.rows ∙ inv.rows;
-            taking = subst (λ (qs : List Pair). IsTaking A qs (k + 1)) (sym pairs)
-                (taking_comes inv.taking q refl (is_sparsest m narrow c.requires.table none l w.if-sparsest-lt-NONE.true));
+            taking = subst (λ (qs : List Pair). IsTaking A qs (k + 1)) (sym pairs) (taking_comes inv.taking q refl
+                (is_sparsest c.rows.ensures c.is_sound.ensures.width c.is_sound.ensures.entries c.requires.table none c.loop-column-test.true w.if-sparsest-lt-NONE.true));
           }
       | else-sparsest-lt-NONE w ↦ record {
         rows = ap (λ (b : BookState). b.rows) w.book-is ∙ inv.rows;
         taking = subst (λ (qs : List Pair). IsTaking A qs (k + 1)) (sym (ap (λ (b : BookState). b.pairs) w.book-is))
-            (passes_column m narrow c.requires.table none l w.if-sparsest-lt-NONE.false inv.taking);
+            (passes_column c.rows.ensures c.is_sound.ensures.width c.is_sound.ensures.entries c.requires.table none c.loop-column-test.true w.if-sparsest-lt-NONE.false inv.taking);
       }
     ]
 
