@@ -42,11 +42,7 @@ fn columns_of_copy(alloc: Global, rows: &Rows, pairs: &[Pair]) -> Result<Vec<u32
 fn row_numbers(alloc: Global, pairs: &[Pair]) -> Result<Vec<u32>, AllocError>
     ensures { IfOk result (λ numbers. numbers.items ≡ map (λ q. q.row) pairs.now) }
 {
-    let mut numbers = Vec::with_capacity(alloc, pairs.len())?;
-    for pair in pairs {
-        numbers.push(pair.row)?;
-    }
-    Ok(numbers)
+    pairs.iter().map(|pair| pair.row).collect(alloc)
 }
 
 // The same by marks.

@@ -201,11 +201,7 @@ fn in_order(alloc: Global, book: &Book) -> Result<Vec<Pair>, AllocError>
 fn columns_of(alloc: Global, pairs: &[Pair]) -> Result<Vec<u32>, AllocError>
     ensures { IfOk result (λ columns. columns.items ≡ map (λ p. p.col) pairs.now) }
 {
-    let mut columns = Vec::with_capacity(alloc, pairs.len())?;
-    for pair in pairs {
-        columns.push(pair.col)?;
-    }
-    Ok(columns)
+    pairs.iter().map(|pair| pair.col).collect(alloc)
 }
 
 // For each pair how many of the pairs have an entry in its column, itself among them.
