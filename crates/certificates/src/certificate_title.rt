@@ -18,7 +18,8 @@ pub(crate) struct CertificateTitle {
 impl CertificateTitle {
     // What the words of a line say, if they are of a first line's form.
     pub(crate) fn of(line: &Line) -> Option<CertificateTitle>
-        ensures { MatchOption result (is_certificate line.now.words ≡ false) (IsCertificateTitle line.now.words) }
+        ensures { MatchOption result (is_certificate line.now.words ≡ false)
+            (IsCertificateTitle line.now.words) }
     {
         if line.count() != 4 || line.word(0) != b"certificate".as_slice() {
             return None;
