@@ -93,20 +93,12 @@ fn are_of_sizes(a: &Rows, count: usize, l: &Rows, u: &Rows) -> bool
 fn rows_of(alloc: Global, pivots: &[Pair]) -> Result<Vec<u32>, AllocError>
     ensures { IfOk result (λ rows. rows.items ≡ map (λ q. q.row) pivots.now) }
 {
-    let mut rows = Vec::with_capacity(alloc, pivots.len())?;
-    for pivot in pivots {
-        rows.push(pivot.row)?;
-    }
-    Ok(rows)
+    pivots.iter().map(|pivot| pivot.row).collect(alloc)
 }
 
 // The columns of the pivots.
 fn cols_of(alloc: Global, pivots: &[Pair]) -> Result<Vec<u32>, AllocError>
     ensures { IfOk result (λ cols. cols.items ≡ map (λ q. q.col) pivots.now) }
 {
-    let mut cols = Vec::with_capacity(alloc, pivots.len())?;
-    for pivot in pivots {
-        cols.push(pivot.col)?;
-    }
-    Ok(cols)
+    pivots.iter().map(|pivot| pivot.col).collect(alloc)
 }
