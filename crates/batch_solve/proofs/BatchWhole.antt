@@ -4,10 +4,10 @@ use Rattle.std.specs.declared.alloc.Global.{Global}
 use Rattle.std.specs.Result.{IsErrAnd}
 use Rattle.std.proofs.lemmas.Result.{err_from_is_err_and}
 use Rattle.residue_words.specs.Matrix.{Matrix}
+use Rattle.byte_streams.specs.declared.write.WriteFault.{WriteFault}
 use Rattle.sms_text.specs.declared.kind.Kind.{Kind}
 use Rattle.sms_text.specs.declared.kind.TextError.{TextError}
 use Rattle.sms_text.specs.declared.kind.TextError.TheVariants as error
-use Rattle.sms_text.specs.declared.write.WriteFault.{WriteFault}
 use Rattle.sms_text.specs.Reading.{Draws, IsShort, untouched}
 use Rattle.sms_text.specs.Stream.{SinkState, SourceState, Gained, Rose}
 use Rattle.sms_text.specs.Text.{FirstFault}

@@ -5,10 +5,10 @@ use Rattle.std.specs.Fmt.{decimal}
 use Rattle.std.specs.Result.{IsErr}
 use Rattle.std.proofs.lemmas.Grind.{flat_map-append}
 use Rattle.std.proofs.lemmas.List.{take-append-drop, take_all, take_more}
-use Rattle.sms_text.specs.declared.write.WriteFault.{WriteFault}
+use Rattle.byte_streams.specs.declared.write.WriteFault.{WriteFault}
+use Rattle.byte_streams.proofs.Puts.{behind_nothing}
 use Rattle.sms_text.specs.Stream.{SinkState, Gained}
 use Rattle.sms_text.specs.Writing.{Writes}
-use Rattle.sms_text.proofs.Puts.{behind_nothing}
 use Rattle.kernel_solve.specs.declared.prepared.Reply.{Reply}
 use Rattle.spasm_run.proofs.Written.{writes_same, writes_stops, writes_then}
 use Rattle.batch_solve.specs.BatchFound.{replies_text, reply_text}

@@ -14,6 +14,8 @@ use Rattle.row_space.specs.Echelon.{HasRank, IsRref}
 use Rattle.sparse_rows.specs.Rows.{ResidueMatrix}
 use Rattle.sparse_rows.specs.Stored.{with_row}
 use Rattle.sparse_rows.proofs.Loops.{matrix_more}
+use Rattle.byte_streams.specs.declared.write.WriteFault.{WriteFault}
+use Rattle.byte_streams.proofs.Added.{IsAdded, added_all, added_fault, added_more}
 use Rattle.sms_text.specs.declared.kind.TextError.{TextError}
 use Rattle.sms_text.specs.declared.kind.TextError.TheVariants as error
 use Rattle.sms_text.specs.declared.reader.TheConstants.{LARGEST_TEXT_SIZE}
@@ -22,8 +24,6 @@ use Rattle.sms_text.specs.OuterLines.{is_script, is_script_end, are_terms, takes
 use Rattle.sms_text.specs.Parts.{PartDid, Wanted, wants}
 use Rattle.sms_text.specs.Reading.{InputState}
 use Rattle.sms_text.specs.Writing.{Adds, OutputState}
-use Rattle.sms_text.specs.declared.write.WriteFault.{WriteFault}
-use Rattle.sms_text.proofs.WrittenRows.{IsAdded, added_all, added_fault, added_more}
 use Rattle.sms_text.specs.ReadingRows.{RowsDid, SaysRows}
 use Rattle.sms_text.specs.Text.{Due, Header, Item, Outer, Words, due_behind}
 use Rattle.sms_text.proofs.Parts.{ReadSoFar, so_far_begins, so_far_pauses, so_far_ends, part_missed, part_reads, part_sound, part_taken}

@@ -3,17 +3,13 @@ pub mod CountedLines
 pub mod Digits
 pub mod Falling
 pub mod Feeding
-pub mod Filling
 pub mod Following
 pub mod LeadingWords
-pub mod LineEnds
 pub mod Lining
 pub mod Moving
 pub mod Parts
 pub mod PlainLines
-pub mod Pulls
 pub mod PutLines
-pub mod Puts
 pub mod ReadingMatrices
 pub mod RoundTrip
 pub mod Runs

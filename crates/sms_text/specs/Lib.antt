@@ -1,10 +1,12 @@
-pub mod Buffered
+pub use Rattle.byte_streams.specs.Buffered
+pub use Rattle.byte_streams.specs.Memory
+pub use Rattle.byte_streams.specs.Stream
+pub use Rattle.byte_streams.specs.Writing
 pub mod EntryWords
 pub mod Feeding
 pub mod Kind
 pub mod Laws
 pub mod Lines
-pub mod Memory
 pub mod Numbers
 pub mod OuterLines
 pub mod Parts
@@ -13,8 +15,6 @@ pub mod Reading
 pub mod ReadingRows
 pub mod SixDigits
 pub mod Spelling
-pub mod Stream
 pub mod Text
 pub mod TextExamples
-pub mod Writing
 pub mod Written

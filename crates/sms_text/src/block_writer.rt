@@ -1,12 +1,12 @@
 // A buffer in front of a sink.
 ghost use Rattle.std.specs.Prelude.{◌≡◌, ℕ, ◌+◌, ◌≤◌, List, [], ◌++◌, length, All};
-ghost use Rattle.sms_text.specs.Writing.{Writes, Adds, output};
+ghost use Rattle.byte_streams.specs.Writing.{Writes, Adds, output};
 ghost use Rattle.std.specs.Fmt.{decimal};
 ghost use Rattle.sms_text.specs.Written.{head_line, entry_line, pair_line, pair_lines, end_line, IsSmallPlace};
 
 use crate::short_bytes::ShortBytes;
-use crate::stream::Sink;
-use crate::write::{WriteFault, entry, head, pair, put_all};
+use crate::write::{entry, head, pair};
+use byte_streams::{Sink, WriteFault, put_all};
 use itoa::Buffer;
 use residue_words::plain::Pair;
 use std::marker::Model;

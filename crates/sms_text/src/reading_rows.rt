@@ -8,7 +8,7 @@ ghost use Rattle.sms_text.specs.ReadingRows.{RowsDid};
 
 use crate::kind::TextError;
 use crate::reader::{Entry, Head, MOST_PLAIN, Reader};
-use crate::stream::Source;
+use byte_streams::Source;
 use residue_words::Modulus;
 use sparse_rows::{Rows, RowsBuilder};
 use std::alloc::{AllocError, Global};

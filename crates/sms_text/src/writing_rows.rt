@@ -1,14 +1,13 @@
 // Matrices written as texts.
 ghost use Rattle.std.specs.Prelude.{◌≡◌, ◌<◌, ◌≤◌, ◌++◌, length};
 ghost use Rattle.residue_words.specs.Matrix.{IsMatrix};
+ghost use Rattle.byte_streams.specs.Writing.{Writes, Adds, output};
 ghost use Rattle.sms_text.specs.declared.reader.TheConstants.{LARGEST_TEXT_SIZE};
-ghost use Rattle.sms_text.specs.Writing.{Writes, Adds, output};
 ghost use Rattle.sms_text.specs.Written.{row_text, text_of};
 
 use crate::block_writer::BlockWriter;
 use crate::row_lines::RowLines;
-use crate::stream::Sink;
-use crate::write::WriteFault;
+use byte_streams::{Sink, WriteFault};
 use sparse_rows::Rows;
 use std::cmp::min;
 

@@ -2,8 +2,8 @@
 use Rattle.std.proofs.Common.{ℕ, ◌≡◌, ◌⊎◌, List, [], Result, Ok, Err, sym, ap, refl, subst, ◌∙◌, inl, inr, arith, false}
 use Rattle.std.specs.Io.KnownBytes.{Keeps}
 use Rattle.std.proofs.KnownBytes.{Keeps-refl}
+use Rattle.byte_streams.specs.declared.write.WriteFault.{WriteFault}
 use Rattle.sms_text.specs.declared.reader.TheConstants.{LARGEST_INPUT}
-use Rattle.sms_text.specs.declared.write.WriteFault.{WriteFault}
 use Rattle.sms_text.specs.Reading.{untouched}
 use Rattle.sms_text.specs.Stream.{SinkState}
 use Rattle.sms_text.specs.Writing.{Writes}

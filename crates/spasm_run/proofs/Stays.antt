@@ -1,8 +1,8 @@
 -- What the bytes taken from a source say, all its bytes say.
 use Rattle.std.proofs.Common.{ℕ, Bool, true, false, ◌≡◌, List, [], ◌++◌, Option, None, Some, refl, sym, ap, ◌∙◌, append-nil}
 use Rattle.sms_text.specs.Lines.{Line}
-use Rattle.sms_text.specs.Reading.{Draws, Drew, untouched}
-use Rattle.sms_text.specs.Stream.{SourceState, IsNothing, in_front}
+use Rattle.sms_text.specs.Reading.{Draws, untouched}
+use Rattle.sms_text.specs.Stream.{SourceState, IsNothing, in_front, Drew}
 use Rattle.sms_text.specs.Text.{Reading, Request, Got, Fault, Short, reading}
 use Rattle.sms_text.proofs.Following.{Stays, bytes_stay}
 use Rattle.spasm_run.specs.Input.{Input, supply_behind}

@@ -3,11 +3,11 @@ use Rattle.std.proofs.Common.{ℕ, false, true, ◌≡◌, List, [], ◌∷◌, 
 use Rattle.std.specs.Prelude.{codes}
 use Rattle.std.specs.Fmt.{decimal}
 use Rattle.std.specs.Result.{IsErr}
+use Rattle.byte_streams.specs.declared.write.WriteFault.{WriteFault}
 use Rattle.sms_text.specs.declared.kind.Kind.{Kind}
 use Rattle.spasm_run.specs.declared.status.Status.{Status}
 use Rattle.spasm_run.specs.declared.status.Status.TheVariants as status
 use Rattle.spasm_run.specs.Status.{fault_line}
-use Rattle.sms_text.specs.declared.write.WriteFault.{WriteFault}
 use Rattle.sms_text.specs.Kind.{kind_number}
 use Rattle.sms_text.specs.Stream.{SinkState, Gained, GainedAndFailed, Rose, at_back, behind}
 use Rattle.sms_text.specs.Writing.{Writes}

@@ -5,8 +5,8 @@ use Rattle.certificates.specs.Certificate.{certificate_of}
 use Rattle.certificates.specs.CertificateText.{HasText, certificate_text}
 use Rattle.run_trace.specs.TraceText as trace
 use Rattle.sparse_rows.specs.Rows.{LARGEST_SIZE}
+use Rattle.byte_streams.specs.declared.write.WriteFault.{WriteFault}
 use Rattle.sms_text.specs.Reading.{Draws, untouched}
-use Rattle.sms_text.specs.declared.write.WriteFault.{WriteFault}
 use Rattle.sms_text.specs.Stream.{SinkState, SourceState}
 use Rattle.sms_text.specs.Writing.{Writes}
 use Rattle.sms_text.specs.Written.{IsSmallPlace, text_of}

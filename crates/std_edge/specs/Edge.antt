@@ -10,11 +10,11 @@ use Rattle.std.specs.declared.vec.Vec.{Vec}
 use Rattle.std.specs.Io.KnownBytes.{Keeps, Appends, Consumes, IsAtEnd}
 use Rattle.std.specs.IoError.{error_kind}
 use Rattle.std.specs.Vec.Iter.{into_iter_items}
-use Rattle.sms_text.specs.declared.stream.Pulled.{Pulled}
-use Rattle.sms_text.specs.declared.stream.Pulled.TheVariants as pulled
-use Rattle.sms_text.specs.declared.stream.Put.{Put}
-use Rattle.sms_text.specs.declared.stream.Put.TheVariants as put
-use Rattle.sms_text.specs.declared.write.WriteFault.{WriteFault}
+use Rattle.byte_streams.specs.declared.stream.Pulled.{Pulled}
+use Rattle.byte_streams.specs.declared.stream.Pulled.TheVariants as pulled
+use Rattle.byte_streams.specs.declared.stream.Put.{Put}
+use Rattle.byte_streams.specs.declared.stream.Put.TheVariants as put
+use Rattle.byte_streams.specs.declared.write.WriteFault.{WriteFault}
 use Rattle.sms_text.specs.Stream.{SourceState, SinkState}
 use Rattle.sms_text.specs.Writing.{Writes}
 use Rattle.std_edge.specs.declared.streams.Streams.{Streams}

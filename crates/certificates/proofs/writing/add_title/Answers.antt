@@ -2,9 +2,9 @@
 use Rattle.std.proofs.Common.{ℕ, ◌≡◌, List, ◌∷◌, ◌++◌, length, ap, refl, ◌∙◌}
 use Rattle.std.specs.Prelude.{codes}
 use Rattle.std.proofs.lemmas.Result.{err_from_is_err_and}
+use Rattle.byte_streams.proofs.Added.{added_fault, added_last, added_more, added_nothing}
 use Rattle.sms_text.specs.Writing.{output}
 use Rattle.sms_text.specs.Written.{pair_line}
-use Rattle.sms_text.proofs.WrittenRows.{added_fault, added_last, added_more, added_nothing}
 use Rattle.certificates.specs.Certificate.{claim_kind, claim_of}
 use Rattle.certificates.specs.CertificateText.{kind_word}
 use Rattle.certificates.proofs.CertificateWritten.{title_cut, title_of}

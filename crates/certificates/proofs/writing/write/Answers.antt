@@ -2,8 +2,8 @@
 use Rattle.std.proofs.Common.{ℕ, List, [], ◌++◌, ap, append-nil, refl, subst, sym}
 use Rattle.std.specs.Prelude.{All}
 use Rattle.std.proofs.lemmas.Result.{err_from_is_err_and}
+use Rattle.byte_streams.proofs.Added.{added_nothing, added_more, added_fault, added_sent}
 use Rattle.sms_text.specs.Written.{IsSmallPlace, pair_lines, text_of}
-use Rattle.sms_text.proofs.WrittenRows.{added_nothing, added_more, added_fault, added_sent}
 use Rattle.certificates.specs.Certificate.{certificate_of, claim_of}
 use Rattle.certificates.specs.CertificateText.{certificate_text, claim_text}
 use Rattle.certificates.proofs.CertificateWritten.{behind_title, small_places, text_cut, title_of}

@@ -1,7 +1,7 @@
 -- Answer by answer.
 use Rattle.std.proofs.Common.{refl}
 use Rattle.std.proofs.lemmas.Result.{err_from_is_err_and}
-use Rattle.sms_text.proofs.WrittenRows.{added_nothing, added_more, added_fault, added_all}
+use Rattle.byte_streams.proofs.Added.{added_nothing, added_more, added_fault, added_all}
 use Rattle.grow_form.proofs.ScriptAnswers.{texts_end, texts_from}
 use Rattle.grow_form.proofs.writing.add_answers.Goals as goal
 

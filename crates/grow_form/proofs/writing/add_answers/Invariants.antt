@@ -1,7 +1,7 @@
 -- The answers before k were added.
 use Rattle.std.proofs.Common.{drop}
+use Rattle.byte_streams.proofs.Added.{IsAdded}
 use Rattle.sms_text.specs.Writing.{output}
-use Rattle.sms_text.proofs.WrittenRows.{IsAdded}
 use Rattle.grow_form.specs.Scripts.{answers_text}
 use Rattle.grow_form.proofs.writing.add_answers.Given as goal
 

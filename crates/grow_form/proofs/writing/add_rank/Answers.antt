@@ -3,7 +3,7 @@ use Rattle.std.proofs.Common.{[], ◌∷◌, ◌++◌, refl}
 use Rattle.std.specs.Prelude.{codes}
 use Rattle.std.specs.Fmt.{decimal}
 use Rattle.std.proofs.lemmas.Result.{err_from_is_err_and}
-use Rattle.sms_text.proofs.WrittenRows.{added_nothing, added_more, added_fault}
+use Rattle.byte_streams.proofs.Added.{added_nothing, added_more, added_fault}
 use Rattle.sms_text.specs.Writing.{output}
 use Rattle.grow_form.specs.Scripts.{rank_line}
 use Rattle.grow_form.proofs.ScriptAnswers.{rank_ends}

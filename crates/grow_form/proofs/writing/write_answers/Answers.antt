@@ -1,5 +1,5 @@
 use Rattle.std.proofs.Common.{[], append-nil, refl, sym}
-use Rattle.sms_text.proofs.WrittenRows.{added_more, added_nothing, added_sent}
+use Rattle.byte_streams.proofs.Added.{added_more, added_nothing, added_sent}
 use Rattle.grow_form.specs.Scripts.{answers_text}
 use Rattle.grow_form.proofs.writing.write_answers.Goals as goal
 

@@ -3,8 +3,8 @@ use Rattle.std.proofs.Common.{ℕ, ◌≡◌, ◌+◌, ◌<◌, ◌≤◌, List,
 use Rattle.std.proofs.Math.Seq.{drop-cons}
 use Rattle.std.proofs.lemmas.List.{drop_all}
 use Rattle.std.proofs.lemmas.Result.{err_from_is_err_and}
+use Rattle.byte_streams.proofs.Added.{added_nothing, added_more, added_fault, added_all}
 use Rattle.sms_text.specs.Written.{entry_line}
-use Rattle.sms_text.proofs.WrittenRows.{added_nothing, added_more, added_fault, added_all}
 use Rattle.run_trace.specs.declared.publication.Publication.{Publication}
 use Rattle.run_trace.specs.TraceText.{publication_lines}
 use Rattle.run_trace.proofs.writing.add_publications.Goals as goal

@@ -1,7 +1,7 @@
 -- The lines of the publications before k were added.
 use Rattle.std.proofs.Common.{drop}
+use Rattle.byte_streams.proofs.Added.{IsAdded}
 use Rattle.sms_text.specs.Writing.{output}
-use Rattle.sms_text.proofs.WrittenRows.{IsAdded}
 use Rattle.run_trace.specs.TraceText.{publication_lines}
 use Rattle.run_trace.proofs.writing.add_publications.Given as goal
 

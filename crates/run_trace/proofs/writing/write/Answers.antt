@@ -3,8 +3,8 @@ use Rattle.std.proofs.Common.{ℕ, ◌≡◌, ◌++◌, List, [], ◌∷◌, app
 use Rattle.std.specs.Prelude.{codes}
 use Rattle.std.specs.Fmt.{decimal}
 use Rattle.std.proofs.lemmas.Result.{err_from_is_err_and}
+use Rattle.byte_streams.proofs.Added.{added_nothing, added_more, added_fault, added_sent}
 use Rattle.sms_text.specs.Written.{pair_line}
-use Rattle.sms_text.proofs.WrittenRows.{added_nothing, added_more, added_fault, added_sent}
 use Rattle.run_trace.specs.declared.publication.Publication.{Publication}
 use Rattle.run_trace.specs.TraceText.{publication_lines, trace_text}
 use Rattle.run_trace.proofs.writing.write.Goals as goal

@@ -1,7 +1,8 @@
 -- Some lines at a time.
 use Rattle.std.proofs.Common.{◌+◌, ◌-◌, refl, ◌∙◌, arith}
 use Rattle.std.proofs.lemmas.Result.{err_from_is_err_and}
-use Rattle.sms_text.proofs.WrittenRows.{added_nothing, added_more, added_fault, added_all, entry_lines_piece, entry_lines_end, row_text_is}
+use Rattle.byte_streams.proofs.Added.{added_nothing, added_more, added_fault, added_all}
+use Rattle.sms_text.proofs.WrittenRows.{entry_lines_piece, entry_lines_end, row_text_is}
 use Rattle.sms_text.proofs.writing_rows.add_row.Goals as goal
 
 pub loop-k-init : goal.loop-k-init

@@ -1,8 +1,8 @@
 -- The lines of the entries before k were added.
 use Rattle.std.proofs.Common.{◌-◌, length, drop}
-use Rattle.sms_text.specs.Writing.{output}
+use Rattle.byte_streams.specs.Writing.{output}
+use Rattle.byte_streams.proofs.Added.{IsAdded}
 use Rattle.sms_text.specs.Written.{entry_lines}
-use Rattle.sms_text.proofs.WrittenRows.{IsAdded}
 use Rattle.sms_text.proofs.writing_rows.add_row.Given as goal
 
 abbrev pub invariant-loop-k : goal.invariant-loop-k

@@ -1,7 +1,8 @@
 -- Row by row.
 use Rattle.std.proofs.Common.{◌+◌, ◌-◌, ◌<◌, refl, arith}
 use Rattle.std.proofs.lemmas.Result.{err_from_is_err_and}
-use Rattle.sms_text.proofs.WrittenRows.{added_nothing, added_more, added_fault, added_all, text_from, rows_from_next, rows_from_last}
+use Rattle.byte_streams.proofs.Added.{added_nothing, added_more, added_fault, added_all}
+use Rattle.sms_text.proofs.WrittenRows.{text_from, rows_from_next, rows_from_last}
 use Rattle.sms_text.proofs.writing_rows.add_rows.Goals as goal
 
 pub loop-i-init : goal.loop-i-init

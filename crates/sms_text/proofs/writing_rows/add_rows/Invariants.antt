@@ -1,8 +1,9 @@
 -- The header line and the lines of the rows before `from` were added.
 use Rattle.std.proofs.Common.{◌-◌}
-use Rattle.sms_text.specs.Writing.{output}
+use Rattle.byte_streams.specs.Writing.{output}
+use Rattle.byte_streams.proofs.Added.{IsAdded}
 use Rattle.sms_text.specs.Written.{text_of}
-use Rattle.sms_text.proofs.WrittenRows.{IsAdded, rows_from}
+use Rattle.sms_text.proofs.WrittenRows.{rows_from}
 use Rattle.sms_text.proofs.writing_rows.add_rows.Given as goal
 
 abbrev pub invariant-loop-i : goal.invariant-loop-i

@@ -1,8 +1,8 @@
 -- The title, and then the text.
 use Rattle.std.proofs.Common.{◌++◌, ap, append-nil, refl, sym}
 use Rattle.std.proofs.lemmas.Result.{err_from_is_err_and}
+use Rattle.byte_streams.proofs.Added.{added_nothing, added_more, added_fault, added_sent}
 use Rattle.sms_text.specs.Written.{text_of}
-use Rattle.sms_text.proofs.WrittenRows.{added_nothing, added_more, added_fault, added_sent}
 use Rattle.sms_text.proofs.writing_rows.write_titled.Goals as goal
 
 pub returns-in_err-add : goal.returns-in_err-add

@@ -3,7 +3,7 @@ use Rattle.std.proofs.Common.{ℕ, List, [], ◌∷◌, ◌++◌, length, append
 use Rattle.std.specs.Prelude.{codes}
 use Rattle.std.specs.Fmt.{decimal}
 use Rattle.std.proofs.lemmas.Result.{err_from_is_err_and}
-use Rattle.sms_text.proofs.WrittenRows.{added_nothing, added_more, added_fault, added_sent}
+use Rattle.byte_streams.proofs.Added.{added_nothing, added_more, added_fault, added_sent}
 use Rattle.sms_text.specs.Written.{pair_lines}
 use Rattle.spasm_run.specs.Answers.{pivots_text}
 use Rattle.spasm_run.proofs.written_pivots.write_pivots.Goals as goal

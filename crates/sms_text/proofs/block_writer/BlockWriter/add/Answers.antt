@@ -1,5 +1,5 @@
 use Rattle.std.proofs.lemmas.Result.{err_from_is_err_and}
-use Rattle.sms_text.proofs.Puts.{fault_before_piece}
+use Rattle.byte_streams.proofs.Puts.{fault_before_piece}
 use Rattle.sms_text.proofs.block_writer.BlockWriter.add.Goals as goal
 
 pub returns-in_err-send-clause-did : goal.returns-in_err-send-clause-did

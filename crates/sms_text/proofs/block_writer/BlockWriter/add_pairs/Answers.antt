@@ -1,7 +1,8 @@
 -- Line by line.
 use Rattle.std.proofs.Common.{refl}
 use Rattle.std.proofs.lemmas.Result.{err_from_is_err_and}
-use Rattle.sms_text.proofs.WrittenRows.{added_nothing, added_more, added_fault, added_all, pair_lines_end, pair_lines_from}
+use Rattle.byte_streams.proofs.Added.{added_nothing, added_more, added_fault, added_all}
+use Rattle.sms_text.proofs.WrittenRows.{pair_lines_end, pair_lines_from}
 use Rattle.sms_text.proofs.block_writer.BlockWriter.add_pairs.Goals as goal
 
 pub loop-k-init : goal.loop-k-init

@@ -1,7 +1,7 @@
 -- The lines of the pivots before k were added.
 use Rattle.std.proofs.Common.{drop}
-use Rattle.sms_text.specs.Writing.{output}
-use Rattle.sms_text.proofs.WrittenRows.{IsAdded}
+use Rattle.byte_streams.specs.Writing.{output}
+use Rattle.byte_streams.proofs.Added.{IsAdded}
 use Rattle.sms_text.specs.Written.{pair_lines}
 use Rattle.sms_text.proofs.block_writer.BlockWriter.add_pairs.Given as goal
 

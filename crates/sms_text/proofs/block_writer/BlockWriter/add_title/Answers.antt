@@ -2,9 +2,9 @@
 use Rattle.std.proofs.Common.{ℕ, List, [], ◌∷◌, ◌++◌, ◌≡◌, append_assoc, refl}
 use Rattle.std.specs.Fmt.{decimal}
 use Rattle.std.proofs.lemmas.Result.{err_from_is_err_and}
-use Rattle.sms_text.specs.Writing.{output}
+use Rattle.byte_streams.specs.Writing.{output}
+use Rattle.byte_streams.proofs.Added.{added_nothing, added_more, added_fault, added_last}
 use Rattle.sms_text.specs.Written.{pair_line}
-use Rattle.sms_text.proofs.WrittenRows.{added_nothing, added_more, added_fault, added_last}
 use Rattle.sms_text.proofs.block_writer.BlockWriter.add_title.Goals as goal
 
 -- the count and the line's end

@@ -1,0 +1,4 @@
+pub mod Buffered
+pub mod Memory
+pub mod Stream
+pub mod Writing
