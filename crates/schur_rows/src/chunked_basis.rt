@@ -4,7 +4,7 @@ ghost use Rattle.sparse_rows.specs.Rows.{LARGEST_SIZE, AreRising, above};
 ghost use Rattle.schur_rows.specs.PivotNumbers.{HasNumbers};
 ghost use Rattle.schur_rows.specs.RestBasis.{IsBasisOf, IsBasisOfBoth, IsBasisWith, IsFullFor, IsRestBasis, HasColumnsLeft};
 
-use crate::chunk_size::{CHUNK, ChunkSize, lacks_few};
+use crate::chunk_size::{CHUNK, ChunkSize, Gain, NO_CHUNK, lacks_few};
 use crate::dealing::Dealing;
 use crate::pivot_numbers::{PivotNumbers, place_of};
 use crate::reduction_pass::ReductionPass;
@@ -30,7 +30,7 @@ use weight_order::last_first;
 ///
 /// The memory is that of the basis and of a chunk, which has some 2^22 to 2^24 places in the columns that are left. While rows are
 /// independent a chunk has little more rows than the basis lacks. After many that were not it has four times the rows of the basis, if
-/// the columns are few, so that eliminating the basis again takes an eighth of the time.
+/// the columns are few, so that eliminating the basis again takes an eighth of the time; after a chunk that gave none, twice its rows.
 pub fn rest_basis<C: Dealing + Finishing>(
     crew: &C,
     alloc: Global,
@@ -86,16 +86,20 @@ fn basis_of<C: Dealing + Finishing>(
     pass.reducer.is_sound();
     let columns = columns_left(alloc, pass.reducer)?;
     let mut basis = Rows::with_room(alloc, rows.modulus(), rows.width(), 0, 0)?;
-    let mut independent = true;
+    let mut last = NO_CHUNK;
     let mut from = 0;
     // A basis with a row for each column that is left has the row space of all rows.
     while from < height && (basis.height() as usize) < columns {
         let before = basis.height();
-        let count = size.rows_below(before, columns, independent);
+        let count = size.rows_below(before, columns, last);
         let to = end_of(pass.reducer, pass.pivot_rows, from, count);
         let left = left_between(crew, alloc, pass, workers, from, to)?;
         basis = basis_with(crew, alloc, basis, left, workers)?;
-        independent = basis.height().saturating_sub(before) >= count / 2;
+        let gained = basis.height().saturating_sub(before);
+        last = Gain {
+            rows: count,
+            gained,
+        };
         from = to;
     }
     Ok(basis)
