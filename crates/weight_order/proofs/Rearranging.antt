@@ -1,7 +1,7 @@
 -- Rows whose columns stand in another order: the pairs of places and values, sorted, are the row.
 use Rattle.std.proofs.Common.{ℕ, ◌≡◌, ◌≢◌, ◌+◌, ◌-◌, ◌<◌, ◌≤◌, inl, inr, List, [], ◌∷◌, ◌++◌, length, map, slice_index, slice_set, get_or, sym, refl, ap, ap₂, subst, ◌∙◌, arith}
 use Rattle.std.specs.List.{All, Contains, range_with_len, swap}
-use Rattle.std.specs.List.Sorted.{IsPermutation, IsSorted}
+use Rattle.std.specs.List.Sorted.{IsNonDecreasingBy, IsPermutation}
 use Rattle.std.proofs.lemmas.Bool.{cases_eq, cases_lt}
 use Rattle.std.proofs.lemmas.List.{get_or_default, get_or-map, get_or-set_other, get_or-set_same, length-map}
 use Rattle.std.proofs.lemmas.List.Edits.{swapped_from_swap, length-swap}
@@ -17,7 +17,6 @@ use Rattle.sparse_rows.proofs.Exchanging.{at_turned, turned, turned_back, turned
 use Rattle.sparse_rows.proofs.Spread.{entry_cover, entry_here, entry_support, map_range_equal, support_sparse}
 use Rattle.weight_order.specs.Rearranged.{ArePlacesIn, paired}
 use Rattle.weight_order.proofs.Selecting.{row_selected}
-use Rattle.weight_order.proofs.Weights.{by_fields, weights_rise}
 
 -- the first k columns have their places
 abbrev pub ArePlacedSoFar : List ℕ → ℕ → List ℕ → Type 0
@@ -105,7 +104,7 @@ module _ {p w : ℕ} (v columns places : List ℕ) (h : IsVector p w v) (all : (
         | inr s ↦ omega (arith, sparse.rising t k (omega arith) a)
       ]
 
-  module _ {sorted : List (ℕ × ℕ)} (moved : IsPermutation pairs sorted) (up : IsSorted by_fields sorted) where
+  module _ {sorted : List (ℕ × ℕ)} (moved : IsPermutation pairs sorted) (up : IsNonDecreasingBy (λ (q : ℕ × ℕ). q.0) sorted) where
     abbrev cols : List ℕ
     cols = map (λ (q : ℕ × ℕ). q.0) sorted
 
@@ -130,13 +129,12 @@ module _ {p w : ℕ} (v columns places : List ℕ) (h : IsVector p w v) (all : (
     rising : (k t : ℕ) → k < t → t < length cols → slice_index cols k < slice_index cols t
     rising k t a l =
         let b : t < length sorted = omega (arith, many_cols) in
-        let same : k + (t - k) ≡ t = omega arith in
-        let no_less : (get_or sorted k none).0 ≤ (get_or sorted (k + (t - k)) none).0 = weights_rise sorted up k (t - k) (omega arith) in
+        let no_less : (get_or sorted k none).0 ≤ (get_or sorted t none).0 = up k t none (omega arith) b in
         let other : (get_or sorted k none).0 ≢ (get_or sorted t none).0 = IsPermutation-keeps pairs Differ differ differ_swapped sorted moved k t (omega arith) b (λ e. omega arith) in
         let apart : slice_index cols k ≢ slice_index cols t = λ e. other (sym (col_at k (omega arith)) ∙ e ∙ col_at t b) in
         elim (cases_lt (slice_index cols k) (slice_index cols t)) [
           | inl s ↦ s
-          | inr s ↦ absurd (apart (omega (arith, col_at k (omega arith), col_at t b, no_less, ap (λ x. (get_or sorted x none).0) same)))
+          | inr s ↦ absurd (apart (omega (arith, col_at k (omega arith), col_at t b, no_less)))
         ]
 
     pub renamed_sparse : IsSparse p (length columns) cols vals
@@ -185,7 +183,7 @@ module _ {p w : ℕ} (v columns places : List ℕ) (h : IsVector p w v) (all : (
 -- a row of a matrix, as it is read, paired, sorted and parted
 pub row_renamed : (R : ResidueMatrix) (columns places : List ℕ) → IsMatrix R.modulus R.matrix → AreEnoughInSomeOrder R.matrix columns → ArePlacesIn columns places → (i : ℕ) → i < R.matrix.height →
     {cs vs ps us ws : List ℕ} {pairs sorted : List (ℕ × ℕ)} → cs ≡ support (row R.matrix i) → vs ≡ nonzeros (row R.matrix i) → ps ≡ places → pairs ≡ paired ps cs vs →
-    IsPermutation pairs sorted → IsSorted by_fields sorted → us ≡ map (λ (q : ℕ × ℕ). q.0) sorted → ws ≡ map (λ (q : ℕ × ℕ). q.1) sorted →
+    IsPermutation pairs sorted → IsNonDecreasingBy (λ (q : ℕ × ℕ). q.0) sorted → us ≡ map (λ (q : ℕ × ℕ). q.0) sorted → ws ≡ map (λ (q : ℕ × ℕ). q.1) sorted →
     IsSparse R.modulus (length columns) us ws × (spread (length columns) us ws ≡ row (narrowed R.matrix columns) i)
 row_renamed R columns places m enough at_place i l {cs} {vs} {ps} {us} {ws} {pairs} {sorted} ec ev ep eq moved up eu ew =
     let A : Matrix = R.matrix in

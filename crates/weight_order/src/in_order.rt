@@ -34,7 +34,7 @@ pub(crate) fn rearranged(
     let (mut pairs, mut cols, mut vals) = (Vec::new(alloc), Vec::new(alloc), Vec::new(alloc));
     for i in rows {
         pair(matrix.cols(*i), matrix.vals(*i), &places, &mut pairs)?;
-        pairs.sort_unstable();
+        pairs.sort_unstable_by_key(|entry| entry.0);
         part(&pairs, &mut cols, &mut vals)?;
         made.append_entries(&cols, &vals)?;
     }
@@ -70,7 +70,7 @@ fn pair(
     pairs.clear();
     pairs.reserve(cols.len())?;
     for k in 0..cols.len() {
-        pairs.push((places[cols[k] as usize], vals[k]))?;
+        pairs.push_reserved((places[cols[k] as usize], vals[k]));
     }
     Ok(())
 }
@@ -82,9 +82,11 @@ fn part(pairs: &[(u32, u64)], cols: &mut Vec<u32>, vals: &mut Vec<u64>) -> Resul
 {
     cols.clear();
     vals.clear();
+    cols.reserve(pairs.len())?;
+    vals.reserve(pairs.len())?;
     for entry in pairs {
-        cols.push(entry.0)?;
-        vals.push(entry.1)?;
+        cols.push_reserved(entry.0);
+        vals.push_reserved(entry.1);
     }
     Ok(())
 }
