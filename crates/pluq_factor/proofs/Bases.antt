@@ -7,7 +7,9 @@ use Rattle.row_space.specs.Echelon.{IsIndependent, SameSpan}
 use Rattle.row_space.proofs.Counting.{independent_height}
 use Rattle.row_space.proofs.Spans.{places_independent}
 use Rattle.sparse_rows.specs.Rows.{ResidueMatrix, above, LARGEST_SIZE}
+use Rattle.pivot_table.specs.Order.{Triangular}
 use Rattle.triangular_solve.specs.Reduced.{IsComplement}
+use Rattle.triangular_solve.specs.Triangle.{TriangleState}
 use Rattle.dense_finish.specs.Factors.{IsRightFactored}
 use Rattle.dense_finish.specs.declared.right_factor.RightFactor.{RightFactor}
 use Rattle.echelon_form.specs.Form.{Form, IsFormOf}
@@ -40,6 +42,18 @@ basis_form {p} {A} {f} {U} h modulus same =
       span = λ prime. (h.rref prime).span;
     } in
     subst (λ M. IsBasis p A (record { modulus = U.modulus; matrix = M })) (sym same) at
+
+-- the pivots' rows of a triangle, and what these leave
+pub round_of : {t s u : TriangleState} {R : ResidueMatrix} {r : BasisRound} → R ≡ t.rows → s ≡ t → u ≡ t → IsMatrix R.modulus R.matrix → Triangular s.rows.matrix s.pairs →
+    IsRestOf t r.rest → r.top.modulus ≡ u.rows.modulus → r.top.matrix ≡ pivot_rows u.rows.matrix u.pairs → IsBasisRound t.rows r
+round_of {t} {s} {u} {R} {r} same_rows same_pairs same sound triangular rest modulus matrix = record {
+  sound = subst (λ (R : ResidueMatrix). IsMatrix R.modulus R.matrix) same_rows sound;
+  pairs = t.pairs;
+  triangular = subst (λ (t : TriangleState). Triangular t.rows.matrix t.pairs) same_pairs triangular;
+  modulus = modulus ∙ ap (λ (t : TriangleState). t.rows.modulus) same;
+  top = matrix ∙ ap (λ (t : TriangleState). pivot_rows t.rows.matrix t.pairs) same;
+  rest = rest;
+}
 
 -- independent rows with the row space of what pivots leave
 pub record IsBasisBelow (R : ResidueMatrix) (qs : List Pair) (V : ResidueMatrix) : Type 0 where

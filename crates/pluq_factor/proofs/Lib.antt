@@ -2,6 +2,7 @@ pub mod Bases
 pub mod Example
 pub mod Factoring
 pub mod Ranking
+pub mod Reordering
 pub mod Selecting
 pub mod Staging
 pub mod Taking

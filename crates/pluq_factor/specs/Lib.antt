@@ -3,6 +3,7 @@ pub mod Counted
 pub mod Example
 pub mod Joined
 pub mod Laws
+pub mod Reordered
 pub mod Rounds
 pub mod Staged
 pub mod RoundPivots

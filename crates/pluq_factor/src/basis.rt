@@ -1,12 +1,13 @@
 // Rows that show the row space.
-ghost use Rattle.std.specs.Prelude.{◌≡◌, ◌≤◌, IfOk};
+ghost use Rattle.std.specs.Prelude.{◌≡◌, ◌<◌, ◌≤◌, ◌+◌, IfOk};
 ghost use Rattle.pluq_factor.specs.Basis.{IsBasis, IsStacked};
 
-use crate::basis_round::{BasisRound, take_basis_round};
+use crate::basis_round::{BasisRound, Bounds, Outcome, take_basis_round};
 use crate::eliminating::Eliminating;
 use crate::measured::Measured;
 use crate::plan::Plan;
 use crate::policy::{is_block, is_dense, is_full};
+use crate::reordered::{Reordered, columns_in_order};
 use crate::rest::Rest;
 use dense_finish::{RightFactor, finish_right};
 use echelon_form::Echelon;
@@ -19,7 +20,10 @@ use weight_order::last_first;
 /// rows of that width.
 ///
 /// The rows are taken from the last to the first, since a search then leaves much less of a boundary map. A round takes the leftmost
-/// pivots and all that a search of one worker adds, by levels. The rounds end with the plan, or when a fifth of what is left isn't 0.
+/// pivots and all that a search of one worker adds, by levels. If samples say that the first one would leave more than four times the
+/// entries of the matrix, and less if the rarest columns stand first, the rounds go about the matrix in that order, and the columns go
+/// back behind the last; but not if the matrix has many more columns than entries. The rounds end with the plan, or when a fifth of what
+/// is left isn't 0.
 /// That is eliminated densely where it is small and dense, and else by the rows of its echelon form; or it is taken chunk by chunk into
 /// a dense basis if this takes less memory. With no round there is the dense elimination alone, and so for a matrix of some size that is
 /// a tenth full from the start.
@@ -56,7 +60,11 @@ fn basis_by<C: Eliminating>(
         let Measured { rows, .. } = matrix;
         return dense_basis(crew, alloc, rows, plan.workers);
     }
-    basis_from(crew, alloc, matrix, plan.workers, plan.rounds)
+    let bounds = Bounds {
+        rounds: plan.rounds,
+        orders: 1,
+    };
+    basis_from(crew, alloc, matrix, plan.workers, bounds)
 }
 
 // The rows of a finish.
@@ -111,20 +119,29 @@ fn form_basis<C: Eliminating>(
     Ok(basis)
 }
 
-// How many of so many further rounds are worth their time.
-fn rounds_behind(rest: &Measured, rounds: u32) -> u32
-    ensures { result ≤ rounds }
+// The bounds behind one of so many rounds: none where a round is not worth its time.
+fn bounds_behind(rest: &Measured, rounds: u32) -> Bounds
+    requires some { 0 < rounds }
+    ensures { result.rounds + result.orders < rounds }
 {
-    if is_dense(&rest.occupancy) { 0 } else { rounds }
+    let more = if is_dense(&rest.occupancy) {
+        0
+    } else {
+        rounds - 1
+    };
+    Bounds {
+        rounds: more,
+        orders: 0,
+    }
 }
 
-// The rows by so many rounds and the finish. The matrix is given up before the next round begins.
+// The rows by rounds within these bounds and the finish. The matrix is given up before the next round begins.
 fn basis_from<C: Eliminating>(
     crew: &C,
     alloc: Global,
     matrix: Measured,
     workers: u32,
-    rounds: u32,
+    bounds: Bounds,
 ) -> Result<Rows, AllocError>
     requires able { C.can_work }
     requires some { 1 ≤ workers }
@@ -132,20 +149,37 @@ fn basis_from<C: Eliminating>(
 {
     // The call's contract tells how high a matrix is.
     matrix.rows.is_sound();
-    let Some(round) = take_basis_round(crew, alloc, &matrix, workers, rounds)? else {
-        return finished(crew, alloc, matrix, workers);
-    };
-    drop(matrix);
-    let BasisRound { top, rest } = round;
-    match rest {
-        Rest::Basis(below) => with_below(top, &below),
-        Rest::Stored(rows) => {
-            let rest = Measured::of(alloc, rows)?;
-            let more = rounds_behind(&rest, rounds - 1);
-            let below = basis_from(crew, alloc, rest, workers, more)?;
+    match take_basis_round(crew, alloc, &matrix, workers, bounds)? {
+        Outcome::Nothing => finished(crew, alloc, matrix, workers),
+        Outcome::GivenUp(reordered) => {
+            drop(matrix);
+            let Reordered {
+                matrix: other,
+                places,
+            } = reordered;
+            let bounds = Bounds {
+                rounds: bounds.rounds,
+                orders: bounds.orders - 1,
+            };
+            let basis = basis_from(crew, alloc, other, workers, bounds)?;
             // The call's contract tells that the entries are residues.
-            below.is_sound();
-            with_below(top, &below)
+            basis.is_sound();
+            let whole = columns_in_order(alloc, &basis, &places)?;
+            Ok(whole)
+        }
+        Outcome::Taken(BasisRound { top, rest }) => {
+            drop(matrix);
+            match rest {
+                Rest::Basis(below) => with_below(top, &below),
+                Rest::Stored(rows) => {
+                    let rest = Measured::of(alloc, rows)?;
+                    let bounds = bounds_behind(&rest, bounds.rounds);
+                    let below = basis_from(crew, alloc, rest, workers, bounds)?;
+                    // The call's contract tells that the entries are residues.
+                    below.is_sound();
+                    with_below(top, &below)
+                }
+            }
         }
     }
 }

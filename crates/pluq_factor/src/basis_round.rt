@@ -1,12 +1,16 @@
 // A round of a basis of the row space.
 ghost use Rattle.std.specs.Prelude.{◌<◌, ◌≤◌, IfOk, IfSome};
+ghost use Rattle.pluq_factor.specs.Reordered.{IsOutcome, IsReordered};
 ghost use Rattle.pluq_factor.specs.RoundPivots.{IsBasisRound};
 
 use crate::eliminating::Eliminating;
 use crate::measured::Measured;
 use crate::occupancy::Occupancy;
 use crate::plan::all_pivots;
-use crate::rest::Rest;
+use crate::policy::leaves_much;
+use crate::reordered::Reordered;
+use crate::rest::{Rest, rest_of};
+use crate::round::Round;
 use crate::round_pivots::rows_at_pivots;
 use sparse_rows::Rows;
 use std::alloc::{AllocError, Global};
@@ -19,44 +23,102 @@ pub(crate) struct BasisRound {
     pub(crate) rest: Rest,
 }
 
-// The next of so many rounds; None if there is none or no pivot.
+// How many rounds there may still be, and how often one may be given up for another order of the columns.
+#[derive(Clone, Copy, Debug)]
+pub(crate) struct Bounds {
+    pub(crate) rounds: u32,
+    pub(crate) orders: u32,
+}
+
+// What comes of a round.
+#[derive(Debug, Drop)]
+pub(crate) enum Outcome {
+    // It is taken.
+    Taken(BasisRound),
+    // It is given up, since pivots leave less of the matrix in another order of its columns.
+    GivenUp(Reordered),
+    // There is none, or no pivot.
+    Nothing,
+}
+
+// The next round within these bounds.
 pub(crate) fn take_basis_round<C: Eliminating>(
     crew: &C,
     alloc: Global,
     matrix: &Measured,
     workers: u32,
-    rounds: u32,
-) -> Result<Option<BasisRound>, AllocError>
+    bounds: Bounds,
+) -> Result<Outcome, AllocError>
     requires able { C.can_work }
     requires some { 1 ≤ workers }
-    ensures { IfOk result (λ r. IfSome r (λ round. (0 < rounds) × IsBasisRound matrix.now.rows round)) }
+    ensures { IfOk result (IsOutcome matrix.now.rows bounds) }
 {
-    if rounds == 0 {
-        return Ok(None);
+    if bounds.rounds == 0 {
+        return Ok(Outcome::Nothing);
     }
     let triangle = all_pivots(alloc, &matrix.rows)?;
-    basis_round_by(crew, alloc, &triangle, &matrix.occupancy, workers)
+    if triangle.pairs().is_empty() {
+        return Ok(Outcome::Nothing);
+    }
+    let round = Round::of(alloc, &triangle, &matrix.occupancy, workers)?;
+    if 0 < bounds.orders && leaves_much(&round, true) {
+        let lighter = lighter_order(alloc, matrix, round.left(), workers)?;
+        if let Some(reordered) = lighter {
+            return Ok(Outcome::GivenUp(reordered));
+        }
+    }
+    let taken = basis_round(crew, alloc, &round, workers)?;
+    Ok(Outcome::Taken(taken))
 }
 
-// The round of these pivots of a matrix of this occupancy; None if there are none.
-fn basis_round_by<C: Eliminating>(
-    crew: &C,
+// The matrix with its rarest columns first, if pivots leave less of it than so many entries then.
+fn lighter_order(
     alloc: Global,
-    triangle: &Triangle,
-    occupancy: &Occupancy,
+    matrix: &Measured,
+    left: Option<u64>,
     workers: u32,
-) -> Result<Option<BasisRound>, AllocError>
-    requires able { C.can_work }
-    requires some { 1 ≤ workers }
-    ensures { IfOk result (λ r. IfSome r (IsBasisRound triangle.now.rows)) }
+) -> Result<Option<Reordered>, AllocError>
+    ensures { IfOk result (λ r. IfSome r (λ other.
+        IsReordered matrix.now.rows other.matrix.rows other.places.items)) }
 {
-    // The calls' contracts tell that the entries are residues, and that the pivots are triangular.
-    triangle.rows().is_sound();
-    triangle.is_sound();
-    if triangle.pairs().is_empty() {
+    if matrix.rows.is_wide() {
         return Ok(None);
     }
-    let rest = Rest::of(crew, alloc, triangle, occupancy, workers)?;
-    let top = rows_at_pivots(alloc, triangle)?;
-    Ok(Some(BasisRound { top, rest }))
+    let reordered = Reordered::of(alloc, &matrix.rows)?;
+    let is_lighter = leaves_less(alloc, &reordered.matrix, left, workers)?;
+    Ok(if is_lighter { Some(reordered) } else { None })
+}
+
+// Whether pivots leave fewer entries of a matrix than so many, by samples.
+fn leaves_less(
+    alloc: Global,
+    matrix: &Measured,
+    than: Option<u64>,
+    workers: u32,
+) -> Result<bool, AllocError> {
+    let triangle = all_pivots(alloc, &matrix.rows)?;
+    let round = Round::of(alloc, &triangle, &matrix.occupancy, workers)?;
+    match (round.left(), than) {
+        (Some(left), Some(most)) => Ok(left < most),
+        _ => Ok(false),
+    }
+}
+
+// What the pivots of a round give.
+fn basis_round<C: Eliminating>(
+    crew: &C,
+    alloc: Global,
+    round: &Round,
+    workers: u32,
+) -> Result<BasisRound, AllocError>
+    requires able { C.can_work }
+    requires some { 1 ≤ workers }
+    ensures { IfOk result (IsBasisRound round.now.reducer.rows) }
+{
+    // The calls' contracts tell that the entries are residues, and that the pivots are triangular.
+    round.reducer.rows().is_sound();
+    round.reducer.triangle().is_sound();
+    let rest = rest_of(crew, alloc, round, workers)?;
+    let top = rows_at_pivots(alloc, round.reducer.triangle())?;
+    Ok(BasisRound { top, rest })
 }

@@ -16,6 +16,7 @@ mod occupancy;
 mod plan;
 mod policy;
 mod rank_by_rounds;
+mod reordered;
 mod rest;
 mod round;
 mod round_pivots;

@@ -59,10 +59,9 @@ pub(crate) fn may_repeat(matrix: &Occupancy) -> bool {
 // more entries than the matrix has in many more rows than columns, as of boundary maps whose cells stand in no order: random matrices leave
 // about as many rows as columns.
 pub(crate) fn leaves_much(round: &Round, is_searched: bool) -> bool {
-    let Some(mean) = round.mean else {
+    let Some(left) = round.left() else {
         return false;
     };
-    let left = mean.saturating_mul(round.rows);
     if is_searched {
         round.entries.saturating_mul(MOST_LEFT) < left
     } else {

@@ -41,6 +41,12 @@ impl<'t, 'a> Round<'t, 'a> {
             mean,
         })
     }
+
+    // How many entries are left, by samples, if these are worth their time.
+    pub(crate) fn left(&self) -> Option<u64> {
+        let mean = self.mean?;
+        Some(mean.saturating_mul(self.rows))
+    }
 }
 
 // How many entries are left of a row, on average of samples, if these are worth their time.
