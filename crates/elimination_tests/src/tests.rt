@@ -5,4 +5,5 @@ mod complements;
 mod leads;
 mod matrices;
 mod plain_forms;
+mod reordered;
 mod triangles;
