@@ -20,7 +20,7 @@ use weight_order::last_first;
 /// rows of that width.
 ///
 /// The rows are taken from the last to the first, since a search then leaves much less of a boundary map. A round takes the leftmost
-/// pivots and all that a search of one worker adds, by levels. If samples say that the first one would leave more than four times the
+/// pivots and all that a search of one worker adds, by levels. If samples say that the first one would leave more than eight times the
 /// entries of the matrix, and less if the rarest columns stand first, the rounds go about the matrix in that order, and the columns go
 /// back behind the last; but not if the matrix has many more columns than entries. The rounds end with the plan, or when a fifth of what
 /// is left isn't 0.

@@ -7,7 +7,7 @@ use crate::eliminating::Eliminating;
 use crate::measured::Measured;
 use crate::occupancy::Occupancy;
 use crate::plan::all_pivots;
-use crate::policy::leaves_much;
+use crate::policy::is_worth_reordering;
 use crate::reordered::Reordered;
 use crate::rest::{Rest, rest_of};
 use crate::round::Round;
@@ -61,7 +61,7 @@ pub(crate) fn take_basis_round<C: Eliminating>(
         return Ok(Outcome::Nothing);
     }
     let round = Round::of(alloc, &triangle, &matrix.occupancy, workers)?;
-    if 0 < bounds.orders && leaves_much(&round, true) {
+    if 0 < bounds.orders && is_worth_reordering(&round) {
         let lighter = lighter_order(alloc, matrix, round.left(), workers)?;
         if let Some(reordered) = lighter {
             return Ok(Outcome::GivenUp(reordered));

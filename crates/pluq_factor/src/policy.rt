@@ -20,6 +20,10 @@ const ROWS_A_COLUMN: u64 = 2;
 // worth trying: boundary maps of complexes in their own order leave up to 4 times as many, or 7 and more if this order helps.
 const MOST_LEFT: u64 = 4;
 
+// Pivots of a form may leave so many times the entries of the matrix before the order of weight is worth trying: boundary maps leave up to
+// 5 times as many, a banded matrix 27, random ones 40 and more.
+const MOST_LEFT_OF_FORM: u64 = 8;
+
 // Of what pivots leave not more entries than these are stored, 3 GB, if a dense basis takes less.
 const MOST_STORED: u64 = 1 << 28;
 
@@ -66,6 +70,14 @@ pub(crate) fn leaves_much(round: &Round, is_searched: bool) -> bool {
         round.entries.saturating_mul(MOST_LEFT) < left
     } else {
         round.entries < left && round.columns.saturating_mul(ROWS_A_COLUMN) <= round.rows
+    }
+}
+
+// Whether pivots of a form leave so much that the order of weight is worth trying.
+pub(crate) fn is_worth_reordering(round: &Round) -> bool {
+    match round.left() {
+        Some(left) => round.entries.saturating_mul(MOST_LEFT_OF_FORM) < left,
+        None => false,
     }
 }
 
